@@ -1,0 +1,61 @@
+-- Document 01, 'Refusal numbers': the number of each refusal, and when it is given.
+use Prim.Native.Nat.{ℕ}
+use Rattle.refusal.specs.declared.Refusal.{Refusal}
+use Rattle.refusal.specs.declared.Refusal.the-variants.{
+  FileTooLong,
+  NoLineEnd,
+  UnknownRecord,
+  OutOfOrder,
+  FieldCount,
+  FieldTooLong,
+  FieldEmpty,
+  FieldForm,
+  FeatureLacks,
+  IdentcodeRepeated,
+  ListFull,
+  FileEnds,
+  OutputTooShort,
+  FieldEnds,
+  NotThere,
+  WrongLength,
+  WrongSymbol,
+  WrongCheck,
+}
+
+abbrev pub numberOf : Refusal → ℕ
+-- "file over 65,535 bytes"
+numberOf FileTooLong = 1
+-- "a line's first non-text byte is missing or not CR LF, or an offset lies past the file"
+numberOf NoLineEnd = 2
+-- "unknown record type"
+numberOf UnknownRecord = 3
+-- "record out of order"
+numberOf OutOfOrder = 4
+-- "wrong number of fields"
+numberOf FieldCount = 5
+-- "field too long"
+numberOf FieldTooLong = 6
+-- "required field empty"
+numberOf FieldEmpty = 7
+-- "field form wrong"
+numberOf FieldForm = 8
+-- "feature lacks a needed field"
+numberOf FeatureLacks = 9
+-- "identcode already on an earlier line"
+numberOf IdentcodeRepeated = 10
+-- "no word left in the line list"
+numberOf ListFull = 11
+-- "file ends where a record is due"
+numberOf FileEnds = 12
+-- "output too short"
+numberOf OutputTooShort = 13
+-- "field ends fall, or the last is not the text's length, or no ends with text"
+numberOf FieldEnds = 14
+-- "no such field or line, or not a 006 line"
+numberOf NotThere = 15
+-- "wrong length of a number"
+numberOf WrongLength = 16
+-- "symbol not allowed at its place"
+numberOf WrongSymbol = 17
+-- "check wrong"
+numberOf WrongCheck = 18

@@ -1,0 +1,6 @@
+pub mod Choices
+pub mod Numbers
+pub mod Bytes
+pub mod Scans
+pub mod Placing
+pub mod Finite
