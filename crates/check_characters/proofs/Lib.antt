@@ -1,0 +1,7 @@
+pub mod Symbols
+pub mod Carries
+pub mod Shapes
+pub mod Checking
+pub mod Issuing
+pub mod Digits
+pub mod Ibans

@@ -1,0 +1,99 @@
+// IBANs: the check by ISO 13616.
+ghost use mathlib.Core.Path.{_≡_};
+ghost use Prim.Native.Nat.{_≤_};
+ghost use lib.ListN.{length};
+ghost use Rattle.check_characters.specs.Iban.{allowed, wrongSymbol, checkDigits, barred, soundOf, checked};
+use crate::remainder;
+use crate::symbol;
+use refusal::Refusal;
+
+pub enum IbanAnswer {
+    Accepted,
+    Refused { why: Refusal, place: usize },
+}
+
+// Checks an IBAN.
+pub fn check_iban(s: &[u8]) -> IbanAnswer
+    ensures { λ r. ⌜ r ≡ checked (now (s .entry)) ⌝ }
+{
+    let n = s.len();
+    if n < 15 {
+        return IbanAnswer::Refused {
+            why: Refusal::WrongLength,
+            place: 0,
+        };
+    }
+    if 34 < n {
+        return IbanAnswer::Refused {
+            why: Refusal::WrongLength,
+            place: 0,
+        };
+    }
+    let wrong = wrong_symbol(s);
+    if wrong < n {
+        return IbanAnswer::Refused {
+            why: Refusal::WrongSymbol,
+            place: wrong,
+        };
+    }
+    if is_sound(s) {
+        return IbanAnswer::Accepted;
+    }
+    IbanAnswer::Refused {
+        why: Refusal::WrongCheck,
+        place: 2,
+    }
+}
+
+// Whether the check digits may stand in an IBAN and the remainder by 97 is 1.
+fn is_sound(s: &[u8]) -> bool
+    requires { ⌜ (4 ≤ length (now s)) × (length (now s) ≤ 34) ⌝ }
+    ensures { λ r. ⌜ r ≡ soundOf (now (s .entry)) ⌝ }
+{
+    let tens = symbol::value(s[2]) as u32;
+    let ones = symbol::value(s[3]) as u32;
+    if is_barred(10 * tens + ones) {
+        return false;
+    }
+    remainder::of_iban(s) == 1
+}
+
+// Whether these check digits never stand in an IBAN, though the remainder by 97 may be 1.
+fn is_barred(digits: u32) -> bool
+    ensures { λ r. ⌜ r ≡ barred digits ⌝ }
+{
+    if digits == 0 {
+        return true;
+    }
+    if digits == 1 {
+        return true;
+    }
+    digits == 99
+}
+
+// The place of the first symbol that is not allowed where it stands, or the end.
+fn wrong_symbol(s: &[u8]) -> usize
+    ensures { λ r. ⌜ r ≡ wrongSymbol (now (s .entry)) ⌝ }
+{
+    let mut i: usize = 0;
+    while i < s.len() {
+        if !is_allowed(i, s[i]) {
+            return i;
+        }
+        i += 1;
+    }
+    i
+}
+
+// Whether the byte b may stand at the place i.
+fn is_allowed(i: usize, b: u8) -> bool
+    ensures { λ r. ⌜ r ≡ allowed i b ⌝ }
+{
+    if i < 2 {
+        return text::is_capital(b);
+    }
+    if i < 4 {
+        return text::is_digit(b);
+    }
+    symbol::is_symbol(b)
+}

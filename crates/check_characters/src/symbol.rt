@@ -1,0 +1,38 @@
+// Symbols, the digits and the capitals, and their values.
+ghost use mathlib.Core.Path.{_≡_};
+ghost use Prim.Native.Nat.{_<_};
+ghost use Rattle.check_characters.specs.Symbol.{symbol, valueOf, symbolOf};
+
+// Whether a byte is a digit or a capital.
+pub fn is_symbol(b: u8) -> bool
+    ensures { λ r. ⌜ r ≡ symbol b ⌝ }
+{
+    if text::is_digit(b) {
+        return true;
+    }
+    text::is_capital(b)
+}
+
+// The value of a symbol; 0 for any other byte.
+pub fn value(b: u8) -> u8
+    ensures { λ r. ⌜ r ≡ valueOf b ⌝ }
+{
+    if text::is_digit(b) {
+        return b - 48;
+    }
+    if text::is_capital(b) {
+        return b - 55;
+    }
+    0
+}
+
+// The symbol of a value.
+pub fn symbol_of(v: u8) -> u8
+    requires { ⌜ v < 36 ⌝ }
+    ensures { λ r. ⌜ r ≡ symbolOf v ⌝ }
+{
+    if v < 10 {
+        return 48 + v;
+    }
+    55 + v
+}
