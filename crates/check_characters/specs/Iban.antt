@@ -8,6 +8,7 @@ use Rattle.text.specs.Choice.{if_then_else_}
 use Rattle.text.specs.Byte.{digit, capital}
 use Rattle.text.specs.Scan.{firstFailing}
 use Rattle.refusal.specs.declared.Refusal.the-variants.{WrongLength, WrongSymbol, WrongCheck}
+use Rattle.refusal.specs.Table.{numberOf, Verdict}
 use Rattle.check_characters.specs.Symbol.{symbol, valueOf}
 use Rattle.check_characters.specs.declared.iban.IbanAnswer.{IbanAnswer}
 use Rattle.check_characters.specs.declared.iban.IbanAnswer.the-variants.{Accepted, Refused}
@@ -62,3 +63,8 @@ checked s =
     else if ltb (wrongSymbol s) (length s) then Refused WrongSymbol (wrongSymbol s)
     else if soundOf s then Accepted
     else Refused WrongCheck 2
+
+-- the paper's number and place for each answer
+abbrev pub ibanVerdict : IbanAnswer → Verdict
+ibanVerdict Accepted = Verdict.passes
+ibanVerdict (Refused why place) = Verdict.refused (numberOf why) place

@@ -9,6 +9,7 @@ use Rattle.text.specs.Choice.{if_then_else_}
 use Rattle.text.specs.Byte.{digit}
 use Rattle.text.specs.Scan.{firstFailing}
 use Rattle.refusal.specs.declared.Refusal.the-variants.{OutputTooShort, WrongLength, WrongSymbol, WrongCheck}
+use Rattle.refusal.specs.Table.{numberOf, Verdict}
 use Rattle.check_characters.specs.Symbol.{symbol}
 use Rattle.check_characters.specs.Mod37.{passes, checkOf}
 use Rattle.check_characters.specs.declared.number.Kind.{Kind}
@@ -71,3 +72,12 @@ issuedTo (NotIssued why place) body out = out
 -- the answer and the output that issuing allows
 abbrev pub Issues : List ℕ → List ℕ → IssueAnswer → List ℕ → Type 0
 Issues body out answer after = (answer ≡ issueAnswer body (length out)) × (after ≡ issuedTo answer body out)
+
+-- the paper's number and place for each answer
+abbrev pub checkVerdict : NumberAnswer → Verdict
+checkVerdict (Accepted kind) = Verdict.passes
+checkVerdict (Refused why place) = Verdict.refused (numberOf why) place
+
+abbrev pub issueVerdict : IssueAnswer → Verdict
+issueVerdict (Issued n) = Verdict.passes
+issueVerdict (NotIssued why place) = Verdict.refused (numberOf why) place

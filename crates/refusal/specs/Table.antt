@@ -59,3 +59,8 @@ numberOf WrongLength = 16
 numberOf WrongSymbol = 17
 -- "check wrong"
 numberOf WrongCheck = 18
+
+-- what the paper says of an input: it passes, or it is refused by a number and at a place
+pub data Verdict : Type 0 where
+  passes : Verdict
+  refused : ℕ → ℕ → Verdict

@@ -1,0 +1,6 @@
+pub mod Places
+pub mod Steps
+pub mod Numbers
+pub mod Issues
+pub mod Remainders
+pub mod Ibans
