@@ -88,6 +88,7 @@ fn issue_as(kind: Kind, body: &[u8], out: &mut [u8]) -> IssueAnswer
     ensures { λ r. ⌜ (r ≡ issueAs kind (now (body .entry)) (length (now (out .entry)))) × (now (out .exit) ≡ issuedTo r (now (body .entry)) (now (out .entry))) ⌝ }
 {
     let n = body.len();
+    let whole = n + 1;
     let wrong = wrong_symbol(kind, body);
     if wrong < n {
         return IssueAnswer::NotIssued {
@@ -95,7 +96,7 @@ fn issue_as(kind: Kind, body: &[u8], out: &mut [u8]) -> IssueAnswer
             place: wrong,
         };
     }
-    if out.len() < n + 1 {
+    if out.len() < whole {
         return IssueAnswer::NotIssued {
             why: Refusal::OutputTooShort,
             place: 0,
@@ -104,7 +105,7 @@ fn issue_as(kind: Kind, body: &[u8], out: &mut [u8]) -> IssueAnswer
     let check = carry::check_of(body);
     text::place(out, 0, body);
     out[n] = check;
-    IssueAnswer::Issued(n + 1)
+    IssueAnswer::Issued(whole)
 }
 
 // The place of the first symbol that is not allowed where it stands, or the end.

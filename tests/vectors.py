@@ -1,0 +1,74 @@
+#!/usr/bin/env python3
+"""Answers the vectors of crates/vectors/stdin by an implementation of its own, written from ISO/IEC 7064 and document 01, for
+comparison with what the proved program prints: python3 tests/vectors.py < crates/vectors/stdin"""
+import string
+import sys
+
+SYMBOLS = string.digits + string.ascii_uppercase
+
+
+def carry(text):
+    """The recursive method of ISO/IEC 7064 with M = 36: P starts at M, and S is read as M where it is divisible by M."""
+    p = 36
+    for symbol in text:
+        s = (p + SYMBOLS.index(symbol)) % 36
+        p = (s or 36) * 2 % 37
+    return p
+
+
+def check_character(text):
+    (found,) = [c for c in SYMBOLS if (carry(text) + SYMBOLS.index(c)) % 36 == 1]
+    return found
+
+
+def first_wrong(text, classes):
+    for place, (symbol, allowed) in enumerate(zip(text, classes)):
+        if symbol not in allowed:
+            return place
+    return None
+
+
+def number_classes(length):
+    letters = range(7) if length == 28 else ()
+    return [SYMBOLS if i in letters or i == length - 1 else string.digits for i in range(length)]
+
+
+def number(text):
+    if len(text) not in (15, 28):
+        return "no 16 0"
+    wrong = first_wrong(text, number_classes(len(text)))
+    if wrong is not None:
+        return f"no 17 {wrong}"
+    if check_character(text[:-1]) != text[-1]:
+        return f"no 18 {len(text) - 1}"
+    return "tracking number" if len(text) == 15 else "label code"
+
+
+def issued(body):
+    if len(body) not in (14, 27):
+        return "no 16 0"
+    wrong = first_wrong(body, number_classes(len(body) + 1))
+    if wrong is not None:
+        return f"no 17 {wrong}"
+    return (body + check_character(body)).ljust(30, ".")
+
+
+def iban(text):
+    if not 15 <= len(text) <= 34:
+        return "no 16 0"
+    classes = [string.ascii_uppercase] * 2 + [string.digits] * 2 + [SYMBOLS] * 30
+    wrong = first_wrong(text, classes)
+    if wrong is not None:
+        return f"no 17 {wrong}"
+    value = int("".join(str(SYMBOLS.index(c)) for c in text[4:] + text[:4]))
+    if text[2:4] in ("00", "01", "99") or value % 97 != 1:
+        return "no 18 2"
+    return "IBAN"
+
+
+ANSWERS = {"N": number, "B": issued, "C": check_character, "I": iban}
+
+if __name__ == "__main__":
+    for line in sys.stdin.read().splitlines():
+        what, text = line[0], line[2:]
+        print(text, ANSWERS[what](text))
