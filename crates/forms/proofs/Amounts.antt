@@ -1,22 +1,19 @@
 -- An amount, by the cases that its functions meet, and how large it is.
-use Prim.Native.Nat.{ℕ, _+_, _-_, _*_, _^_, _≤_, _<_}
-use mathlib.Core.Path.{_≡_, refl, sym, ap, _∙_}
+use Prim.Native.Nat.{ℕ, _+_, _-_, _*_, _≤_, _<_}
+use mathlib.Core.Path.{_≡_, ap, _∙_}
 use mathlib.Core.Bool.{Bool, true, false, not, _&&_, and-false}
 use mathlib.Core.List.{List}
-use native.Mathlib.Nat.{pow-le-pow-right}
 use native.Mathlib.Omega.{arith}
 use lib.Dec.{leb, eqb}
 use lib.ListN.{length, take, drop, getD, length-take, length-drop}
 use lib.Seq.{take-all}
-use borrow.Author.Tests.{leb-true, eqb-true, le-leb, lt-leb, eq-eqb, ne-eqb, not-true, not-false}
-use Rattle.text.specs.Byte.{digit}
-use Rattle.text.specs.Choice.{if_then_else_}
+use borrow.Author.Tests.{leb-true, le-leb, lt-leb, eq-eqb, ne-eqb, not-true, not-false}
 use Rattle.text.specs.Decimal.{number}
-use Rattle.text.specs.Scan.{all}
-use Rattle.text.proofs.Decimals.{number-below}
+use Rattle.text.proofs.Decimals.{number-few}
 use Rattle.text.proofs.Choices.{and-left, and-right}
 use Rattle.forms.specs.Shape.{allDigits, digits}
 use Rattle.forms.specs.Amount.{whole, hundredths, cents, decimal, leadingZero, amount}
+use Rattle.forms.proofs.Shapes.{digits-parts}
 
 module _ (s : List ℕ) where
   whole-long : length (whole s) ≡ length s - 3
@@ -52,11 +49,15 @@ module _ (s : List ℕ) where
     unfolding decimal
     point-bad q n = simp (whole-long, ← e, not-false t q, ne-eqb (getD s (length s - 3) 0) 46 n, and-false)
 
-    pub behind-decides : (u : Bool) → not t ≡ false → getD s (length s - 3) 0 ≡ 46 → u ≡ digits 2 (take (length s - (length s - 3 + 1)) (drop (length s - 3 + 1) s)) → u ≡ decimal s
+    pub behind-decides :
+        (u : Bool) → not t ≡ false → getD s (length s - 3) 0 ≡ 46 →
+        u ≡ digits 2 (take (length s - (length s - 3 + 1)) (drop (length s - 3 + 1) s)) → u ≡ decimal s
     unfolding decimal
     behind-decides u q p f =
         let g : u ≡ digits 2 (hundredths s) = f ∙ ap (digits 2) (behind l) in
-        simp (whole-long, ← e, not-false t q, eq-eqb (getD s (length s - 3) 0) 46 p, le-leb 1 (length s - 3) (omega arith), le-leb (length s - 3) 6 (omega arith)) g
+        let least = le-leb 1 (length s - 3) (omega arith) in
+        let most = le-leb (length s - 3) 6 (omega arith) in
+        simp (whole-long, ← e, not-false t q, eq-eqb (getD s (length s - 3) 0) 46 p, least, most) g
 
   pub single : length s < 5 → false ≡ leadingZero s
   unfolding leadingZero
@@ -67,7 +68,9 @@ module _ (s : List ℕ) where
   first-decides h = simp (whole-long, le-leb 2 (length s - 3) (omega arith))
 
   -- w and d are the numbers before and behind the point, as the code has them
-  pub cents-sum : (w d : ℕ) → 4 ≤ length s → w ≡ number (take (length s - 3 - 0) (drop 0 s)) → d ≡ number (take (length s - (length s - 3 + 1)) (drop (length s - 3 + 1) s)) → 100 * w + d ≡ cents s
+  pub cents-sum :
+      (w d : ℕ) → 4 ≤ length s → w ≡ number (take (length s - 3 - 0) (drop 0 s)) →
+      d ≡ number (take (length s - (length s - 3 + 1)) (drop (length s - 3 + 1) s)) → 100 * w + d ≡ cents s
   unfolding cents
   cents-sum w d l ew ed = rw (ew, ed, front, behind l)
 
@@ -75,42 +78,31 @@ module _ (s : List ℕ) where
   pub decimal-parts : decimal s ≡ true → (4 ≤ length s) × (length s ≤ 9) × (allDigits (whole s) ≡ true) × (digits 2 (hundredths s) ≡ true)
   unfolding decimal
   decimal-parts e =
-      let behindOk = eqb (getD s (length s - 3) 0) 46 && digits 2 (hundredths s) in
-      let afterOk = allDigits (whole s) && behindOk in
-      let some : 1 ≤ length (whole s) = leb-true 1 (length (whole s)) (and-left (leb 1 (length (whole s))) (leb (length (whole s)) 6 && afterOk) e) in
-      let rest₁ : (leb (length (whole s)) 6 && afterOk) ≡ true = and-right (leb 1 (length (whole s))) (leb (length (whole s)) 6 && afterOk) e in
-      let most : length (whole s) ≤ 6 = leb-true (length (whole s)) 6 (and-left (leb (length (whole s)) 6) afterOk rest₁) in
-      let rest₂ : afterOk ≡ true = and-right (leb (length (whole s)) 6) afterOk rest₁ in
-      let rest₃ : behindOk ≡ true = and-right (allDigits (whole s)) behindOk rest₂ in
-      (omega (arith, some, whole-long), omega (arith, most, whole-long), and-left (allDigits (whole s)) behindOk rest₂, and-right (eqb (getD s (length s - 3) 0) 46) (digits 2 (hundredths s)) rest₃)
+      let n = length (whole s) in
+      let p = eqb (getD s (length s - 3) 0) 46 && digits 2 (hundredths s) in
+      let d = allDigits (whole s) && p in
+      let e₁ = and-right (leb 1 n) (leb n 6 && d) e in
+      let e₂ = and-right (leb n 6) d e₁ in
+      let e₃ = and-right (allDigits (whole s)) p e₂ in
+      let least = leb-true 1 n (and-left (leb 1 n) (leb n 6 && d) e) in
+      let most = leb-true n 6 (and-left (leb n 6) d e₁) in
+      (omega (arith, least, whole-long), omega (arith, most, whole-long), and-left (allDigits (whole s)) p e₂, and-right (eqb (getD s (length s - 3) 0) 46) (digits 2 (hundredths s)) e₃)
 
-  -- a test of it that held tells the length
-  module _ (t : Bool) (q : not t ≡ false) where
-    pub decimal-least : t ≡ decimal s → 4 ≤ length s
-    decimal-least e = decimal-parts (sym e ∙ not-false t q) .0
+  pub decimal-least : decimal s ≡ true → 4 ≤ length s
+  decimal-least e = decimal-parts e .0
 
-    pub decimal-most : t ≡ decimal s → length s ≤ 9
-    decimal-most e = decimal-parts (sym e ∙ not-false t q) .1
+  pub decimal-most : decimal s ≡ true → length s ≤ 9
+  decimal-most e = decimal-parts e .1
 
-  amount-decimal : amount s ≡ true → decimal s ≡ true
+  pub amount-decimal : amount s ≡ true → decimal s ≡ true
   unfolding amount
   amount-decimal e = and-left (decimal s) (not (leadingZero s) && leb 1 (cents s)) e
 
-  module _ (t : Bool) (q : not t ≡ false) where
-    pub amount-least : t ≡ amount s → 4 ≤ length s
-    amount-least e = decimal-least true refl (sym (amount-decimal (sym e ∙ not-false t q)))
-
-    pub amount-most : t ≡ amount s → length s ≤ 9
-    amount-most e = decimal-most true refl (sym (amount-decimal (sym e ∙ not-false t q)))
-
   pub cents-most : amount s ≡ true → cents s ≤ 99999999
-  unfolding cents allDigits digits
+  unfolding cents allDigits
   cents-most e =
       let p = decimal-parts (amount-decimal e) in
-      let two : length (hundredths s) ≡ 2 = eqb-true (length (hundredths s)) 2 (and-left (eqb (length (hundredths s)) 2) (all digit (hundredths s)) (p .3)) in
-      let few : length (whole s) ≤ 6 = omega (arith, whole-long, p .1) in
-      let w : number (whole s) < (0 + 1) * 10 ^ length (whole s) = number-below (whole s) 0 (p .2) in
-      let d : number (hundredths s) < (0 + 1) * 10 ^ length (hundredths s) = number-below (hundredths s) 0 (and-right (eqb (length (hundredths s)) 2) (all digit (hundredths s)) (p .3)) in
-      let v : 10 ^ length (whole s) ≤ 10 ^ 6 = pow-le-pow-right (omega arith) few in
-      let f : 10 ^ length (hundredths s) ≡ 10 ^ 2 = ap (λ n. 10 ^ n) two in
-      omega (arith, w, d, v, f)
+      let q = digits-parts 2 (hundredths s) (p .3) in
+      let w = number-few (whole s) 6 (p .2) (omega (arith, whole-long, p .1)) in
+      let d = number-few (hundredths s) 2 (q .1) (omega (arith, q .0)) in
+      omega (arith, w, d)

@@ -1,21 +1,18 @@
 -- A date-time, by the cases that its functions meet.
 use Prim.Native.Nat.{ℕ, _%_, _≤_, _<_}
-use mathlib.Core.Path.{_≡_, sym, _∙_}
-use mathlib.Core.Bool.{Bool, true, false, not, and-false}
+use mathlib.Core.Path.{_≡_, sym}
+use mathlib.Core.Bool.{Bool, true, false, and-false}
 use mathlib.Core.List.{List}
 use lib.Dec.{leb, eqb}
-use lib.ListN.{length, take, drop}
-use borrow.Author.Tests.{le-leb, lt-leb, eq-eqb, ne-eqb, not-false}
-use Rattle.text.specs.Byte.{digit}
-use Rattle.text.specs.Choice.{if_then_else_}
-use Rattle.text.specs.Decimal.{number}
+use lib.ListN.{length}
+use borrow.Author.Tests.{le-leb, lt-leb, eq-eqb, ne-eqb}
 use Rattle.text.specs.Quoted.{bytes}
 use Rattle.text.proofs.Scans.{pair-lengths}
 use Rattle.forms.specs.Date.{standsFor, like, leap, daysIn, calendar, goodDay, goodTime, numberAt}
 
-pub nineteen : (t : Bool) (s : List ℕ) → t ≡ like (bytes "0000-00-00T00:00:00") s → not t ≡ false → length s ≡ 19
+pub nineteen : (s : List ℕ) → like (bytes "0000-00-00T00:00:00") s ≡ true → length s ≡ 19
 unfolding like
-nineteen t s e q = sym (pair-lengths standsFor (bytes "0000-00-00T00:00:00") s (sym e ∙ not-false t q))
+nineteen s e = sym (pair-lengths standsFor (bytes "0000-00-00T00:00:00") s e)
 
 module _ (year : ℕ) where
   pub not-fourth : (year % 4 ≡ 0 → ⊥) → false ≡ leap year
@@ -31,15 +28,11 @@ module _ (year : ℕ) where
   hundredth e f = simp (eq-eqb (year % 4) 0 e, eq-eqb (year % 100) 0 f)
 
   -- an arm of the match is a case of the rule
-  module _ (month days : ℕ) where
-    pub second : month ≡ 2 → days ≡ (if leap year then 29 else 28) → days ≡ daysIn year month
-    unfolding daysIn
-    second e f = rw e f
+  pub month-arm : (month case days : ℕ) → month ≡ case → days ≡ daysIn year case → days ≡ daysIn year month
+  month-arm month case days e f = rw e f
 
-    pub month-arm : (case : ℕ) → month ≡ case → days ≡ daysIn year case → days ≡ daysIn year month
-    month-arm case e f = rw e f
-
-  pub month-rest : (month : ℕ) → (month ≡ 2 → ⊥) → (month ≡ 4 → ⊥) → (month ≡ 6 → ⊥) → (month ≡ 9 → ⊥) → (month ≡ 11 → ⊥) → 31 ≡ daysIn year month
+  pub month-rest :
+      (month : ℕ) → (month ≡ 2 → ⊥) → (month ≡ 4 → ⊥) → (month ≡ 6 → ⊥) → (month ≡ 9 → ⊥) → (month ≡ 11 → ⊥) → 31 ≡ daysIn year month
   unfolding daysIn
   month-rest month a b c d e = simp (ne-eqb month 2 a, ne-eqb month 4 b, ne-eqb month 6 c, ne-eqb month 9 d, ne-eqb month 11 e)
 
@@ -52,7 +45,9 @@ module _ (s : List ℕ) (year : ℕ) (e : year ≡ numberAt 0 4 s) where
   unfolding goodDay
   too-late h = simp (← e, lt-leb year 2099, and-false)
 
-  pub in-time : (month day : ℕ) (t : Bool) → 2000 ≤ year → year ≤ 2099 → month ≡ numberAt 5 2 s → day ≡ numberAt 8 2 s → t ≡ calendar year month day → t ≡ goodDay s
+  pub in-time :
+      (month day : ℕ) (t : Bool) → 2000 ≤ year → year ≤ 2099 → month ≡ numberAt 5 2 s → day ≡ numberAt 8 2 s →
+      t ≡ calendar year month day → t ≡ goodDay s
   unfolding goodDay
   in-time month day t l h em ed f = simp (← e, ← em, ← ed, le-leb 2000 year, le-leb year 2099) f
 

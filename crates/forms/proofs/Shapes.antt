@@ -1,25 +1,23 @@
 -- The forms that look at bytes one by one, by the cases that their functions meet.
 use Prim.Native.Nat.{ℕ, _-_, _≤_, _<_}
-use mathlib.Core.Path.{_≡_, sym, ap, _∙_}
-use mathlib.Core.Bool.{Bool, true, false, not, _&&_}
+use mathlib.Core.Path.{_≡_, sym, _∙_}
+use mathlib.Core.Bool.{Bool, true, false, not}
 use mathlib.Core.List.{List, [], _∷_}
 use native.Mathlib.Omega.{arith}
 use lib.Dec.{eqb}
 use lib.ListN.{length, getD}
-use borrow.Author.Tests.{eq-eqb, ne-eqb, eqb-true, not-false}
-use Rattle.text.specs.Choice.{if_then_else_}
+use borrow.Author.Tests.{eq-eqb, ne-eqb, eqb-true}
 use Rattle.text.specs.Byte.{symbol}
 use Rattle.text.specs.Scan.{all, count}
-use Rattle.text.proofs.Choices.{and-left}
+use Rattle.text.proofs.Choices.{and-left, and-right}
 use Rattle.forms.specs.Shape.{allDigits, digits, bic, atSign, mail}
 
--- a test of n digits that held tells the length
-pub digits-long : (t : Bool) (n : ℕ) (s : List ℕ) → t ≡ digits n s → not t ≡ false → length s ≡ n
+pub digits-parts : (n : ℕ) (s : List ℕ) → digits n s ≡ true → (length s ≡ n) × (allDigits s ≡ true)
 unfolding digits
-digits-long t n s e q = eqb-true (length s) n (and-left (eqb (length s) n) (allDigits s) (sym e ∙ not-false t q))
+digits-parts n s e = (eqb-true (length s) n (and-left (eqb (length s) n) (allDigits s) e), and-right (eqb (length s) n) (allDigits s) e)
 
-pub ten-digits : (t : Bool) (s : List ℕ) → t ≡ digits 10 s → not t ≡ false → 2 ≤ length s
-ten-digits t s e q = omega (arith, digits-long t 10 s e q)
+pub ten-digits : (s : List ℕ) → digits 10 s ≡ true → 2 ≤ length s
+ten-digits s e = omega (arith, digits-parts 10 s e .0)
 
 module _ (s : List ℕ) where
   pub bic-short : (t : Bool) → length s ≡ 8 → t ≡ all symbol s → t ≡ bic s

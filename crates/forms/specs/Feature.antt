@@ -21,6 +21,10 @@ featureCodes =
 unfoldable pub isFeature : List ℕ → Bool
 isFeature s = digits 3 s && among (number s) featureCodes
 
+-- the number of a feature code, 0 for anything else
+unfoldable pub codeOf : List ℕ → ℕ
+codeOf s = if isFeature s then number s else 0
+
 -- "What a feature needs depends on its three-digit code alone: 006 and 022 need 3, 4, 5, 6, 7; 011 and 063 need 3 and 4; 054
 -- needs 9 or 10; the rest need nothing."
 unfoldable pub needOf : ℕ → Need

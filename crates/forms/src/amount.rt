@@ -4,6 +4,9 @@ ghost use Prim.Native.Nat.{_≤_};
 ghost use lib.ListN.{length};
 ghost use Rattle.text.specs.Choice.{if_then_else_};
 ghost use Rattle.forms.specs.Amount.{cents, decimal, leadingZero, amount};
+use super::decimal::number;
+use super::shape::all_digits;
+use super::shape::is_digits;
 
 // Whether s is an amount.
 pub fn is_amount(s: &[u8]) -> bool
@@ -39,13 +42,13 @@ fn is_decimal(s: &[u8]) -> bool
         return false;
     }
     let point = s.len() - 3;
-    if !super::shape::all_digits(&s[0..point]) {
+    if !all_digits(&s[0..point]) {
         return false;
     }
     if s[point] != 46 {
         return false;
     }
-    super::shape::is_digits(&s[point + 1..], 2)
+    is_digits(&s[point + 1..], 2)
 }
 
 // Whether another digit follows a leading zero.
@@ -64,7 +67,7 @@ fn cents_in(s: &[u8]) -> u64
     ensures { λ r. ⌜ r ≡ cents (now (s .entry)) ⌝ }
 {
     let point = s.len() - 3;
-    let whole = super::decimal::number(&s[0..point]);
-    let hundredths = super::decimal::number(&s[point + 1..]);
+    let whole = number(&s[0..point]);
+    let hundredths = number(&s[point + 1..]);
     100 * (whole as u64) + (hundredths as u64)
 }

@@ -3,6 +3,7 @@ ghost use mathlib.Core.Path.{_≡_};
 ghost use lib.ListN.{length};
 ghost use Rattle.text.specs.Choice.{if_then_else_};
 ghost use Rattle.forms.specs.Date.{standsFor, like, leap, daysIn, calendar, goodDay, goodTime, dateTime};
+use super::decimal::number;
 
 // Whether s is a date-time.
 pub fn is_date_time(s: &[u8]) -> bool
@@ -34,6 +35,7 @@ fn is_like(pattern: &[u8], s: &[u8]) -> bool
     true
 }
 
+// Whether b may stand where the pattern has p.
 fn stands_for(p: u8, b: u8) -> bool
     ensures { λ r. ⌜ r ≡ standsFor p b ⌝ }
 {
@@ -43,22 +45,24 @@ fn stands_for(p: u8, b: u8) -> bool
     b == p
 }
 
+// Whether the date is a day of the years 2000 to 2099.
 fn is_good_day(s: &[u8]) -> bool
     requires { ⌜ length (now s) ≡ 19 ⌝ }
     ensures { λ r. ⌜ r ≡ goodDay (now (s .entry)) ⌝ }
 {
-    let year = super::decimal::number(&s[0..4]);
+    let year = number(&s[0..4]);
     if year < 2000 {
         return false;
     }
     if 2099 < year {
         return false;
     }
-    let month = super::decimal::number(&s[5..7]);
-    let day = super::decimal::number(&s[8..10]);
+    let month = number(&s[5..7]);
+    let day = number(&s[8..10]);
     is_in_calendar(year, month, day)
 }
 
+// Whether the calendar has this day.
 fn is_in_calendar(year: u32, month: u32, day: u32) -> bool
     ensures { λ r. ⌜ r ≡ calendar year month day ⌝ }
 {
@@ -74,6 +78,7 @@ fn is_in_calendar(year: u32, month: u32, day: u32) -> bool
     day <= days_in(year, month)
 }
 
+// How many days the month has.
 fn days_in(year: u32, month: u32) -> u32
     ensures { λ r. ⌜ r ≡ daysIn year month ⌝ }
 {
@@ -87,6 +92,7 @@ fn days_in(year: u32, month: u32) -> u32
     }
 }
 
+// How many days February has.
 fn february(year: u32) -> u32
     ensures { λ r. ⌜ r ≡ (if leap year then 29 else 28) ⌝ }
 {
@@ -96,6 +102,7 @@ fn february(year: u32) -> u32
     28
 }
 
+// Whether the year is a leap year.
 fn is_leap(year: u32) -> bool
     ensures { λ r. ⌜ r ≡ leap year ⌝ }
 {
@@ -108,15 +115,16 @@ fn is_leap(year: u32) -> bool
     year % 400 == 0
 }
 
+// Whether the time is one of the day's.
 fn is_good_time(s: &[u8]) -> bool
     requires { ⌜ length (now s) ≡ 19 ⌝ }
     ensures { λ r. ⌜ r ≡ goodTime (now (s .entry)) ⌝ }
 {
-    if 23 < super::decimal::number(&s[11..13]) {
+    if 23 < number(&s[11..13]) {
         return false;
     }
-    if 59 < super::decimal::number(&s[14..16]) {
+    if 59 < number(&s[14..16]) {
         return false;
     }
-    super::decimal::number(&s[17..19]) <= 59
+    number(&s[17..19]) <= 59
 }

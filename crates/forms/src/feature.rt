@@ -3,15 +3,17 @@ ghost use mathlib.Core.Path.{_≡_};
 ghost use Prim.Native.Nat.{_<_};
 ghost use lib.ListN.{getD};
 ghost use Rattle.text.specs.Scan.{among};
-ghost use Rattle.forms.specs.Feature.{featureCodes, isFeature, needOf};
+ghost use Rattle.forms.specs.Feature.{featureCodes, isFeature, codeOf, needOf};
+use super::decimal::number;
+use super::shape::is_digits;
 
 // Fields of a 060 line that a feature needs filled.
 pub enum Need {
-    // 3 to 7: amount, currency, how it is paid, IBAN and BIC
+    // 3, 4, 5, 6 and 7
     CashAccount,
-    // 3 and 4: amount and currency
+    // 3 and 4
     Cash,
-    // 9 or 10: e-mail address or telephone
+    // 9 or 10
     Contact,
     Nothing,
 }
@@ -53,12 +55,37 @@ const CODES: [u32; 30] = [
 pub fn is_feature(s: &[u8]) -> bool
     ensures { λ r. ⌜ r ≡ isFeature (now (s .entry)) ⌝ }
 {
-    if !super::shape::is_digits(s, 3) {
+    if !is_digits(s, 3) {
         return false;
     }
-    is_code(super::decimal::number(s))
+    is_code(number(s))
 }
 
+// The number of a feature code, 0 for anything else.
+pub fn code_of(s: &[u8]) -> u32
+    ensures { λ r. ⌜ r ≡ codeOf (now (s .entry)) ⌝ }
+{
+    if !is_feature(s) {
+        return 0;
+    }
+    number(s)
+}
+
+// What the feature with this code needs.
+pub fn need_of(code: u32) -> Need
+    ensures { λ r. ⌜ r ≡ needOf code ⌝ }
+{
+    match code {
+        6 => Need::CashAccount,
+        11 => Need::Cash,
+        22 => Need::CashAccount,
+        54 => Need::Contact,
+        63 => Need::Cash,
+        _ => Need::Nothing,
+    }
+}
+
+// Whether there is a feature with this code.
 fn is_code(code: u32) -> bool
     ensures { λ r. ⌜ r ≡ among code featureCodes ⌝ }
 {
@@ -78,18 +105,4 @@ fn code_at(i: usize) -> u32
     ensures { λ r. ⌜ r ≡ getD featureCodes i 0 ⌝ }
 {
     CODES[i]
-}
-
-// What the feature with this code needs.
-pub fn need_of(code: u32) -> Need
-    ensures { λ r. ⌜ r ≡ needOf code ⌝ }
-{
-    match code {
-        6 => Need::CashAccount,
-        11 => Need::Cash,
-        22 => Need::CashAccount,
-        54 => Need::Contact,
-        63 => Need::Cash,
-        _ => Need::Nothing,
-    }
 }

@@ -41,6 +41,7 @@ pub fn is_capitals(s: &[u8], n: usize) -> bool
     all_capitals(s)
 }
 
+// Whether every byte is a capital.
 fn all_capitals(s: &[u8]) -> bool
     ensures { λ r. ⌜ r ≡ all capital (now (s .entry)) ⌝ }
 {
@@ -84,6 +85,7 @@ pub fn is_bic(s: &[u8]) -> bool
     false
 }
 
+// Whether every byte is a capital or a digit.
 fn all_symbols(s: &[u8]) -> bool
     ensures { λ r. ⌜ r ≡ all symbol (now (s .entry)) ⌝ }
 {

@@ -77,6 +77,9 @@ module _ (c : Bool) where
     pub eq-holds : (u : Bool) → a ≡ b → u ≡ c → u ≡ (eqb a b && c)
     eq-holds u e f = simp (eq-eqb a b e) f
 
+pub test-held : (t a : Bool) → t ≡ a → not t ≡ false → a ≡ true
+test-held t a e q = sym e ∙ not-false t q
+
 -- a number that was told to be x, compared
 pub le-told : (a n x : ℕ) → n ≡ x → leb a n ≡ leb a x
 le-told a n x e = rw e

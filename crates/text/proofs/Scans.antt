@@ -3,7 +3,7 @@ use Prim.Native.Nat.{ℕ, zero, suc, _+_, _≤_, _<_}
 use mathlib.Core.Path.{_≡_, refl, sym, ap, _∙_}
 use mathlib.Core.Bool.{Bool, true, false, not, false≢true}
 use mathlib.Core.Logic.{⊎-elim}
-use mathlib.Core.List.{List, [], _∷_, _++_}
+use mathlib.Core.List.{List, [], _∷_}
 use native.Mathlib.Nat.{add-zero, add-suc, suc-add, not-suc-le-zero, le-of-suc-le-suc}
 use native.Mathlib.Numerals.{add-one}
 use native.Mathlib.Omega.{arith}
@@ -70,7 +70,8 @@ module _ (ok : ℕ → Bool) where
 
 -- how many pass: n of those in front, and d of the byte here
 module _ (ok : ℕ → Bool) (s : List ℕ) (i n z : ℕ) where
-  pub count-on : (d : ℕ) → i < length s → d ≡ (if ok (getD s i 0) then 1 else 0) → n + count ok (drop i s) ≡ z → n + d + count ok (drop (i + 1) s) ≡ z
+  pub count-on :
+      (d : ℕ) → i < length s → d ≡ (if ok (getD s i 0) then 1 else 0) → n + count ok (drop i s) ≡ z → n + d + count ok (drop (i + 1) s) ≡ z
   count-on d h e f =
       let g : count ok (drop i s) ≡ d + count ok (drop (i + 1) s) = rw (add-one, e, drop-cons s i 0) in
       omega (arith, f, g)
@@ -91,12 +92,14 @@ module _ (a : ℕ) (s : List ℕ) (i : ℕ) (z : Bool) where
 
 -- two runs of one length side by side
 module _ (ok : ℕ → ℕ → Bool) (a b : List ℕ) (l : length a ≡ length b) (i : ℕ) (z : Bool) where
-  pub pair-on : (t : Bool) → i < length a → t ≡ ok (getD a i 0) (getD b i 0) → not t ≡ false → paired ok (drop i a) (drop i b) ≡ z → paired ok (drop (i + 1) a) (drop (i + 1) b) ≡ z
+  pub pair-on :
+      (t : Bool) → i < length a → t ≡ ok (getD a i 0) (getD b i 0) → not t ≡ false → paired ok (drop i a) (drop i b) ≡ z → paired ok (drop (i + 1) a) (drop (i + 1) b) ≡ z
   pair-on t h e q f =
       let g : ok (getD a i 0) (getD b i 0) ≡ true = sym e ∙ not-false t q in
       rw add-one (sym (rw (drop-cons a i 0 h, drop-cons b i 0 (omega arith), g)) ∙ f)
 
-  pub pair-stops : (t : Bool) → i < length a → t ≡ ok (getD a i 0) (getD b i 0) → not t ≡ true → paired ok (drop i a) (drop i b) ≡ z → false ≡ z
+  pub pair-stops :
+      (t : Bool) → i < length a → t ≡ ok (getD a i 0) (getD b i 0) → not t ≡ true → paired ok (drop i a) (drop i b) ≡ z → false ≡ z
   pair-stops t h e q f =
       let g : ok (getD a i 0) (getD b i 0) ≡ false = sym e ∙ not-true t q in
       sym (rw (drop-cons a i 0 h, drop-cons b i 0 (omega arith), g)) ∙ f
@@ -115,7 +118,8 @@ pair-unlike ok a b n = ⊎-elim (λ e. absurd (n (pair-lengths ok a b e))) (λ e
 
 -- the test of equality, as a loop meets it
 module _ (a b : List ℕ) (l : length a ≡ length b) (i : ℕ) (z : Bool) where
-  pub same-on : i < length a → getD a i 0 ≡ getD b i 0 → same (drop i a) (drop i b) ≡ z → same (drop (i + 1) a) (drop (i + 1) b) ≡ z
+  pub same-on :
+      i < length a → getD a i 0 ≡ getD b i 0 → same (drop i a) (drop i b) ≡ z → same (drop (i + 1) a) (drop (i + 1) b) ≡ z
   same-on h e f = pair-on eqb a b l i z true h (sym (eq-eqb (getD a i 0) (getD b i 0) e)) refl f
 
   pub same-stops : i < length a → (getD a i 0 ≡ getD b i 0 → ⊥) → same (drop i a) (drop i b) ≡ z → false ≡ z

@@ -2,7 +2,6 @@
 use Prim.Native.Nat.{_≤_, _-_}
 use mathlib.Core.Path.{_≡_}
 use lib.ListN.{length, drop}
-use lib.Dec.{eqb}
 use Rattle.text.specs.Scan.{same}
 use Rattle.text.proofs.Scans.{pair-unlike, same-on, same-stops, pair-ends}
 use borrow.Author.Needs.{needs}

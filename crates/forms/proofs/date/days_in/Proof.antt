@@ -1,11 +1,11 @@
 -- `forms::date::days_in` meets its contract.
 use Rattle.forms.specs.Date.{daysIn}
-use Rattle.forms.proofs.Dates.{second, month-arm, month-rest}
+use Rattle.forms.proofs.Dates.{month-arm, month-rest}
 use borrow.Author.Needs.{needs}
 use Rattle.forms.proofs.date.days_in.Statement.{statement}
 use Rattle.forms.proofs.date.days_in.Tie as tie
 
-ruleset laws = (needs, second, month-arm, month-rest)
+ruleset laws = (needs, month-arm, month-rest)
 
 pub days-in-spec : {M : Type 1} → statement M
 unfolding daysIn

@@ -1,12 +1,12 @@
 -- `forms::date::is_date_time` meets its contract.
-use Rattle.text.proofs.Choices.{test-fails, test-holds}
+use Rattle.text.proofs.Choices.{test-held, test-fails, test-holds}
 use Rattle.forms.specs.Date.{dateTime}
 use Rattle.forms.proofs.Dates.{nineteen}
 use borrow.Author.Needs.{needs}
 use Rattle.forms.proofs.date.is_date_time.Statement.{statement}
 use Rattle.forms.proofs.date.is_date_time.Tie as tie
 
-ruleset laws = (needs, test-fails, test-holds, nineteen)
+ruleset laws = (needs, test-held, test-fails, test-holds, nineteen)
 
 pub is-date-time-spec : {M : Type 1} → statement M
 unfolding dateTime

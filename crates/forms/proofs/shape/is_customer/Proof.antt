@@ -1,12 +1,12 @@
 -- `forms::shape::is_customer` meets its contract.
-use Rattle.text.proofs.Choices.{test-fails, test-holds}
+use Rattle.text.proofs.Choices.{test-held, test-fails, test-holds}
 use Rattle.forms.specs.Shape.{customer}
 use Rattle.forms.proofs.Shapes.{ten-digits}
 use borrow.Author.Needs.{needs}
 use Rattle.forms.proofs.shape.is_customer.Statement.{statement}
 use Rattle.forms.proofs.shape.is_customer.Tie as tie
 
-ruleset laws = (needs, test-fails, test-holds, ten-digits)
+ruleset laws = (needs, test-held, test-fails, test-holds, ten-digits)
 
 pub is-customer-spec : {M : Type 1} → statement M
 unfolding customer
