@@ -14,6 +14,7 @@ use Rattle.text.specs.Scan.{among, paired}
 unfoldable pub standsFor : ℕ → ℕ → Bool
 standsFor p b = if eqb p 48 then digit b else eqb b p
 
+-- s follows the pattern
 unfoldable pub like : List ℕ → List ℕ → Bool
 like pattern s = paired standsFor pattern s
 
@@ -25,6 +26,7 @@ numberAt place n s = number (take n (drop place s))
 unfoldable pub leap : ℕ → Bool
 leap year = eqb (year % 4) 0 && (not (eqb (year % 100) 0) || eqb (year % 400) 0)
 
+-- how many days a month has
 unfoldable pub daysIn : ℕ → ℕ → ℕ
 daysIn year month =
     if eqb month 2 then (if leap year then 29 else 28) else (if among month (4 ∷ 6 ∷ 9 ∷ 11 ∷ []) then 30 else 31)
@@ -41,5 +43,6 @@ goodDay s = leb 2000 (numberAt 0 4 s) && (leb (numberAt 0 4 s) 2099 && calendar 
 unfoldable pub goodTime : List ℕ → Bool
 goodTime s = leb (numberAt 11 2 s) 23 && (leb (numberAt 14 2 s) 59 && leb (numberAt 17 2 s) 59)
 
+-- "`YYYY-MM-DDThh:mm:ss`", and both of these
 unfoldable pub dateTime : List ℕ → Bool
 dateTime s = like (bytes "0000-00-00T00:00:00") s && (goodDay s && goodTime s)

@@ -1,4 +1,4 @@
--- The classes of a byte (document 01: "digits", "capitals", 'The file').
+-- The classes of a byte (document 01, 'The file').
 use Prim.Native.Nat.{ℕ}
 use mathlib.Core.Bool.{Bool, _&&_, _||_}
 use lib.Dec.{leb}
