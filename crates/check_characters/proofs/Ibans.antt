@@ -8,8 +8,8 @@ use lib.Dec.{eqb}
 use lib.ListN.{length, getD}
 use borrow.Author.Tests.{eq-eqb, ne-eqb, lt-ltb, le-ltb, le-leb, lt-leb}
 use Rattle.refusal.specs.declared.Refusal.the-variants.{WrongLength, WrongSymbol, WrongCheck}
-use Rattle.text.specs.Byte.{digit, capital}
-use Rattle.check_characters.specs.Symbol.{symbol, valueOf}
+use Rattle.text.specs.Byte.{digit, capital, symbol}
+use Rattle.check_characters.specs.Symbol.{valueOf}
 use Rattle.check_characters.specs.Iban.{allowed, wrongSymbol, barred, ibanNumber, soundOf, checked}
 use Rattle.check_characters.specs.declared.iban.IbanAnswer.the-variants.{Accepted, Refused}
 

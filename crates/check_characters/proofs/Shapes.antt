@@ -6,8 +6,7 @@ use mathlib.Core.List.{List, [], _∷_, _++_}
 use native.Mathlib.Nat.{add-zero, add-suc, not-suc-le-zero, le-of-suc-le-suc}
 use native.Mathlib.Omega.{arith}
 use lib.ListN.{length, getD, replicate}
-use Rattle.text.specs.Byte.{digit}
-use Rattle.check_characters.specs.Symbol.{symbol}
+use Rattle.text.specs.Byte.{digit, symbol}
 use Rattle.check_characters.specs.Number.{shapeOf, lengthOf, allowed}
 use Rattle.check_characters.specs.declared.number.Kind.{Kind}
 use Rattle.check_characters.specs.declared.number.Kind.the-variants.{Tracking, Label}

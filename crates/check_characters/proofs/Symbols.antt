@@ -8,7 +8,7 @@ use borrow.Author.Tests.{lt-ltb, le-ltb}
 use Rattle.text.specs.Byte.{digit, capital}
 use Rattle.text.proofs.Choices.{true-or-false}
 use Rattle.text.proofs.Bytes.{digit-range, capital-range}
-use Rattle.check_characters.specs.Symbol.{symbol, valueOf, symbolOf}
+use Rattle.check_characters.specs.Symbol.{valueOf, symbolOf}
 
 module _ (b : ℕ) (t : Bool) (et : t ≡ digit b) where
   pub digit-floor : t ≡ true → 48 ≤ b
@@ -17,9 +17,6 @@ module _ (b : ℕ) (t : Bool) (et : t ≡ digit b) where
   pub value-digit : t ≡ true → b - 48 ≡ valueOf b
   unfolding valueOf
   value-digit e = simp (← et, e)
-
-  pub symbol-digit : t ≡ true → true ≡ symbol b
-  symbol-digit e = simp (← et, e)
 
   module _ (u : Bool) (eu : u ≡ capital b) (other : t ≡ false) where
     pub capital-floor : u ≡ true → 55 ≤ b
@@ -32,9 +29,6 @@ module _ (b : ℕ) (t : Bool) (et : t ≡ digit b) where
     pub value-other : u ≡ false → 0 ≡ valueOf b
     unfolding valueOf
     value-other e = simp (← et, other, ← eu, e)
-
-    pub symbol-other : u ≡ symbol b
-    symbol-other = simp (← et, other, ← eu)
 
 pub value-le : (b : ℕ) → valueOf b ≤ 35
 value-le b =

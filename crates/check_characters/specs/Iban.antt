@@ -5,11 +5,11 @@ use mathlib.Core.List.{List, [], _∷_, _++_}
 use lib.Dec.{eqb, ltb, leb}
 use lib.ListN.{length, getD, take, drop}
 use Rattle.text.specs.Choice.{if_then_else_}
-use Rattle.text.specs.Byte.{digit, capital}
+use Rattle.text.specs.Byte.{digit, capital, symbol}
 use Rattle.text.specs.Scan.{firstFailing}
 use Rattle.refusal.specs.declared.Refusal.the-variants.{WrongLength, WrongSymbol, WrongCheck}
 use Rattle.refusal.specs.Table.{numberOf, Verdict}
-use Rattle.check_characters.specs.Symbol.{symbol, valueOf}
+use Rattle.check_characters.specs.Symbol.{valueOf}
 use Rattle.check_characters.specs.declared.iban.IbanAnswer.{IbanAnswer}
 use Rattle.check_characters.specs.declared.iban.IbanAnswer.the-variants.{Accepted, Refused}
 

@@ -6,11 +6,10 @@ use mathlib.Core.List.{List, [], _∷_, _++_}
 use lib.Dec.{eqb, ltb}
 use lib.ListN.{length, getD, drop, replicate}
 use Rattle.text.specs.Choice.{if_then_else_}
-use Rattle.text.specs.Byte.{digit}
+use Rattle.text.specs.Byte.{digit, symbol}
 use Rattle.text.specs.Scan.{firstFailing}
 use Rattle.refusal.specs.declared.Refusal.the-variants.{OutputTooShort, WrongLength, WrongSymbol, WrongCheck}
 use Rattle.refusal.specs.Table.{numberOf, Verdict}
-use Rattle.check_characters.specs.Symbol.{symbol}
 use Rattle.check_characters.specs.Mod37.{passes, checkOf}
 use Rattle.check_characters.specs.declared.number.Kind.{Kind}
 use Rattle.check_characters.specs.declared.number.Kind.the-variants.{Tracking, Label}

@@ -1,13 +1,8 @@
 -- Document 01, 'Check characters': the symbols and their values.
 use Prim.Native.Nat.{ℕ, _+_, _-_}
-use mathlib.Core.Bool.{Bool, _||_}
 use lib.Dec.{ltb}
 use Rattle.text.specs.Choice.{if_then_else_}
 use Rattle.text.specs.Byte.{digit, capital}
-
--- "A-Z, 0-9"
-abbrev pub symbol : ℕ → Bool
-symbol b = digit b || capital b
 
 -- "Digits have values 0 to 9, A to Z 10 to 35." (Any other byte has the value 0: no sentence asks for it.)
 unfoldable pub valueOf : ℕ → ℕ

@@ -95,5 +95,5 @@ fn is_allowed(i: usize, b: u8) -> bool
     if i < 4 {
         return text::is_digit(b);
     }
-    symbol::is_symbol(b)
+    text::is_symbol(b)
 }

@@ -133,16 +133,16 @@ fn is_allowed(kind: Kind, i: usize, b: u8) -> bool
             if i < 14 {
                 return text::is_digit(b);
             }
-            symbol::is_symbol(b)
+            text::is_symbol(b)
         }
         Kind::Label => {
             if i < 7 {
-                return symbol::is_symbol(b);
+                return text::is_symbol(b);
             }
             if i < 27 {
                 return text::is_digit(b);
             }
-            symbol::is_symbol(b)
+            text::is_symbol(b)
         }
     }
 }

@@ -1,17 +1,7 @@
 // Symbols, the digits and the capitals, and their values.
 ghost use mathlib.Core.Path.{_≡_};
 ghost use Prim.Native.Nat.{_<_};
-ghost use Rattle.check_characters.specs.Symbol.{symbol, valueOf, symbolOf};
-
-// Whether a byte is a digit or a capital.
-pub fn is_symbol(b: u8) -> bool
-    ensures { λ r. ⌜ r ≡ symbol b ⌝ }
-{
-    if text::is_digit(b) {
-        return true;
-    }
-    text::is_capital(b)
-}
+ghost use Rattle.check_characters.specs.Symbol.{valueOf, symbolOf};
 
 // The value of a symbol; 0 for any other byte.
 pub fn value(b: u8) -> u8

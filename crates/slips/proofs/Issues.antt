@@ -12,12 +12,13 @@ use lib.Seq.{take-at, getD-take, getD-at, append-snoc}
 use borrow.Author.Tests.{eqb-true, eq-eqb, ltb-false, le-ltb}
 use Rattle.refusal.specs.declared.Refusal.{Refusal}
 use Rattle.refusal.specs.declared.Refusal.the-variants.{OutputTooShort, WrongLength, WrongSymbol}
+use Rattle.text.specs.Byte.{symbol}
 use Rattle.text.specs.Choice.{if_then_else_}
 use Rattle.text.proofs.Choices.{came-then, came-else, true-or-false}
 use Rattle.text.proofs.Numbers.{le-or-lt}
 use Rattle.text.proofs.Finite.{every, every-at}
 use Rattle.text.proofs.Scans.{none-fails, all-pass}
-use Rattle.check_characters.specs.Symbol.{symbol, valueOf, symbolOf}
+use Rattle.check_characters.specs.Symbol.{valueOf, symbolOf}
 use Rattle.check_characters.specs.Mod37.{step, carry, closes, passes, firstValue, checkOf}
 use Rattle.check_characters.specs.Number.{lengthOf, allowed, wrongSymbol, issueAs, issueAnswer, issuedTo, Issues}
 use Rattle.check_characters.specs.declared.number.Kind.{Kind}

@@ -12,13 +12,13 @@ use lib.Seq.{split-at, take-suc, take-all, getD-at}
 use borrow.Author.Tests.{eqb-true, eqb-false, eq-eqb, ltb-false, le-ltb}
 use Rattle.refusal.specs.declared.Refusal.{Refusal}
 use Rattle.refusal.specs.declared.Refusal.the-variants.{WrongLength, WrongSymbol, WrongCheck}
-use Rattle.text.specs.Byte.{digit, capital}
+use Rattle.text.specs.Byte.{digit, capital, symbol}
 use Rattle.text.specs.Choice.{if_then_else_}
 use Rattle.text.proofs.Choices.{came-then, came-else, or-cases, clash, true-or-false}
 use Rattle.text.proofs.Numbers.{le-or-lt}
 use Rattle.text.proofs.Bytes.{digit-range, capital-range}
 use Rattle.text.proofs.Scans.{none-fails, all-pass}
-use Rattle.check_characters.specs.Symbol.{symbol, valueOf}
+use Rattle.check_characters.specs.Symbol.{valueOf}
 use Rattle.check_characters.specs.Mod37.{step, carryFrom, carry, passes}
 use Rattle.check_characters.specs.Number.{lengthOf, allowed, wrongSymbol, checkedAs, checked}
 use Rattle.check_characters.specs.declared.number.Kind.{Kind}

@@ -1,7 +1,10 @@
 -- Tests and choices taken apart, for any answer.
-use mathlib.Core.Path.{_≡_, refl}
-use mathlib.Core.Bool.{Bool, true, false, _&&_, _||_, true≢false, false≢true}
+use Prim.Native.Nat.{ℕ, _≤_, _<_}
+use mathlib.Core.Path.{_≡_, refl, sym, _∙_}
+use mathlib.Core.Bool.{Bool, true, false, not, _&&_, _||_, true≢false, false≢true}
 use mathlib.Core.Logic.{_⊎_, inl, inr}
+use lib.Dec.{leb, eqb}
+use borrow.Author.Tests.{le-leb, lt-leb, eq-eqb, ne-eqb, not-true, not-false}
 use Rattle.text.specs.Choice.{if_then_else_}
 
 pub and-left : (a b : Bool) → (a && b) ≡ true → a ≡ true
@@ -46,3 +49,59 @@ module _ {A : Type 0} (t : Bool) (a b c : A) where
       go : (t : Bool) → (if t then a else b) ≡ c → (t ≡ false) × (b ≡ c)
       go true e = absurd (n e)
       go false e = (refl, e)
+
+-- tests joined, as a row of early returns meets them: the first fails, or it holds and u is the answer of the rest
+module _ (c : Bool) where
+  pub test-fails : (t a : Bool) → t ≡ a → not t ≡ true → false ≡ (a && c)
+  test-fails t a e q = let g : a ≡ false = sym e ∙ not-true t q in simp g
+
+  pub test-holds : (u t a : Bool) → t ≡ a → not t ≡ false → u ≡ c → u ≡ (a && c)
+  test-holds u t a e q f = let g : a ≡ true = sym e ∙ not-false t q in simp g f
+
+  pub test-refuses : (t a : Bool) → t ≡ a → t ≡ true → false ≡ (not a && c)
+  test-refuses t a e q = let g : a ≡ true = sym e ∙ q in simp g
+
+  pub test-spares : (u t a : Bool) → t ≡ a → t ≡ false → u ≡ c → u ≡ (not a && c)
+  test-spares u t a e q f = let g : a ≡ false = sym e ∙ q in simp g f
+
+  module _ (a b : ℕ) where
+    pub le-fails : b < a → false ≡ (leb a b && c)
+    le-fails h = simp (lt-leb a b)
+
+    pub le-holds : (u : Bool) → a ≤ b → u ≡ c → u ≡ (leb a b && c)
+    le-holds u h f = simp (le-leb a b) f
+
+    pub eq-fails : (a ≡ b → ⊥) → false ≡ (eqb a b && c)
+    eq-fails n = simp (ne-eqb a b n)
+
+    pub eq-holds : (u : Bool) → a ≡ b → u ≡ c → u ≡ (eqb a b && c)
+    eq-holds u e f = simp (eq-eqb a b e) f
+
+pub test-held : (t a : Bool) → t ≡ a → not t ≡ false → a ≡ true
+test-held t a e q = sym e ∙ not-false t q
+
+-- a number that was told to be x, compared
+pub le-told : (a n x : ℕ) → n ≡ x → leb a n ≡ leb a x
+le-told a n x e = rw e
+
+-- a choice, as the code that makes it meets it: the test t or the comparison of two numbers, and x the answer of the arm taken
+module _ {A : Type 0} (x a b : A) where
+  module _ (t c : Bool) (e : t ≡ c) where
+    pub takes-then : t ≡ true → x ≡ a → x ≡ (if c then a else b)
+    takes-then q f = let g : c ≡ true = sym e ∙ q in rw g f
+
+    pub takes-else : t ≡ false → x ≡ b → x ≡ (if c then a else b)
+    takes-else q f = let g : c ≡ false = sym e ∙ q in rw g f
+
+    pub not-takes-then : not t ≡ false → x ≡ a → x ≡ (if c then a else b)
+    not-takes-then q f = takes-then (not-false t q) f
+
+    pub not-takes-else : not t ≡ true → x ≡ b → x ≡ (if c then a else b)
+    not-takes-else q f = takes-else (not-true t q) f
+
+  module _ (m n : ℕ) where
+    pub eq-takes-then : m ≡ n → x ≡ a → x ≡ (if eqb m n then a else b)
+    eq-takes-then e f = rw (eq-eqb m n e) f
+
+    pub eq-takes-else : (m ≡ n → ⊥) → x ≡ b → x ≡ (if eqb m n then a else b)
+    eq-takes-else e f = rw (ne-eqb m n e) f

@@ -4,3 +4,4 @@ pub mod Bytes
 pub mod Scans
 pub mod Placing
 pub mod Finite
+pub mod Decimals

@@ -1,7 +1,9 @@
--- The classes of a byte (document 01: "digits", "capitals").
+-- The classes of a byte (document 01, 'The file').
 use Prim.Native.Nat.{ℕ}
-use mathlib.Core.Bool.{Bool, _&&_}
+use mathlib.Core.Bool.{Bool, _&&_, _||_}
 use lib.Dec.{leb}
+use Rattle.text.specs.Quoted.{bytes}
+use Rattle.text.specs.Scan.{among}
 
 -- 0 to 9
 abbrev pub digit : ℕ → Bool
@@ -10,3 +12,19 @@ digit b = leb 48 b && leb b 57
 -- A to Z
 abbrev pub capital : ℕ → Bool
 capital b = leb 65 b && leb b 90
+
+-- a to z
+abbrev pub small : ℕ → Bool
+small b = leb 97 b && leb b 122
+
+-- "capitals or digits"
+abbrev pub symbol : ℕ → Bool
+symbol b = digit b || capital b
+
+-- "Text bytes are 32 to 126 and 160 to 255."
+abbrev pub textByte : ℕ → Bool
+textByte b = (leb 32 b && leb b 126) || (leb 160 b && leb b 255)
+
+-- "a-z A-Z 0-9 . , : ' + - / ( ) ? and space"
+abbrev pub purposeByte : ℕ → Bool
+purposeByte b = small b || (symbol b || among b (bytes ".,:'+-/()? "))

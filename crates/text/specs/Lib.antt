@@ -1,5 +1,6 @@
 pub mod Choice
-pub mod Byte
-pub mod Scan
-pub mod Placed
 pub mod Quoted
+pub mod Scan
+pub mod Byte
+pub mod Decimal
+pub mod Placed

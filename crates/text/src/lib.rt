@@ -1,9 +1,11 @@
-// Bytes and runs of bytes: the classes of a byte, and a run written into an output. What every crate of the desk stands on.
+// Bytes and runs of bytes: the classes of a byte, two runs compared, and a run written into an output. What every crate of
+// the desk stands on.
 ghost use mathlib.Core.Path.{_≡_};
 ghost use Prim.Native.Nat.{_+_, _≤_};
 ghost use mathlib.Core.List.{_++_};
 ghost use lib.ListN.{length, take, drop};
-ghost use Rattle.text.specs.Byte.{digit, capital};
+ghost use Rattle.text.specs.Byte.{digit, capital, small, symbol, textByte, purposeByte};
+ghost use Rattle.text.specs.Scan.{among, same};
 ghost use Rattle.text.specs.Placed.{placed, written};
 
 // Whether a byte is one of 0 to 9.
@@ -24,6 +26,83 @@ pub fn is_capital(b: u8) -> bool
         return false;
     }
     b <= 90
+}
+
+// Whether a byte is a capital or a digit.
+pub fn is_symbol(b: u8) -> bool
+    ensures { λ r. ⌜ r ≡ symbol b ⌝ }
+{
+    if is_digit(b) {
+        return true;
+    }
+    is_capital(b)
+}
+
+// Whether a byte may stand in a file's text.
+pub fn is_text_byte(b: u8) -> bool
+    ensures { λ r. ⌜ r ≡ textByte b ⌝ }
+{
+    if b < 32 {
+        return false;
+    }
+    if b <= 126 {
+        return true;
+    }
+    160 <= b
+}
+
+// Whether a byte may stand in a payment purpose.
+pub fn is_purpose_byte(b: u8) -> bool
+    ensures { λ r. ⌜ r ≡ purposeByte b ⌝ }
+{
+    if is_small(b) {
+        return true;
+    }
+    if is_symbol(b) {
+        return true;
+    }
+    is_among(b, b".,:'+-/()? ")
+}
+
+// Whether a byte is one of a to z.
+fn is_small(b: u8) -> bool
+    ensures { λ r. ⌜ r ≡ small b ⌝ }
+{
+    if b < 97 {
+        return false;
+    }
+    b <= 122
+}
+
+// Whether b is one of these bytes.
+fn is_among(b: u8, s: &[u8]) -> bool
+    ensures { λ r. ⌜ r ≡ among b (now (s .entry)) ⌝ }
+{
+    let mut i: usize = 0;
+    while i < s.len() {
+        if b == s[i] {
+            return true;
+        }
+        i += 1;
+    }
+    false
+}
+
+// Whether two runs are equal, byte for byte.
+pub fn equal(a: &[u8], b: &[u8]) -> bool
+    ensures { λ r. ⌜ r ≡ same (now (a .entry)) (now (b .entry)) ⌝ }
+{
+    if a.len() != b.len() {
+        return false;
+    }
+    let mut i: usize = 0;
+    while i < a.len() {
+        if a[i] != b[i] {
+            return false;
+        }
+        i += 1;
+    }
+    true
 }
 
 // Writes src into out from the place at on, where it fits there; otherwise out stays as it was.

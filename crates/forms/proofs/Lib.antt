@@ -1,0 +1,6 @@
+pub mod Shapes
+pub mod Decimals
+pub mod Amounts
+pub mod Dates
+pub mod Features
+pub mod Examples

@@ -1,0 +1,33 @@
+-- Document 01, 'The file': "Amount: 1 to 6 digits, a point, two digits; no leading zero before another digit; at least 0.01."
+use Prim.Native.Nat.{ℕ, _+_, _-_, _*_}
+use mathlib.Core.Bool.{Bool, _&&_, not}
+use mathlib.Core.List.{List}
+use lib.Dec.{leb, eqb}
+use lib.ListN.{length, take, drop, getD}
+use Rattle.text.specs.Decimal.{number}
+use Rattle.forms.specs.Shape.{allDigits, digits}
+
+-- what stands before the point, and the two bytes behind it
+abbrev pub whole : List ℕ → List ℕ
+whole s = take (length s - 3) s
+
+abbrev pub hundredths : List ℕ → List ℕ
+hundredths s = drop (length s - 2) s
+
+-- the amount in cents
+unfoldable pub cents : List ℕ → ℕ
+cents s = 100 * number (whole s) + number (hundredths s)
+
+-- "1 to 6 digits, a point, two digits"
+unfoldable pub decimal : List ℕ → Bool
+decimal s =
+    leb 1 (length (whole s)) &&
+    (leb (length (whole s)) 6 && (allDigits (whole s) && (eqb (getD s (length s - 3) 0) 46 && digits 2 (hundredths s))))
+
+-- "leading zero before another digit"
+unfoldable pub leadingZero : List ℕ → Bool
+leadingZero s = leb 2 (length (whole s)) && eqb (getD s 0 0) 48
+
+-- "at least 0.01"
+unfoldable pub amount : List ℕ → Bool
+amount s = decimal s && (not (leadingZero s) && leb 1 (cents s))

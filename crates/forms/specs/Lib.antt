@@ -1,0 +1,4 @@
+pub mod Shape
+pub mod Amount
+pub mod Date
+pub mod Feature

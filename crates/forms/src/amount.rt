@@ -1,0 +1,73 @@
+// An amount: its form, and its cents.
+ghost use mathlib.Core.Path.{_≡_};
+ghost use Prim.Native.Nat.{_≤_};
+ghost use lib.ListN.{length};
+ghost use Rattle.text.specs.Choice.{if_then_else_};
+ghost use Rattle.forms.specs.Amount.{cents, decimal, leadingZero, amount};
+use super::decimal::number;
+use super::shape::all_digits;
+use super::shape::is_digits;
+
+// Whether s is an amount.
+pub fn is_amount(s: &[u8]) -> bool
+    ensures { λ r. ⌜ r ≡ amount (now (s .entry)) ⌝ }
+{
+    if !is_decimal(s) {
+        return false;
+    }
+    if has_leading_zero(s) {
+        return false;
+    }
+    1 <= cents_in(s)
+}
+
+// The cents of an amount, 0 for anything else.
+pub fn cents_of(s: &[u8]) -> u64
+    ensures { λ r. ⌜ r ≡ (if amount (now (s .entry)) then cents (now (s .entry)) else 0) ⌝ }
+{
+    if !is_amount(s) {
+        return 0;
+    }
+    cents_in(s)
+}
+
+// Whether s is 1 to 6 digits, a point and two digits.
+fn is_decimal(s: &[u8]) -> bool
+    ensures { λ r. ⌜ r ≡ decimal (now (s .entry)) ⌝ }
+{
+    if s.len() < 4 {
+        return false;
+    }
+    if 9 < s.len() {
+        return false;
+    }
+    let point = s.len() - 3;
+    if !all_digits(&s[0..point]) {
+        return false;
+    }
+    if s[point] != 46 {
+        return false;
+    }
+    is_digits(&s[point + 1..], 2)
+}
+
+// Whether another digit follows a leading zero.
+fn has_leading_zero(s: &[u8]) -> bool
+    ensures { λ r. ⌜ r ≡ leadingZero (now (s .entry)) ⌝ }
+{
+    if s.len() < 5 {
+        return false;
+    }
+    s[0] == 48
+}
+
+// The cents where the lengths are known to be right.
+fn cents_in(s: &[u8]) -> u64
+    requires { ⌜ (4 ≤ length (now s)) × (length (now s) ≤ 9) ⌝ }
+    ensures { λ r. ⌜ r ≡ cents (now (s .entry)) ⌝ }
+{
+    let point = s.len() - 3;
+    let whole = number(&s[0..point]);
+    let hundredths = number(&s[point + 1..]);
+    100 * (whole as u64) + (hundredths as u64)
+}
