@@ -3,4 +3,3 @@ pub mod Decimals
 pub mod Amounts
 pub mod Dates
 pub mod Features
-pub mod Examples

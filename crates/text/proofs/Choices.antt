@@ -105,3 +105,17 @@ module _ {A : Type 0} (x a b : A) where
 
     pub eq-takes-else : (m ≡ n → ⊥) → x ≡ b → x ≡ (if eqb m n then a else b)
     eq-takes-else e f = rw (ne-eqb m n e) f
+
+-- tests joined by or, as a row of early returns meets them: the first holds, or it fails and u is the answer of the rest
+module _ (c : Bool) where
+  pub or-here : (t a : Bool) → t ≡ a → t ≡ true → true ≡ (a || c)
+  or-here t a e q = let g : a ≡ true = sym e ∙ q in simp g
+
+  pub or-next : (u t a : Bool) → t ≡ a → t ≡ false → u ≡ c → u ≡ (a || c)
+  or-next u t a e q f = let g : a ≡ false = sym e ∙ q in simp g f
+
+  pub eq-or-here : (m n : ℕ) → m ≡ n → true ≡ (eqb m n || c)
+  eq-or-here m n e = simp (eq-eqb m n e)
+
+  pub eq-or-next : (u : Bool) (m n : ℕ) → (m ≡ n → ⊥) → u ≡ c → u ≡ (eqb m n || c)
+  eq-or-next u m n e f = simp (ne-eqb m n e) f

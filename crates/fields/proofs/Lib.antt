@@ -1,0 +1,4 @@
+pub mod Records
+pub mod Tables
+pub mod Forms
+pub mod Tests

@@ -1,0 +1,17 @@
+-- `form::shipment_form` meets its contract: each arm is a row of the table.
+use Rattle.fields.specs.Form.{formsOf}
+use Rattle.fields.proofs.Forms.{row-arm, shipment-rest}
+use borrow.Author.Needs.{needs}
+use Rattle.fields.proofs.form.shipment_form.Statement.{statement}
+use Rattle.fields.proofs.form.shipment_form.Tie as tie
+
+ruleset laws = (needs, row-arm, shipment-rest)
+
+pub shipment-form-spec : {M : Type 1} → statement M
+unfolding formsOf
+shipment-form-spec =
+    tie.close
+    (tie.spec
+    (λ c κs. search laws) (λ c κs. search laws) (λ c κs. search laws) (λ c κs. search laws) (λ c κs. search laws)
+    (λ c κs. search laws) (λ c. search laws) (λ c. search laws) (λ c. search laws) (λ c. search laws) (λ c. search laws)
+    (λ c. search laws) (λ c. search laws) (λ c. search laws))

@@ -1,0 +1,4 @@
+pub mod Record
+pub mod Table
+pub mod Form
+pub mod Field

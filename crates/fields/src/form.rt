@@ -1,0 +1,123 @@
+// The form of each filled field, record by record. Beside a field stands the one in front of it.
+ghost use mathlib.Core.Path.{_≡_};
+ghost use Rattle.fields.specs.Form.{postCode, isCash, reference, isIban, formsOf, hasFormIn, hasForm};
+use crate::record::Record;
+use check_characters::IbanAnswer;
+
+// Whether a filled field has its form.
+pub fn has_form(kind: Record, number: usize, beside: &[u8], field: &[u8]) -> bool
+    ensures { λ r. ⌜ r ≡ hasForm kind number (now (beside .entry)) (now (field .entry)) ⌝ }
+{
+    match kind {
+        Record::Header => header_form(number, beside, field),
+        Record::Sender => sender_form(number, beside, field),
+        Record::Shipment => shipment_form(number, beside, field),
+        Record::Parcel => parcel_form(number, beside, field),
+        Record::Product => true,
+        Record::Feature => feature_form(number, beside, field),
+    }
+}
+
+// Whether a feature code is one of those that collect cash.
+pub fn is_cash(code: &[u8]) -> bool
+    ensures { λ r. ⌜ r ≡ isCash (now (code .entry)) ⌝ }
+{
+    if text::equal(code, b"006") {
+        return true;
+    }
+    text::equal(code, b"022")
+}
+
+fn header_form(number: usize, beside: &[u8], field: &[u8]) -> bool
+    ensures { λ r. ⌜ r ≡ hasFormIn (formsOf Record.Header) number (now (beside .entry)) (now (field .entry)) ⌝ }
+{
+    match number {
+        1 => forms::shape::is_customer(field),
+        3 => forms::date::is_date_time(field),
+        4 => forms::date::is_date_time(field),
+        5 => forms::shape::is_digits(field, 4),
+        6 => forms::shape::is_version(field),
+        _ => true,
+    }
+}
+
+fn sender_form(number: usize, beside: &[u8], field: &[u8]) -> bool
+    ensures { λ r. ⌜ r ≡ hasFormIn (formsOf Record.Sender) number (now (beside .entry)) (now (field .entry)) ⌝ }
+{
+    match number {
+        5 => forms::shape::is_capitals(field, 2),
+        6 => is_post_code(beside, field),
+        _ => true,
+    }
+}
+
+fn shipment_form(number: usize, beside: &[u8], field: &[u8]) -> bool
+    ensures { λ r. ⌜ r ≡ hasFormIn (formsOf Record.Shipment) number (now (beside .entry)) (now (field .entry)) ⌝ }
+{
+    match number {
+        1 => forms::shape::all_digits(field),
+        2 => forms::shape::all_digits(field),
+        7 => forms::shape::is_capitals(field, 2),
+        8 => is_post_code(beside, field),
+        20 => forms::shape::is_capitals(field, 2),
+        21 => is_post_code(beside, field),
+        39 => false,
+        _ => true,
+    }
+}
+
+fn parcel_form(number: usize, beside: &[u8], field: &[u8]) -> bool
+    ensures { λ r. ⌜ r ≡ hasFormIn (formsOf Record.Parcel) number (now (beside .entry)) (now (field .entry)) ⌝ }
+{
+    match number {
+        1 => forms::shape::is_digits(field, 22),
+        _ => true,
+    }
+}
+
+fn feature_form(number: usize, beside: &[u8], field: &[u8]) -> bool
+    ensures { λ r. ⌜ r ≡ hasFormIn (formsOf Record.Feature) number (now (beside .entry)) (now (field .entry)) ⌝ }
+{
+    match number {
+        1 => forms::feature::is_feature(field),
+        2 => is_reference(beside, field),
+        3 => forms::amount::is_amount(field),
+        4 => forms::shape::is_capitals(field, 3),
+        6 => is_iban(field),
+        7 => forms::shape::is_bic(field),
+        8 => forms::shape::is_purpose(field),
+        9 => forms::shape::is_mail(field),
+        _ => true,
+    }
+}
+
+// Whether a post code is right for its country.
+fn is_post_code(country: &[u8], field: &[u8]) -> bool
+    ensures { λ r. ⌜ r ≡ postCode (now (country .entry)) (now (field .entry)) ⌝ }
+{
+    if text::equal(country, b"AT") {
+        return forms::shape::is_digits(field, 4);
+    }
+    true
+}
+
+// Whether a reference is right for its feature code.
+fn is_reference(code: &[u8], field: &[u8]) -> bool
+    ensures { λ r. ⌜ r ≡ reference (now (code .entry)) (now (field .entry)) ⌝ }
+{
+    if is_cash(code) {
+        return forms::shape::is_purpose(field);
+    }
+    true
+}
+
+// Whether the check of an IBAN passes.
+fn is_iban(field: &[u8]) -> bool
+    ensures { λ r. ⌜ r ≡ isIban (now (field .entry)) ⌝ }
+{
+    let answer = check_characters::check_iban(field);
+    match answer {
+        IbanAnswer::Accepted => true,
+        IbanAnswer::Refused { why: _, place: _ } => false,
+    }
+}

@@ -1,0 +1,246 @@
+//! Calls of the other entry points: one line, one field, the writer, the purpose and issuing.
+
+use super::damage::file_case;
+use super::files::{take_apart, valid_file_of};
+use super::values::number_body;
+use super::{Damage, Rng};
+
+/// A call of the line reader and, with the number, of the field finder.
+#[derive(Clone, Debug)]
+pub struct LineCall {
+    pub file: Vec<u8>,
+    pub offset: usize,
+    pub number: usize,
+}
+
+/// Mostly at a line's start, sometimes anywhere in the file or past it.
+pub fn line_call(rng: &mut Rng) -> LineCall {
+    let file = file_case(rng).file;
+    let starts: Vec<usize> = (0..file.len())
+        .filter(|at| *at == 0 || file[..*at].ends_with(b"\r\n"))
+        .collect();
+    let offset = match rng.below(20) {
+        0 => file.len(),
+        1 => file.len() + 1,
+        2 => usize::MAX,
+        3..=5 => rng.below(file.len() + 1),
+        _ if starts.is_empty() => 0,
+        _ => rng.pick(&starts),
+    };
+    let number = match rng.below(10) {
+        0 => 0,
+        1 => usize::MAX,
+        2 => rng.pick(&[10, 11, 16, 17, 24, 25, 40, 41]),
+        _ => rng.between(1, 41),
+    };
+    LineCall {
+        file,
+        offset,
+        number,
+    }
+}
+
+/// A call of the writer: what is lent is an output of so many bytes.
+#[derive(Clone, Debug)]
+pub struct WriterCall {
+    pub record: u32,
+    pub text: Vec<u8>,
+    pub ends: Vec<usize>,
+    pub output: usize,
+    pub fill: usize,
+}
+
+impl WriterCall {
+    /// A call for these fields whose output just takes the line.
+    pub fn new(record: u32, fields: &[Vec<u8>]) -> WriterCall {
+        let text = fields.concat();
+        let ends = fields
+            .iter()
+            .scan(0, |end, field| {
+                *end += field.len();
+                Some(*end)
+            })
+            .collect();
+        WriterCall {
+            record,
+            output: 3 + fields.len() + text.len() + 2,
+            text,
+            ends,
+            fill: 0,
+        }
+    }
+}
+
+/// An accepted line taken apart, with room for it in the output.
+pub fn valid_writer_call(rng: &mut Rng) -> WriterCall {
+    let lines = rng.pick(&[5, 12]);
+    let mut lines = take_apart(&valid_file_of(rng, lines));
+    lines.pop(); // what follows the last CR LF: nothing
+    let line = &lines[rng.below(lines.len())];
+    let record = match &line[0][..] {
+        b"010" => 10,
+        b"020" => 20,
+        b"030" => 30,
+        b"040" => 40,
+        b"050" => 50,
+        _ => 60,
+    };
+    let mut call = WriterCall::new(record, &line[1..]);
+    if rng.percent(70) {
+        call.fill = rng.below(100);
+        call.output += call.fill + rng.pick(&[0, 1, 50]);
+    }
+    call
+}
+
+/// A valid call, then damaged up to three times; some are still accepted.
+pub fn writer_call(rng: &mut Rng) -> WriterCall {
+    let mut call = valid_writer_call(rng);
+    for _ in 0..rng.pick(&[0, 1, 1, 1, 1, 2, 3]) {
+        damage_writer_call(rng, &mut call);
+    }
+    call
+}
+
+fn damage_writer_call(rng: &mut Rng, call: &mut WriterCall) {
+    const RECORDS: &[u32] = &[
+        0, 1, 9, 10, 11, 20, 30, 40, 41, 42, 50, 60, 61, 70, 255, 266, 65_546, u32::MAX,
+    ];
+    let end = rng.below(call.ends.len().max(1));
+    match rng.below(16) {
+        0 => call.record = rng.pick(RECORDS),
+        1 => drop(call.ends.pop()),
+        2 => call.ends.push(call.text.len()),
+        3 => call.ends.clear(),
+        4 => call.text.clear(),
+        5 => {
+            call.ends.clear();
+            call.text.clear();
+        }
+        6 if !call.ends.is_empty() => {
+            // Falls, rises past the text, or only moves a border between two fields.
+            call.ends[end] = match rng.below(5) {
+                0 => 0,
+                1 => usize::MAX,
+                2 => call.ends[end].wrapping_sub(1),
+                3 => call.ends[end].wrapping_add(1),
+                _ => rng.below(call.text.len() + 2),
+            }
+        }
+        7 => drop(call.text.pop()),
+        8 => call.text.push(rng.byte()),
+        9 if !call.text.is_empty() => {
+            let place = rng.below(call.text.len());
+            call.text[place] = rng.byte();
+        }
+        10 if !call.text.is_empty() => {
+            let place = rng.below(call.text.len());
+            call.text[place] = rng.pick(b";\r\n\0\x7F\x9F");
+        }
+        // A field made longer, with the ends behind it moved along.
+        11 if call.ends.get(end).is_some_and(|at| *at <= call.text.len()) => {
+            let extra = rng.pick(&[1, 2, 10, 40, 64, 100]);
+            let (place, byte) = (call.ends[end], rng.byte());
+            let added = std::iter::repeat_n(byte, extra);
+            call.text.splice(place..place, added);
+            for later in &mut call.ends[end..] {
+                *later = later.saturating_add(extra);
+            }
+            call.output += extra;
+        }
+        // A field emptied, with the ends behind it moved along.
+        12 if end < call.ends.len() => {
+            let start = if end == 0 { 0 } else { call.ends[end - 1] };
+            let stop = call.ends[end];
+            if start <= stop && stop <= call.text.len() {
+                call.text.drain(start..stop);
+                for later in &mut call.ends[end..] {
+                    *later = later.saturating_sub(stop - start);
+                }
+            }
+        }
+        13 => call.output = call.output.saturating_sub(1),
+        14 => call.output = rng.below(call.output + 1),
+        _ => call.fill = rng.pick(&[0, 1, call.output, call.output + 1, usize::MAX]),
+    }
+}
+
+/// A call of the payment purpose, with so many words and output bytes lent.
+#[derive(Clone, Debug)]
+pub struct PurposeCall {
+    pub file: Vec<u8>,
+    pub line: usize,
+    pub words: usize,
+    pub output: usize,
+}
+
+/// Mostly a cash line of an accepted file, sometimes a damaged file, another line or none.
+pub fn purpose_call(rng: &mut Rng) -> PurposeCall {
+    let (file, words) = match rng.below(10) {
+        0..=1 => {
+            let case = file_case(rng);
+            (case.file, case.words)
+        }
+        2 => {
+            let lines = rng.between(5, 60);
+            let mut file = valid_file_of(rng, lines);
+            super::damage(Damage::Spaces, rng, &mut file);
+            (file, 4096)
+        }
+        _ => {
+            let lines = rng.between(8, 60);
+            (valid_file_of(rng, lines), 4096)
+        }
+    };
+    let lines = take_apart(&file);
+    let cash: Vec<usize> = (0..lines.len())
+        .filter(|line| lines[*line].starts_with(&[b"060".to_vec(), b"006".to_vec()]))
+        .collect();
+    let line = match rng.below(20) {
+        0 => usize::MAX,
+        1 => lines.len() - 1,
+        2 => rng.below(lines.len()),
+        _ if cash.is_empty() => rng.below(lines.len()),
+        _ => rng.pick(&cash),
+    };
+    let output = match rng.below(10) {
+        0 => rng.below(35),
+        1 => 34,
+        2..=5 => 35,
+        _ => rng.between(35, 80),
+    };
+    PurposeCall {
+        file,
+        line,
+        words,
+        output,
+    }
+}
+
+/// A call of issuing: the body and how many output bytes are lent.
+#[derive(Clone, Debug)]
+pub struct IssueCall {
+    pub body: Vec<u8>,
+    pub output: usize,
+}
+
+/// Mostly a body in shape, sometimes damaged or with too short an output.
+pub fn issue_call(rng: &mut Rng) -> IssueCall {
+    let mut body = number_body(rng);
+    if rng.percent(30) {
+        let place = rng.below(body.len());
+        match rng.below(4) {
+            0 => body.truncate(place),
+            1 => body.insert(place, rng.digit()),
+            2 => body[place] = rng.capital(),
+            _ => body[place] = rng.byte(),
+        }
+    }
+    let output = match rng.below(5) {
+        0 => body.len(),
+        1 => rng.below(40),
+        2 => body.len() + 1,
+        _ => body.len() + rng.between(1, 20),
+    };
+    IssueCall { body, output }
+}

@@ -1,0 +1,442 @@
+//! The ways in which a file gets damaged.
+
+use super::files::{put_together, take_apart, valid_file, Lines};
+use super::values::{barred_iban, boundary_values, damaged_iban, text, Style};
+use super::{Outcome, Rng};
+use crate::profile::{is_cash, Record, FEATURES, LIMIT};
+
+/// One way to damage a file.
+#[derive(Clone, Copy, Debug, PartialEq, Eq, Hash)]
+pub enum Damage {
+    FlipByte,
+    InsertByte,
+    DeleteByte,
+    DropLine,
+    DuplicateLine,
+    SwapLines,
+    SwapFields,
+    AddField,
+    DropField,
+    /// Lengthens a field to its width.
+    ToWidth,
+    /// Lengthens a field to its width and one byte.
+    PastWidth,
+    EmptyRequired,
+    /// Empties a field of a 060 line that its feature may need.
+    EmptyNeeded,
+    /// Puts spaces for a field.
+    Spaces,
+    BreakLineEnd,
+    /// Repeats the identcode of the parcel before.
+    RepeatNear,
+    /// Repeats the file's first identcode in its last parcel.
+    RepeatFar,
+    Truncate,
+    TruncateAfterLine,
+    /// Adds accepted lines up to exactly 65,535 bytes.
+    GrowToLimit,
+    /// Adds accepted lines up to exactly 65,536 bytes.
+    GrowPastLimit,
+    /// Adds bytes of any kind up to exactly 65,535 bytes.
+    PadToLimit,
+    /// Adds bytes of any kind up to exactly 65,536 bytes.
+    PadPastLimit,
+    /// Puts a boundary value for an amount.
+    Amount,
+    /// Puts a boundary value for a date-time.
+    DateTime,
+    /// Puts a boundary value or a damaged one for an IBAN.
+    Iban,
+    /// Changes a feature code.
+    Feature,
+    /// Changes a record type.
+    RecordType,
+    /// Puts a boundary value for any field that has a form.
+    Form,
+}
+
+use Damage::*;
+
+impl Damage {
+    pub const ALL: [Damage; 29] = [
+        FlipByte,
+        InsertByte,
+        DeleteByte,
+        DropLine,
+        DuplicateLine,
+        SwapLines,
+        SwapFields,
+        AddField,
+        DropField,
+        ToWidth,
+        PastWidth,
+        EmptyRequired,
+        EmptyNeeded,
+        Spaces,
+        BreakLineEnd,
+        RepeatNear,
+        RepeatFar,
+        Truncate,
+        TruncateAfterLine,
+        GrowToLimit,
+        GrowPastLimit,
+        PadToLimit,
+        PadPastLimit,
+        Amount,
+        DateTime,
+        Iban,
+        Feature,
+        RecordType,
+        Form,
+    ];
+}
+
+/// A file to judge, how many words to lend, and the answer where it is known.
+#[derive(Clone, Debug)]
+pub struct FileCase {
+    pub file: Vec<u8>,
+    pub words: usize,
+    pub outcome: Outcome,
+    pub damages: Vec<Damage>,
+}
+
+/// One in five files whole, most damaged once, some up to three times. The list is mostly long
+/// enough.
+pub fn file_case(rng: &mut Rng) -> FileCase {
+    let mut file = valid_file(rng);
+    let count = match rng.below(10) {
+        0..=1 => 0,
+        2..=7 => 1,
+        8 => 2,
+        _ => 3,
+    };
+    let damages: Vec<Damage> = (0..count).map(|_| rng.pick(&Damage::ALL)).collect();
+    let mut outcome = Outcome::Accepted;
+    for kind in &damages {
+        let alone = damage(*kind, rng, &mut file);
+        outcome = match damages.len() {
+            1 => alone,
+            _ => Outcome::Unknown,
+        };
+    }
+    let starts = line_starts(&file);
+    let words = match rng.below(10) {
+        0..=4 => starts.len(),
+        5..=6 => 4096,
+        7 => starts.len() + rng.between(1, 3),
+        8 => starts.len().saturating_sub(1),
+        _ => rng.between(0, starts.len()),
+    };
+    if words < starts.len() {
+        outcome = match outcome {
+            Outcome::Accepted => Outcome::refused(11, starts[words]),
+            _ => Outcome::Unknown,
+        };
+    }
+    FileCase {
+        file,
+        words,
+        outcome,
+        damages,
+    }
+}
+
+/// Where the lines of a file start that ends in CR LF.
+fn line_starts(file: &[u8]) -> Vec<usize> {
+    let mut starts = vec![0];
+    starts.extend((2..=file.len()).filter(|at| file[..*at].ends_with(b"\r\n")));
+    starts.retain(|start| *start < file.len());
+    starts
+}
+
+/// Damages a file in one way. The outcome is that of a file which was accepted before, judged with
+/// a list that is long enough. A damage that finds nothing to damage leaves the file as it was.
+pub fn damage(kind: Damage, rng: &mut Rng, file: &mut Vec<u8>) -> Outcome {
+    match kind {
+        FlipByte | InsertByte | DeleteByte | Truncate => damage_bytes(kind, rng, file),
+        GrowToLimit => grow(rng, file, LIMIT),
+        GrowPastLimit => grow(rng, file, LIMIT + 1),
+        PadToLimit => pad(rng, file, LIMIT),
+        PadPastLimit => pad(rng, file, LIMIT + 1),
+        BreakLineEnd => break_line_end(rng, file),
+        _ => {
+            let mut lines = take_apart(file);
+            if lines.len() == 1 {
+                return Outcome::Unknown;
+            }
+            let outcome = damage_lines(kind, rng, &mut lines);
+            *file = put_together(&lines);
+            outcome
+        }
+    }
+}
+
+fn damage_bytes(kind: Damage, rng: &mut Rng, file: &mut Vec<u8>) -> Outcome {
+    let place = rng.below(file.len() + 1);
+    match kind {
+        InsertByte => file.insert(place, rng.byte()),
+        _ if place == file.len() => {}
+        FlipByte if rng.percent(30) => file[place] ^= 1 << rng.below(8),
+        FlipByte => file[place] = rng.byte(),
+        DeleteByte => drop(file.remove(place)),
+        _ => file.truncate(place),
+    }
+    Outcome::Unknown
+}
+
+/// Adds 060 lines to an exact length, which is possible from 18 bytes of room on.
+fn grow(rng: &mut Rng, file: &mut Vec<u8>, length: usize) -> Outcome {
+    const SHORTEST: usize = 18;
+    const LONGEST: usize = SHORTEST + 64 + 64 + 35 + 40;
+    let shortest_only = rng.percent(30);
+    if file.len() + SHORTEST > length {
+        return Outcome::Unknown;
+    }
+    while file.len() < length {
+        let room = length - file.len();
+        let size = match room {
+            _ if room <= LONGEST => room,
+            _ if shortest_only => SHORTEST,
+            _ => rng.between(SHORTEST, LONGEST.min(room - SHORTEST)),
+        };
+        let mut extra = size - SHORTEST;
+        let mut filler = |width: usize| {
+            let length = extra.min(width);
+            extra -= length;
+            "x".repeat(length)
+        };
+        let (second, fifth, eighth, tenth) = (filler(64), filler(64), filler(35), filler(40));
+        file.extend(format!("060;004;{second};;;{fifth};;;{eighth};;{tenth}\r\n").bytes());
+    }
+    match length {
+        LIMIT => Outcome::Accepted,
+        _ => Outcome::refused(1, LIMIT),
+    }
+}
+
+/// Adds any bytes to an exact length.
+fn pad(rng: &mut Rng, file: &mut Vec<u8>, length: usize) -> Outcome {
+    let only = rng.percent(50).then(|| rng.byte());
+    while file.len() < length {
+        file.push(only.unwrap_or_else(|| rng.byte()));
+    }
+    match file.len() > LIMIT {
+        true => Outcome::refused(1, LIMIT),
+        false => Outcome::Unknown,
+    }
+}
+
+fn break_line_end(rng: &mut Rng, file: &mut Vec<u8>) -> Outcome {
+    let ends: Vec<usize> = (0..file.len())
+        .filter(|at| file[*at..].starts_with(b"\r\n"))
+        .collect();
+    if ends.is_empty() {
+        return Outcome::Unknown;
+    }
+    let end = rng.pick(&ends);
+    let broken: &[u8] = rng.pick(&[
+        b"",
+        b"\r",
+        b"\n",
+        b"\n\r",
+        b"\r\r\n",
+        b"\r\n\n",
+        b"\r\n\r\n",
+        b"\0\r\n",
+        b"\t\r\n",
+        b"\x7F\r\n",
+        b"\x80\r\n",
+        b"\x9F\r\n",
+        b"\r\0\n",
+    ]);
+    file.splice(end..end + 2, broken.iter().copied());
+    match broken {
+        b"" => Outcome::Unknown,
+        b"\r\n\n" => Outcome::refused(2, end + 2),
+        b"\r\n\r\n" => Outcome::refused(3, end + 2),
+        _ => Outcome::refused(2, end),
+    }
+}
+
+/// Damage by lines and fields; the last of the lines, the rest behind the last CR LF, is left.
+fn damage_lines(kind: Damage, rng: &mut Rng, lines: &mut Lines) -> Outcome {
+    let count = lines.len() - 1;
+    let line = rng.below(count);
+    let other = rng.below(count);
+    match kind {
+        DropLine => drop(lines.remove(line)),
+        DuplicateLine if rng.percent(50) => lines.insert(line, lines[line].clone()),
+        DuplicateLine => lines.insert(other, lines[line].clone()),
+        SwapLines if rng.percent(50) && line > 0 => lines.swap(line - 1, line),
+        SwapLines => lines.swap(line, other),
+        TruncateAfterLine => {
+            lines.truncate(line);
+            lines.push(vec![Vec::new()]);
+        }
+        SwapFields => {
+            let parts = lines[line].len();
+            let (one, two) = (rng.below(parts), rng.below(parts));
+            lines[line].swap(one, two);
+        }
+        AddField => {
+            let place = rng.between(1, lines[line].len());
+            lines[line].insert(place, Vec::new());
+        }
+        DropField => {
+            let place = rng.below(lines[line].len());
+            lines[line].remove(place);
+        }
+        RepeatNear | RepeatFar => return repeat_identcode(kind, lines),
+        RecordType => change_record_type(rng, &mut lines[line][0]),
+        _ => return damage_field(kind, rng, lines, line),
+    }
+    Outcome::Unknown
+}
+
+fn repeat_identcode(kind: Damage, lines: &mut Lines) -> Outcome {
+    let is_parcel = |line: &Vec<Vec<u8>>| line[0] == b"040" && line.len() > 1;
+    let parcels: Vec<usize> = (0..lines.len())
+        .filter(|line| is_parcel(&lines[*line]))
+        .collect();
+    let (from, to) = match (&parcels[..], kind) {
+        ([], _) => return Outcome::Unknown,
+        ([only], _) => {
+            // A second parcel of the same shipment.
+            lines.insert(*only, lines[*only].clone());
+            (*only, *only + 1)
+        }
+        ([.., before, last], RepeatNear) => (*before, *last),
+        ([first, .., last], _) => (*first, *last),
+    };
+    lines[to][1] = lines[from][1].clone();
+    Outcome::refused(10, start_of(lines, to, 1))
+}
+
+fn change_record_type(rng: &mut Rng, name: &mut Vec<u8>) {
+    const NAMES: &[&[u8]] = &[
+        b"010", b"020", b"030", b"040", b"050", b"060", b"041", b"042", b"043", b"070", b"000",
+        b"10", b"0100", b" 010", b"010 ", b"O10", b"", b"   ", b"266",
+    ];
+    *name = rng.pick(NAMES).to_vec();
+}
+
+/// Damage to one field of a line, or of another line where this one has no such field.
+fn damage_field(kind: Damage, rng: &mut Rng, lines: &mut Lines, line: usize) -> Outcome {
+    let wanted: &[&[u8]] = match kind {
+        Amount | Iban | Feature | EmptyNeeded => &[b"060"],
+        DateTime => &[b"010"],
+        Form => &[b"010", b"020", b"030", b"040", b"060"],
+        _ => &[b"010", b"020", b"030", b"040", b"050", b"060"],
+    };
+    let fits = |line: usize| {
+        let parts: &Vec<Vec<u8>> = &lines[line];
+        wanted.contains(&&parts[0][..])
+            && Record::from_type(&parts[0]).is_some_and(|record| record.allows(parts.len() - 1))
+    };
+    let count = lines.len() - 1;
+    let Some(line) = (line..count).chain(0..line).find(|line| fits(*line)) else {
+        return Outcome::Unknown;
+    };
+    let record = Record::from_type(&lines[line][0]).expect("the line was chosen so");
+    let fields = lines[line].len() - 1;
+    let number = match kind {
+        Amount => 3,
+        Iban => 6,
+        Feature => 1,
+        DateTime => rng.between(3, 4),
+        EmptyNeeded => rng.pick(&[3, 4, 5, 6, 7, 9, 10]),
+        EmptyRequired => rng.pick(record.required()),
+        Form => with_form(rng, record, fields),
+        _ => rng.between(1, fields),
+    };
+    let width = match (record, number) {
+        (Record::R060, 2) if is_cash(&lines[line][1]) => 35,
+        _ => record.widths()[number - 1],
+    };
+    let start = start_of(lines, line, number);
+    let field = &mut lines[line][number];
+    match kind {
+        EmptyRequired => {
+            field.clear();
+            Outcome::refused(7, start)
+        }
+        EmptyNeeded => {
+            field.clear();
+            Outcome::Unknown
+        }
+        PastWidth => {
+            lengthen(rng, field, width + 1);
+            Outcome::refused(6, start)
+        }
+        ToWidth => {
+            lengthen(rng, field, width);
+            match boundary_values(record.number(), number) {
+                [] => Outcome::Accepted,
+                _ => Outcome::Unknown,
+            }
+        }
+        Spaces => {
+            *field = vec![b' '; rng.between(1, width)];
+            match boundary_values(record.number(), number) {
+                [] => Outcome::Accepted,
+                _ => Outcome::Unknown,
+            }
+        }
+        Iban if rng.percent(50) => {
+            *field = match rng.percent(30) {
+                true => barred_iban(rng),
+                false => damaged_iban(rng),
+            };
+            Outcome::Unknown
+        }
+        Feature => {
+            *field = match rng.percent(70) {
+                true => rng.pick(&FEATURES).to_vec(),
+                false => rng.pick(boundary_values(60, 1)).0.to_vec(),
+            };
+            Outcome::Unknown
+        }
+        Amount | DateTime | Iban => {
+            let (value, verdict) = rng.pick(boundary_values(record.number(), number));
+            *field = value.to_vec();
+            match verdict {
+                0 => Outcome::Accepted,
+                _ => Outcome::refused(verdict, start),
+            }
+        }
+        // Any field with a form: what stands beside it may settle the answer.
+        _ => {
+            *field = rng
+                .pick(boundary_values(record.number(), number))
+                .0
+                .to_vec();
+            Outcome::Unknown
+        }
+    }
+}
+
+/// The number of a field with boundary values, among the first so many.
+fn with_form(rng: &mut Rng, record: Record, fields: usize) -> usize {
+    let formed: Vec<usize> = (1..=fields)
+        .filter(|number| !boundary_values(record.number(), *number).is_empty())
+        .collect();
+    rng.pick(&formed)
+}
+
+/// Lengthens a field with more of its last byte, so that digits stay digits.
+fn lengthen(rng: &mut Rng, field: &mut Vec<u8>, length: usize) {
+    let style = Style::any(rng);
+    let byte = match field.last() {
+        Some(last) => *last,
+        None => text(rng, style, 1)[0],
+    };
+    field.resize(length, byte);
+}
+
+/// Where a part of a line starts in the file, the record type being part 0.
+fn start_of(lines: &Lines, line: usize, part: usize) -> usize {
+    let length = |parts: &[Vec<u8>]| parts.iter().map(|part| part.len() + 1).sum::<usize>();
+    // A line has one semicolon less than parts, and two bytes CR LF.
+    let before: usize = lines[..line].iter().map(|line| length(line) + 1).sum();
+    before + length(&lines[line][..part])
+}
