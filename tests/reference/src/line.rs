@@ -92,11 +92,8 @@ pub(crate) fn judged_parts(
         start += part.len() + 1;
     }
     let field = |number: usize| &file[parts[number].clone()];
-    for number in 1..=count {
-        judge_field(record, number, &field).or_else(|refusal| {
-            // 6, 7 and 8 stand at the field's start.
-            refuse(refusal, parts[number].start)
-        })?;
+    for (number, part) in parts.iter().enumerate().skip(1) {
+        judge_field(record, number, &field).or_else(|refusal| refuse(refusal, part.start))?;
     }
     if !needs_are_met(record, &field) {
         return refuse(9, offset);

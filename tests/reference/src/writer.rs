@@ -50,7 +50,10 @@ pub fn write_line(
     }
     line.extend_from_slice(b"\r\n");
     // "A fill past the output is 13."
-    match out.get_mut(fill..).and_then(|room| room.get_mut(..line.len())) {
+    match out
+        .get_mut(fill..)
+        .and_then(|room| room.get_mut(..line.len()))
+    {
         Some(room) => room.copy_from_slice(&line),
         None => return refuse(13, 0),
     }

@@ -1,9 +1,9 @@
 //! Calls of the other entry points: one line, one field, the writer, the purpose and issuing.
 
-use super::damage::file_case;
+use super::damage::{damage, file_case, Damage};
 use super::files::{take_apart, valid_file_of};
 use super::values::number_body;
-use super::{Damage, Rng};
+use super::Rng;
 
 /// A call of the line reader and, with the number, of the field finder.
 #[derive(Clone, Debug)]
@@ -13,30 +13,86 @@ pub struct LineCall {
     pub number: usize,
 }
 
-/// Mostly at a line's start, sometimes anywhere in the file or past it.
+/// Mostly a line that may be damaged, between others; sometimes anywhere in a file or past it.
 pub fn line_call(rng: &mut Rng) -> LineCall {
-    let file = file_case(rng).file;
-    let starts: Vec<usize> = (0..file.len())
-        .filter(|at| *at == 0 || file[..*at].ends_with(b"\r\n"))
-        .collect();
-    let offset = match rng.below(20) {
-        0 => file.len(),
-        1 => file.len() + 1,
-        2 => usize::MAX,
-        3..=5 => rng.below(file.len() + 1),
-        _ if starts.is_empty() => 0,
-        _ => rng.pick(&starts),
+    let (file, offset) = match rng.below(5) {
+        0 => {
+            let file = file_case(rng).file;
+            let offset = match rng.below(4) {
+                0 => file.len(),
+                1 => rng.pick(&[0, file.len() + 1, usize::MAX]),
+                _ => rng.below(file.len() + 1),
+            };
+            (file, offset)
+        }
+        _ => {
+            let mut lines = any_lines(rng);
+            let index = any_index(rng, &lines);
+            let damages = rng.below(3);
+            damage_line(rng, &mut lines[index], damages);
+            (lines.concat(), lines[..index].concat().len())
+        }
     };
     let number = match rng.below(10) {
         0 => 0,
         1 => usize::MAX,
-        2 => rng.pick(&[10, 11, 16, 17, 24, 25, 40, 41]),
+        2 => rng.pick(&[1, 3, 10, 11, 16, 17, 24, 25, 40, 41]),
+        3..=5 => rng.between(1, 10),
         _ => rng.between(1, 41),
     };
     LineCall {
         file,
         offset,
         number,
+    }
+}
+
+/// The lines of a short accepted file, each with its CR LF.
+fn any_lines(rng: &mut Rng) -> Vec<Vec<u8>> {
+    let lines = rng.pick(&[5, 12]);
+    let mut lines = take_apart(&valid_file_of(rng, lines));
+    lines.pop(); // what follows the last CR LF: nothing
+    lines
+        .iter()
+        .map(|parts| [&parts.join(&b';')[..], b"\r\n"].concat())
+        .collect()
+}
+
+/// One of the lines; every other time a 060 if there is one, because it has the most rules.
+fn any_index(rng: &mut Rng, lines: &[Vec<u8>]) -> usize {
+    let feature = lines.iter().rposition(|line| line.starts_with(b"060"));
+    match feature {
+        Some(index) if rng.percent(50) => index,
+        _ => rng.below(lines.len()),
+    }
+}
+
+/// Damages one line so many times, in ways that can stay within it.
+fn damage_line(rng: &mut Rng, line: &mut Vec<u8>, times: usize) {
+    const DAMAGES: &[Damage] = &[
+        Damage::FlipByte,
+        Damage::InsertByte,
+        Damage::DeleteByte,
+        Damage::SwapFields,
+        Damage::AddField,
+        Damage::DropField,
+        Damage::ToWidth,
+        Damage::PastWidth,
+        Damage::EmptyRequired,
+        Damage::EmptyNeeded,
+        Damage::Spaces,
+        Damage::BreakLineEnd,
+        Damage::Truncate,
+        Damage::Amount,
+        Damage::DateTime,
+        Damage::Iban,
+        Damage::Feature,
+        Damage::RecordType,
+        Damage::Form,
+    ];
+    for _ in 0..times {
+        let kind = rng.pick(DAMAGES);
+        damage(kind, rng, line);
     }
 }
 
@@ -73,11 +129,25 @@ impl WriterCall {
 
 /// An accepted line taken apart, with room for it in the output.
 pub fn valid_writer_call(rng: &mut Rng) -> WriterCall {
-    let lines = rng.pick(&[5, 12]);
-    let mut lines = take_apart(&valid_file_of(rng, lines));
-    lines.pop(); // what follows the last CR LF: nothing
-    let line = &lines[rng.below(lines.len())];
-    let record = match &line[0][..] {
+    call_for_line(rng, 0)
+}
+
+/// The same of a line that may be damaged; then the call itself is damaged up to three times. Some
+/// are still accepted.
+pub fn writer_call(rng: &mut Rng) -> WriterCall {
+    let damages = rng.pick(&[0, 0, 1, 2]);
+    let mut call = call_for_line(rng, damages);
+    for _ in 0..rng.pick(&[0, 0, 1, 1, 1, 2, 3]) {
+        damage_writer_call(rng, &mut call);
+    }
+    call
+}
+
+fn call_for_line(rng: &mut Rng, damages: usize) -> WriterCall {
+    let mut lines = any_lines(rng);
+    let index = any_index(rng, &lines);
+    let line = &mut lines[index];
+    let record = match &line[..3] {
         b"010" => 10,
         b"020" => 20,
         b"030" => 30,
@@ -85,7 +155,8 @@ pub fn valid_writer_call(rng: &mut Rng) -> WriterCall {
         b"050" => 50,
         _ => 60,
     };
-    let mut call = WriterCall::new(record, &line[1..]);
+    damage_line(rng, line, damages);
+    let mut call = WriterCall::new(record, &take_apart(line)[0][1..]);
     if rng.percent(70) {
         call.fill = rng.below(100);
         call.output += call.fill + rng.pick(&[0, 1, 50]);
@@ -93,18 +164,26 @@ pub fn valid_writer_call(rng: &mut Rng) -> WriterCall {
     call
 }
 
-/// A valid call, then damaged up to three times; some are still accepted.
-pub fn writer_call(rng: &mut Rng) -> WriterCall {
-    let mut call = valid_writer_call(rng);
-    for _ in 0..rng.pick(&[0, 1, 1, 1, 1, 2, 3]) {
-        damage_writer_call(rng, &mut call);
-    }
-    call
-}
-
 fn damage_writer_call(rng: &mut Rng, call: &mut WriterCall) {
     const RECORDS: &[u32] = &[
-        0, 1, 9, 10, 11, 20, 30, 40, 41, 42, 50, 60, 61, 70, 255, 266, 65_546, u32::MAX,
+        0,
+        1,
+        9,
+        10,
+        11,
+        20,
+        30,
+        40,
+        41,
+        42,
+        50,
+        60,
+        61,
+        70,
+        255,
+        266,
+        65_546,
+        u32::MAX,
     ];
     let end = rng.below(call.ends.len().max(1));
     match rng.below(16) {
@@ -184,7 +263,7 @@ pub fn purpose_call(rng: &mut Rng) -> PurposeCall {
         2 => {
             let lines = rng.between(5, 60);
             let mut file = valid_file_of(rng, lines);
-            super::damage(Damage::Spaces, rng, &mut file);
+            damage(Damage::Spaces, rng, &mut file);
             (file, 4096)
         }
         _ => {

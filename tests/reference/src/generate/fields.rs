@@ -61,14 +61,8 @@ fn base_lines() -> Vec<(Record, String)> {
             Record::R010,
             "0012345678;Muster;2021-02-23T13:37:50;2021-02-24T14:20:55;1005;5;;;;".into(),
         ),
-        (
-            Record::R020,
-            "A;;;;AT;1010;Wien;;Gasse;;1;1;a@b;;;".into(),
-        ),
-        (
-            Record::R020,
-            "A;;;;DE;1010;Bonn;;Gasse;;1;1;a@b;;;".into(),
-        ),
+        (Record::R020, "A;;;;AT;1010;Wien;;Gasse;;1;1;a@b;;;".into()),
+        (Record::R020, "A;;;;DE;1010;Bonn;;Gasse;;1;1;a@b;;;".into()),
         (
             Record::R030,
             ";;;;;;;;;;;;;;;B;;;;AT;1020;Wien;;Gasse;;2;;;;;;;;;;;;;;".into(),
@@ -225,7 +219,6 @@ impl Base {
                 false if value.len() > self.width(number) => 6,
                 false => 0,
             };
-            // A country beside a post code that is none of Austria's: not settled here.
             cases.push(self.judged(number, value, here));
         }
         if (self.record, number) == (Record::R060, 1) {

@@ -158,13 +158,7 @@ impl Maker {
     }
 
     /// A filled field that holds, behind the parts of the line before it.
-    fn field(
-        &mut self,
-        rng: &mut Rng,
-        record: Record,
-        number: usize,
-        line: &[Vec<u8>],
-    ) -> Vec<u8> {
+    fn field(&mut self, rng: &mut Rng, record: Record, number: usize, line: &[Vec<u8>]) -> Vec<u8> {
         let style = self.style;
         let width = record.widths()[number - 1];
         match (record.number(), number) {

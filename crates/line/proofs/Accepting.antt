@@ -1,0 +1,120 @@
+-- What an accepted line tells: each test passed, and the answer names the line's own record, count and next start.
+use Prim.Native.Nat.{ℕ, _+_, _-_, _≤_}
+use mathlib.Core.Path.{_≡_, refl, sym, ap, _∙_}
+use mathlib.Core.Bool.{Bool, true, false, not}
+use mathlib.Core.List.{List}
+use native.Mathlib.Omega.{arith}
+use lib.Dec.{ltb}
+use lib.ListN.{length, take, drop, length-take, length-drop}
+use borrow.Author.Tests.{ltb-false, not-false}
+use Rattle.text.specs.Byte.{textByte}
+use Rattle.text.specs.Choice.{if_then_else_}
+use Rattle.text.proofs.Choices.{came-else}
+use Rattle.refusal.specs.declared.Refusal.{Refusal}
+use Rattle.refusal.specs.declared.Refusal.the-variants.{FileTooLong, NoLineEnd, UnknownRecord, OutOfOrder, FieldCount, FeatureLacks}
+use Rattle.fields.specs.Record.{named, countFits, mayCome}
+use Rattle.fields.specs.declared.record.Record.{Record}
+use Rattle.fields.specs.declared.record.Named.{Named}
+use Rattle.fields.specs.declared.record.Named.the-variants.{Known, Unknown}
+use Rattle.fields.specs.declared.record.Due.{Due}
+use Rattle.line.specs.Parts.{split, nameOf, fieldsOf}
+use Rattle.line.specs.Walk.{walk}
+use Rattle.line.specs.Need.{lacks}
+use Rattle.line.specs.Line.{lineEnd, endsWell, textAt, afterWalk, ofKind, ofNamed, ofText, lineAnswer}
+use Rattle.line.specs.declared.walk.Walk.{Walk}
+use Rattle.line.specs.declared.walk.Walk.the-variants.{Fine, Stopped}
+use Rattle.line.specs.declared.read.Line.{Line}
+use Rattle.line.specs.declared.read.LineAnswer.{LineAnswer}
+use Rattle.line.specs.declared.read.LineAnswer.the-variants.{Accepted, Refused}
+use Rattle.line.proofs.Parts.{first-least, first-most}
+
+pub refused : {why : Refusal} {place : ℕ} {l : Line} → Refused why place ≡ Accepted l → ⊥
+refused e = let z : _≡_ {A = ℕ} 0 1 = cc in omega arith
+
+-- the text of an accepted line
+pub record TextOk (due : Due) (at : ℕ) (line : List ℕ) (l : Line) : Type 0 where
+  pub known : named (nameOf line) ≡ Known (l .kind)
+  pub comes : mayCome due (l .kind) ≡ true
+  pub fits : countFits (l .kind) (length (fieldsOf line)) ≡ true
+  pub walks : walk (l .kind) 1 (at + length (nameOf line) + 1) (nameOf line) (fieldsOf line) ≡ Fine
+  pub served : lacks (l .kind) (split line) ≡ false
+  pub counted : l .count ≡ length (fieldsOf line)
+  pub ends : l .next ≡ at + length line + 2
+
+-- where it lies in the file
+pub record LineAt (due : Due) (s : List ℕ) (at : ℕ) (l : Line) : Type 0 where
+  pub short : length s ≤ 65535
+  pub inside : at ≤ length s
+  pub well : endsWell s (lineEnd s at) ≡ true
+  pub text : TextOk due at (textAt s at) l
+
+module _ (due : Due) (at : ℕ) (line : List ℕ) (l : Line) where
+  kind-ok : (kind : Record) → named (nameOf line) ≡ Known kind → mayCome due kind ≡ true → ofKind kind at line ≡ Accepted l → TextOk due at line l
+  unfolding ofKind afterWalk
+  kind-ok kind en ec e =
+      let fits = countFits kind (length (fieldsOf line)) in
+      let w = walk kind 1 (at + length (nameOf line) + 1) (nameOf line) (fieldsOf line) in
+      let a = came-else (not fits) (Refused FieldCount at) (afterWalk w kind at line) (Accepted l) refused e in
+      after w refl (not-false fits (a .0)) (a .1)
+    where
+      after :
+          (w : Walk) → walk kind 1 (at + length (nameOf line) + 1) (nameOf line) (fieldsOf line) ≡ w → countFits kind (length (fieldsOf line)) ≡ true →
+          afterWalk w kind at line ≡ Accepted l → TextOk due at line l
+      after (Stopped why place) ew ef ea = absurd (refused ea)
+      after Fine ew ef ea =
+          let b = came-else (lacks kind (split line)) (Refused FeatureLacks at) (Accepted (record { kind = kind; count = length (fieldsOf line); next = at + length line + 2 })) (Accepted l) refused ea in
+          let same : record { kind = kind; count = length (fieldsOf line); next = at + length line + 2 } ≡ l = cc in
+          let k : kind ≡ l .kind = ap (λ (x : Line). x .kind) same in
+          record {
+            known = en ∙ ap Known k;
+            comes = ap (mayCome due) (sym k) ∙ ec;
+            fits = ap (λ (x : Record). countFits x (length (fieldsOf line))) (sym k) ∙ ef;
+            walks = ap (λ (x : Record). walk x 1 (at + length (nameOf line) + 1) (nameOf line) (fieldsOf line)) (sym k) ∙ ew;
+            served = ap (λ (x : Record). lacks x (split line)) (sym k) ∙ b .0;
+            counted = sym (ap (λ (x : Line). x .count) same);
+            ends = sym (ap (λ (x : Line). x .next) same);
+          }
+
+  named-ok : (nd : Named) → named (nameOf line) ≡ nd → ofNamed nd due at line ≡ Accepted l → TextOk due at line l
+  unfolding ofNamed
+  named-ok Unknown en e = absurd (refused e)
+  named-ok (Known kind) en e =
+      let a = came-else (not (mayCome due kind)) (Refused OutOfOrder at) (ofKind kind at line) (Accepted l) refused e in
+      kind-ok kind en (not-false (mayCome due kind) (a .0)) (a .1)
+
+  pub text-ok : ofText due at line ≡ Accepted l → TextOk due at line l
+  unfolding ofText
+  text-ok e = named-ok (named (nameOf line)) refl e
+
+pub line-ok : (due : Due) (s : List ℕ) (at : ℕ) (l : Line) → lineAnswer due s at ≡ Accepted l → LineAt due s at l
+unfolding lineAnswer
+line-ok due s at l e =
+    let text = ofText due at (textAt s at) in
+    let well = endsWell s (lineEnd s at) in
+    let end = if not well then Refused NoLineEnd (lineEnd s at) else text in
+    let a = came-else (ltb 65535 (length s)) (Refused FileTooLong 65535) (if ltb (length s) at then Refused NoLineEnd (length s) else end) (Accepted l) refused e in
+    let b = came-else (ltb (length s) at) (Refused NoLineEnd (length s)) end (Accepted l) refused (a .1) in
+    let c = came-else (not well) (Refused NoLineEnd (lineEnd s at)) text (Accepted l) refused (b .1) in
+    record {
+      short = ltb-false 65535 (length s) (a .0);
+      inside = ltb-false (length s) at (b .0);
+      well = not-false well (c .0);
+      text = text-ok due at (textAt s at) l (c .1);
+    }
+
+-- the bounds of an accepted line
+module _ (due : Due) (s : List ℕ) (at : ℕ) (l : Line) (g : LineAt due s at l) where
+  text-long : length (textAt s at) ≡ lineEnd s at - at
+  text-long =
+      let above = first-least textByte at (drop at s) in
+      let below = first-most textByte at (drop at s) in
+      omega (arith, length-take (lineEnd s at - at) (drop at s), length-drop at s, g .inside)
+
+  pub next-is : l .next ≡ lineEnd s at + 2
+  next-is = omega (arith, g .text .ends, text-long, first-least textByte at (drop at s))
+
+  pub end-inside : lineEnd s at ≤ length s
+  end-inside = omega (arith, first-most textByte at (drop at s), length-drop at s, g .inside)
+
+  pub end-after : at ≤ lineEnd s at
+  end-after = first-least textByte at (drop at s)

@@ -1,0 +1,17 @@
+-- `need::is_served` meets its contract.
+use Rattle.line.specs.Need.{serves}
+use Rattle.line.proofs.Needs.{served-as}
+use borrow.Author.Needs.{needs}
+use Rattle.line.proofs.need.is_served.Statement.{statement}
+use Rattle.line.proofs.need.is_served.Tie as tie
+
+ruleset laws = (needs, served-as)
+
+pub is-served-spec : {M : Type 1} → statement M
+unfolding serves
+is-served-spec =
+    tie.close
+    (tie.spec
+    (λ c κs. search laws) (λ c κs. search laws) (λ c κs. search laws) (λ c. search laws) (λ c κs. search laws)
+    (λ c. search laws) (λ c κs. search laws) (λ c. search laws) (λ c κs. search laws) (λ c. search laws) (λ c. search laws)
+    (λ c. search laws) (λ c. search laws) (λ c. search laws))

@@ -1,0 +1,10 @@
+-- `scan::one_for` meets its contract.
+use Rattle.text.proofs.Choices.{eq-takes-then, eq-takes-else}
+use borrow.Author.Needs.{needs}
+use Rattle.line.proofs.scan.one_for.Statement.{statement}
+use Rattle.line.proofs.scan.one_for.Tie as tie
+
+ruleset laws = (needs, eq-takes-then, eq-takes-else)
+
+pub one-for-spec : {M : Type 1} → statement M
+one-for-spec = tie.close (tie.spec (λ c. search laws) (λ c. search laws))

@@ -1,0 +1,35 @@
+-- Document 01, "One field adds a field number, then 15 for 0 or above the count, and answers start and length."
+use Prim.Native.Nat.{ℕ, _+_}
+use mathlib.Core.Bool.{Bool, _||_}
+use mathlib.Core.List.{List}
+use lib.Dec.{ltb, eqb}
+use lib.ListN.{length}
+use Rattle.text.specs.Choice.{if_then_else_}
+use Rattle.refusal.specs.Table.{numberOf, Verdict}
+use Rattle.refusal.specs.declared.Refusal.the-variants.{NotThere}
+use Rattle.fields.specs.declared.record.Due.the-variants.{Any}
+use Rattle.line.specs.Parts.{startOf, partAt}
+use Rattle.line.specs.Line.{textAt, lineAnswer}
+use Rattle.line.specs.declared.read.LineAnswer.{LineAnswer}
+use Rattle.line.specs.declared.read.LineAnswer.the-variants.{Accepted, Refused}
+use Rattle.line.specs.declared.find.FieldAnswer.{FieldAnswer}
+use Rattle.line.specs.declared.find.FieldAnswer.the-variants.{Found, NotFound}
+
+-- the line's refusal, handed on
+abbrev pub handedOn : LineAnswer → FieldAnswer
+handedOn (Accepted line) = NotFound NotThere 0
+handedOn (Refused why place) = NotFound why place
+
+unfoldable pub inLine : LineAnswer → List ℕ → ℕ → ℕ → FieldAnswer
+inLine (Refused why place) s at n = NotFound why place
+inLine (Accepted line) s at n =
+    if eqb n 0 || ltb (line .count) n then NotFound NotThere 0
+    else Found (at + startOf (textAt s at) n) (length (partAt (textAt s at) n))
+
+unfoldable pub fieldAnswer : List ℕ → ℕ → ℕ → FieldAnswer
+fieldAnswer s at n = inLine (lineAnswer Any s at) s at n
+
+-- the paper's number and place for each answer
+abbrev pub fieldVerdict : FieldAnswer → Verdict
+fieldVerdict (Found start length) = Verdict.passes
+fieldVerdict (NotFound why place) = Verdict.refused (numberOf why) place

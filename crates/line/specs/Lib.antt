@@ -1,0 +1,5 @@
+pub mod Parts
+pub mod Walk
+pub mod Need
+pub mod Line
+pub mod Find

@@ -1,0 +1,70 @@
+-- Document 01, "One line at an offset, judged alone (1, 2, 3, 5 to 9)", and in a file with 4 at its place in the order.
+use Prim.Native.Nat.{ℕ, _+_, _-_}
+use mathlib.Core.Bool.{Bool, not}
+use mathlib.Core.List.{List}
+use lib.Dec.{ltb}
+use lib.ListN.{length, take, drop}
+use Rattle.text.specs.Choice.{if_then_else_}
+use Rattle.text.specs.Byte.{textByte}
+use Rattle.text.specs.Quoted.{bytes}
+use Rattle.text.specs.Scan.{firstFailing, same}
+use Rattle.refusal.specs.Table.{numberOf, Verdict}
+use Rattle.refusal.specs.declared.Refusal.the-variants.{FileTooLong, NoLineEnd, UnknownRecord, OutOfOrder, FieldCount, FeatureLacks}
+use Rattle.fields.specs.Record.{named, countFits, mayCome}
+use Rattle.fields.specs.declared.record.Record.{Record}
+use Rattle.fields.specs.declared.record.Named.{Named}
+use Rattle.fields.specs.declared.record.Named.the-variants.{Known, Unknown}
+use Rattle.fields.specs.declared.record.Due.{Due}
+use Rattle.line.specs.Parts.{split, nameOf, fieldsOf}
+use Rattle.line.specs.Walk.{walk}
+use Rattle.line.specs.Need.{lacks}
+use Rattle.line.specs.declared.walk.Walk.{Walk}
+use Rattle.line.specs.declared.walk.Walk.the-variants.{Fine, Stopped}
+use Rattle.line.specs.declared.read.LineAnswer.{LineAnswer}
+use Rattle.line.specs.declared.read.LineAnswer.the-variants.{Accepted, Refused}
+
+-- "A line runs to its first other byte": the first byte from here on that is no text byte, or the file's length
+abbrev pub lineEnd : List ℕ → ℕ → ℕ
+lineEnd s at = firstFailing (λ _ b. textByte b) at (drop at s)
+
+-- "which must be CR followed by LF"
+unfoldable pub endsWell : List ℕ → ℕ → Bool
+endsWell s end = same (take 2 (drop end s)) (bytes "\r\n")
+
+-- the text of the line that starts here
+abbrev pub textAt : List ℕ → ℕ → List ℕ
+textAt s at = take (lineEnd s at - at) (drop at s)
+
+-- the fields are in order, or one is not; then 9
+unfoldable pub afterWalk : Walk → Record → ℕ → List ℕ → LineAnswer
+afterWalk (Stopped why place) kind at line = Refused why place
+afterWalk Fine kind at line =
+    if lacks kind (split line) then Refused FeatureLacks at
+    else Accepted (record { kind = kind; count = length (fieldsOf line); next = at + length line + 2 })
+
+-- the text of a line of this record that starts at this place: 5, then the fields
+unfoldable pub ofKind : Record → ℕ → List ℕ → LineAnswer
+ofKind kind at line =
+    if not (countFits kind (length (fieldsOf line))) then Refused FieldCount at
+    else afterWalk (walk kind 1 (at + length (nameOf line) + 1) (nameOf line) (fieldsOf line)) kind at line
+
+-- 3, then 4
+unfoldable pub ofNamed : Named → Due → ℕ → List ℕ → LineAnswer
+ofNamed Unknown due at line = Refused UnknownRecord at
+ofNamed (Known kind) due at line = if not (mayCome due kind) then Refused OutOfOrder at else ofKind kind at line
+
+unfoldable pub ofText : Due → ℕ → List ℕ → LineAnswer
+ofText due at line = ofNamed (named (nameOf line)) due at line
+
+-- 1, then 2
+unfoldable pub lineAnswer : Due → List ℕ → ℕ → LineAnswer
+lineAnswer due s at =
+    if ltb 65535 (length s) then Refused FileTooLong 65535
+    else if ltb (length s) at then Refused NoLineEnd (length s)
+    else if not (endsWell s (lineEnd s at)) then Refused NoLineEnd (lineEnd s at)
+    else ofText due at (textAt s at)
+
+-- the paper's number and place for each answer
+abbrev pub lineVerdict : LineAnswer → Verdict
+lineVerdict (Accepted line) = Verdict.passes
+lineVerdict (Refused why place) = Verdict.refused (numberOf why) place

@@ -1,0 +1,65 @@
+// One field of a line at an offset of the file: where it starts, and how long it is.
+ghost use mathlib.Core.Path.{_≡_};
+ghost use Prim.Native.Nat.{_+_, _<_};
+ghost use lib.ListN.{length};
+ghost use Rattle.line.specs.Parts.{startOf, partAt};
+ghost use Rattle.line.specs.Find.{handedOn, fieldAnswer};
+use crate::part;
+use crate::read;
+use crate::read::LineAnswer;
+use refusal::Refusal;
+
+pub enum FieldAnswer {
+    Found { start: usize, length: usize },
+    NotFound { why: Refusal, place: usize },
+}
+
+// Finds the field with this number of the line that starts here.
+pub fn find_field(s: &[u8], at: usize, number: usize) -> FieldAnswer
+    ensures { λ r. ⌜ r ≡ fieldAnswer (now (s .entry)) at number ⌝ }
+{
+    let answer = read::read_line(s, at);
+    let LineAnswer::Accepted(line) = answer else {
+        return refusal_of(answer);
+    };
+    if number == 0 {
+        return FieldAnswer::NotFound {
+            why: Refusal::NotThere,
+            place: 0,
+        };
+    }
+    if line.count < number {
+        return FieldAnswer::NotFound {
+            why: Refusal::NotThere,
+            place: 0,
+        };
+    }
+    let end = line.next - 2;
+    in_text(at, &s[at..end], number)
+}
+
+// The refusal of a line, handed on.
+fn refusal_of(answer: LineAnswer) -> FieldAnswer
+    ensures { λ r. ⌜ r ≡ handedOn answer ⌝ }
+{
+    match answer {
+        LineAnswer::Accepted(_) => FieldAnswer::NotFound {
+            why: Refusal::NotThere,
+            place: 0,
+        },
+        LineAnswer::Refused { why, place } => FieldAnswer::NotFound { why, place },
+    }
+}
+
+// The field with this number of a line's text that starts at this place.
+fn in_text(at: usize, line: &[u8], number: usize) -> FieldAnswer
+    requires { ⌜ at + length (now line) < 65536 ⌝ }
+    ensures { λ r. ⌜ r ≡ FieldAnswer.Found (at + startOf (now (line .entry)) number) (length (partAt (now (line .entry)) number)) ⌝ }
+{
+    let start = part::start_of(line, number);
+    let field = part::field_in(line, number);
+    FieldAnswer::Found {
+        start: at + start,
+        length: field.len(),
+    }
+}

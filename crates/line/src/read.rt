@@ -1,0 +1,112 @@
+// One line at an offset of the file: its end, its record, its fields, in the order of the refusals.
+ghost use mathlib.Core.Path.{_≡_};
+ghost use Prim.Native.Nat.{_+_, _<_, _≤_};
+ghost use lib.ListN.{length};
+ghost use Rattle.line.specs.Parts.{nameOf};
+ghost use Rattle.line.specs.Line.{ofText, ofKind, lineAnswer};
+use crate::need;
+use crate::part::field_in;
+use crate::scan;
+use crate::walk;
+use crate::walk::Walk;
+use fields::Due;
+use fields::Named;
+use fields::Record;
+use refusal::Refusal;
+
+pub struct Line {
+    pub kind: Record,
+    pub count: usize,
+    // Where the next line starts.
+    pub next: usize,
+}
+
+pub enum LineAnswer {
+    Accepted(Line),
+    Refused { why: Refusal, place: usize },
+}
+
+// Judges the line that starts here, alone.
+pub fn read_line(s: &[u8], at: usize) -> LineAnswer
+    ensures { λ r. ⌜ r ≡ lineAnswer Due.Any (now (s .entry)) at ⌝ }
+{
+    judge_line(Due::Any, s, at)
+}
+
+// Judges the line that starts here, where this record is due.
+pub fn judge_line(due: Due, s: &[u8], at: usize) -> LineAnswer
+    ensures { λ r. ⌜ r ≡ lineAnswer due (now (s .entry)) at ⌝ }
+{
+    let n = s.len();
+    if 65535 < n {
+        return LineAnswer::Refused {
+            why: Refusal::FileTooLong,
+            place: 65535,
+        };
+    }
+    if n < at {
+        return LineAnswer::Refused {
+            why: Refusal::NoLineEnd,
+            place: n,
+        };
+    }
+    let end = scan::line_end(s, at);
+    if !scan::ends_well(s, end) {
+        return LineAnswer::Refused {
+            why: Refusal::NoLineEnd,
+            place: end,
+        };
+    }
+    of_text(due, at, &s[at..end])
+}
+
+// The text of a line that starts at this place and ends well.
+fn of_text(due: Due, at: usize, line: &[u8]) -> LineAnswer
+    requires { ⌜ at + length (now line) < 65536 ⌝ }
+    ensures { λ r. ⌜ r ≡ ofText due at (now (line .entry)) ⌝ }
+{
+    let name = field_in(line, 0);
+    let named = fields::record_named(name);
+    let Named::Known(kind) = named else {
+        return LineAnswer::Refused {
+            why: Refusal::UnknownRecord,
+            place: at,
+        };
+    };
+    if !fields::may_come(due, kind) {
+        return LineAnswer::Refused {
+            why: Refusal::OutOfOrder,
+            place: at,
+        };
+    }
+    of_kind(kind, at, line, name.len())
+}
+
+// The text of a line of a record that may come, whose type is so long.
+fn of_kind(kind: Record, at: usize, line: &[u8], name: usize) -> LineAnswer
+    requires { ⌜ (name ≡ length (nameOf (now line))) × (at + length (now line) < 65536) ⌝ }
+    ensures { λ r. ⌜ r ≡ ofKind kind at (now (line .entry)) ⌝ }
+{
+    let count = scan::field_count(line);
+    if !fields::count_fits(kind, count) {
+        return LineAnswer::Refused {
+            why: Refusal::FieldCount,
+            place: at,
+        };
+    }
+    let walked = walk::walk_fields(kind, line, at, name);
+    if let Walk::Stopped { why, place } = walked {
+        return LineAnswer::Refused { why, place };
+    }
+    if need::lacks_field(kind, line) {
+        return LineAnswer::Refused {
+            why: Refusal::FeatureLacks,
+            place: at,
+        };
+    }
+    LineAnswer::Accepted(Line {
+        kind,
+        count,
+        next: at + line.len() + 2,
+    })
+}

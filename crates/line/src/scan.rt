@@ -1,0 +1,78 @@
+// Where a line and a field end, and how many fields a line has.
+ghost use mathlib.Core.Path.{_≡_};
+ghost use Prim.Native.Nat.{_≤_};
+ghost use lib.ListN.{length};
+ghost use Rattle.text.specs.Choice.{if_then_else_};
+ghost use Rattle.text.specs.Scan.{count};
+ghost use Rattle.line.specs.Parts.{semicolon, inField, fieldEnd};
+ghost use Rattle.line.specs.Line.{lineEnd, endsWell};
+
+// The first byte from here on that is no text byte, or the end of the file.
+pub fn line_end(s: &[u8], at: usize) -> usize
+    requires { ⌜ at ≤ length (now s) ⌝ }
+    ensures { λ r. ⌜ (r ≡ lineEnd (now (s .entry)) at) × (at ≤ r) × (r ≤ length (now (s .entry))) ⌝ }
+{
+    let mut i = at;
+    while i < s.len() {
+        if !text::is_text_byte(s[i]) {
+            return i;
+        }
+        i += 1;
+    }
+    i
+}
+
+// Whether CR LF stands here.
+pub fn ends_well(s: &[u8], end: usize) -> bool
+    requires { ⌜ end ≤ length (now s) ⌝ }
+    ensures { λ r. ⌜ r ≡ endsWell (now (s .entry)) end ⌝ }
+{
+    if s.len() - end < 2 {
+        return false;
+    }
+    text::equal(&s[end..end + 2], b"\r\n")
+}
+
+// The first semicolon from here on, or the end of the line.
+pub fn field_end(line: &[u8], start: usize) -> usize
+    requires { ⌜ start ≤ length (now line) ⌝ }
+    ensures { λ r. ⌜ (r ≡ fieldEnd (now (line .entry)) start) × (start ≤ r) × (r ≤ length (now (line .entry))) ⌝ }
+{
+    let mut i = start;
+    while i < line.len() {
+        if !is_in_field(line[i]) {
+            return i;
+        }
+        i += 1;
+    }
+    i
+}
+
+// How many fields follow the record type: each stands behind a semicolon.
+pub fn field_count(line: &[u8]) -> usize
+    ensures { λ r. ⌜ r ≡ count semicolon (now (line .entry)) ⌝ }
+{
+    let mut n: usize = 0;
+    let mut i: usize = 0;
+    while i < line.len() {
+        n += one_for(line[i]);
+        i += 1;
+    }
+    n
+}
+
+fn is_in_field(b: u8) -> bool
+    ensures { λ r. ⌜ r ≡ inField b ⌝ }
+{
+    b != b';'
+}
+
+// 1 for a semicolon, 0 for any other byte.
+fn one_for(b: u8) -> usize
+    ensures { λ r. ⌜ (r ≡ (if semicolon b then 1 else 0)) × (r ≤ 1) ⌝ }
+{
+    if b == b';' {
+        return 1;
+    }
+    0
+}

@@ -1,0 +1,537 @@
+//! Generated input: accepted files, damage, calls, and the field rules at their boundaries.
+
+use std::collections::{BTreeMap, HashSet};
+
+use reference::file::{judge, Totals};
+use reference::generate::*;
+use reference::line::{find_field, read_line};
+use reference::numbers::{check_iban, check_number, issue_number, Kind};
+use reference::purpose::purpose;
+use reference::writer::write_line;
+use reference::Refusal;
+
+/// How often each number was given, 0 standing for acceptance.
+type Counts = BTreeMap<u32, usize>;
+
+fn count<T>(counts: &mut Counts, answer: &Result<T, Refusal>) {
+    let number = answer.as_ref().err().map_or(0, |refusal| refusal.number);
+    *counts.entry(number).or_default() += 1;
+}
+
+fn assert_each(counts: &Counts, numbers: &[u32]) {
+    assert_eq!(
+        counts.keys().copied().collect::<Vec<_>>(),
+        numbers,
+        "{counts:?}"
+    );
+}
+
+/// Totals and line starts, from the parts of an accepted file.
+fn counted(file: &[u8]) -> (Totals, Vec<u32>) {
+    let lines = take_apart(file);
+    let mut totals = Totals::default();
+    let mut starts = Vec::new();
+    let mut offset = 0;
+    for line in &lines[..lines.len() - 1] {
+        totals.lines += 1;
+        totals.parcels += usize::from(line[0] == b"040");
+        let cash = line[0] == b"060" && (line[1] == b"006" || line[1] == b"022");
+        if cash && line[4] == b"EUR" {
+            let text = String::from_utf8(line[3].clone()).unwrap();
+            totals.cents += text.replace('.', "").parse::<u64>().unwrap();
+        }
+        starts.push(offset as u32);
+        offset += line.join(&b';').len() + 2;
+    }
+    (totals, starts)
+}
+
+#[test]
+fn the_stream_is_fixed_by_the_seed() {
+    let draw = |seed: u64| valid_file(&mut Rng::new(seed));
+    assert_eq!(draw(1), draw(1));
+    assert_ne!(draw(1), draw(2));
+    let distinct: HashSet<u64> = (0..1000).map(|seed| Rng::new(seed).word()).collect();
+    assert_eq!(distinct.len(), 1000);
+}
+
+#[test]
+fn valid_files_are_accepted() {
+    let mut rng = Rng::new(1);
+    let (mut shortest, mut longest, mut upper) = (usize::MAX, 0, 0);
+    for _ in 0..5_000 {
+        let file = valid_file(&mut rng);
+        let (totals, starts) = counted(&file);
+        let mut list = vec![7; starts.len() + 2];
+        assert_eq!(judge(&file, &mut list), Ok(totals));
+        assert_eq!(list[..starts.len()], starts);
+        assert_eq!(list[starts.len()..], [0, 0]);
+        assert_eq!(put_together(&take_apart(&file)), file);
+        shortest = shortest.min(totals.lines);
+        longest = longest.max(totals.lines);
+        upper += usize::from(file.iter().any(|byte| *byte >= 160));
+    }
+    assert!(shortest == 5 && longest > 300 && upper > 1000);
+}
+
+#[test]
+fn damaged_files_bring_every_refusal() {
+    let mut rng = Rng::new(2);
+    let mut counts = Counts::new();
+    let mut known = 0;
+    for _ in 0..20_000 {
+        let case = file_case(&mut rng);
+        let mut list = vec![7; case.words];
+        let answer = judge(&case.file, &mut list);
+        assert!(
+            case.outcome.allows(&answer),
+            "{:?} {:?} {:?}",
+            case.damages,
+            case.outcome,
+            answer
+        );
+        known += usize::from(case.outcome != Outcome::Unknown);
+        match answer {
+            Ok(totals) => {
+                let (expected, starts) = counted(&case.file);
+                assert_eq!(totals, expected);
+                assert_eq!(list[..starts.len()], starts);
+                assert!(list[starts.len()..].iter().all(|word| *word == 0));
+            }
+            Err(refusal) => {
+                assert!(list.iter().all(|word| *word == 0));
+                assert!(refusal.place <= case.file.len());
+            }
+        }
+        count(&mut counts, &answer);
+    }
+    assert_each(&counts, &(0..=12).collect::<Vec<_>>());
+    assert!(counts.values().all(|count| *count >= 100), "{counts:?}");
+    assert!(known > 8_000, "{known}");
+    println!("{counts:?}, {known} known");
+}
+
+#[test]
+fn each_damage_alone() {
+    let mut rng = Rng::new(3);
+    for kind in Damage::ALL {
+        let mut counts = Counts::new();
+        for _ in 0..200 {
+            let mut file = valid_file(&mut rng);
+            let outcome = damage(kind, &mut rng, &mut file);
+            let answer = judge(&file, &mut [0; 4096]);
+            assert!(outcome.allows(&answer), "{kind:?} {outcome:?} {answer:?}");
+            count(&mut counts, &answer);
+        }
+        println!("{kind:?}: {counts:?}");
+    }
+}
+
+#[test]
+fn the_limit_is_exact() {
+    let mut rng = Rng::new(4);
+    for _ in 0..100 {
+        let file = valid_file(&mut rng);
+        let mut full = file.clone();
+        if damage(Damage::GrowToLimit, &mut rng, &mut full) == Outcome::Accepted {
+            assert_eq!(full.len(), 65_535);
+            assert!(judge(&full, &mut [0; 4096]).is_ok());
+        }
+        let mut over = file.clone();
+        if damage(Damage::GrowPastLimit, &mut rng, &mut over) != Outcome::Unknown {
+            assert_eq!(over.len(), 65_536);
+            let one = Refusal {
+                number: 1,
+                place: 65_535,
+            };
+            assert_eq!(judge(&over, &mut [0; 4096]), Err(one));
+        }
+    }
+}
+
+#[test]
+fn lines_and_fields() {
+    let mut rng = Rng::new(5);
+    let (mut lines, mut fields) = (Counts::new(), Counts::new());
+    for _ in 0..20_000 {
+        let call = line_call(&mut rng);
+        let line = read_line(&call.file, call.offset);
+        let field = find_field(&call.file, call.offset, call.number);
+        match (line, field) {
+            (Err(refusal), field) => assert_eq!(field, Err(refusal)),
+            (Ok(line), Err(refusal)) => {
+                assert_eq!((refusal.number, refusal.place), (15, 0));
+                assert!(call.number == 0 || call.number > line.fields);
+            }
+            (Ok(line), Ok((start, length))) => {
+                assert!((1..=line.fields).contains(&call.number));
+                let text = &call.file[call.offset..line.next - 2];
+                let part = text.split(|byte| *byte == b';').nth(call.number).unwrap();
+                assert_eq!(part, &call.file[start..start + length]);
+                assert_eq!(call.file[start - 1], b';');
+                assert!(matches!(call.file[start + length], b';' | b'\r'));
+            }
+        }
+        count(&mut lines, &line);
+        count(&mut fields, &field);
+    }
+    assert_each(&lines, &[0, 1, 2, 3, 5, 6, 7, 8, 9]);
+    assert_each(&fields, &[0, 1, 2, 3, 5, 6, 7, 8, 9, 15]);
+    println!("{lines:?}\n{fields:?}");
+}
+
+#[test]
+fn a_file_is_its_lines() {
+    let mut rng = Rng::new(6);
+    for _ in 0..2_000 {
+        let file = valid_file(&mut rng);
+        let mut offset = 0;
+        let mut read = 0;
+        while offset < file.len() {
+            offset = read_line(&file, offset).unwrap().next;
+            read += 1;
+        }
+        assert_eq!(judge(&file, &mut [0; 4096]).unwrap().lines, read);
+    }
+}
+
+/// Writes into an output of nines and tests that only the line changed, and only on acceptance.
+fn write(call: &WriterCall) -> Result<Vec<u8>, Refusal> {
+    let mut out = vec![9; call.output];
+    let answer = write_line(call.record, &call.text, &call.ends, &mut out, call.fill);
+    let (fill, length) = match answer {
+        Ok(length) => (call.fill, length),
+        Err(_) => (0, 0),
+    };
+    let line = out[fill..fill + length].to_vec();
+    let mut rest = out[..fill].iter().chain(&out[fill + length..]);
+    assert!(rest.all(|byte| *byte == 9));
+    answer.map(|_| line)
+}
+
+/// A written line reads back to its fields.
+fn assert_reads_back(call: &WriterCall, line: &[u8]) {
+    let read = read_line(line, 0).unwrap();
+    assert_eq!(read.record, call.record);
+    assert_eq!(read.fields, call.ends.len());
+    assert_eq!(read.next, line.len());
+    let mut start = 0;
+    for (index, end) in call.ends.iter().enumerate() {
+        let (at, length) = find_field(line, 0, index + 1).unwrap();
+        assert_eq!(line[at..at + length], call.text[start..*end]);
+        start = *end;
+    }
+}
+
+#[test]
+fn written_lines_read_back() {
+    let mut rng = Rng::new(7);
+    for _ in 0..5_000 {
+        let call = valid_writer_call(&mut rng);
+        assert_reads_back(&call, &write(&call).unwrap());
+    }
+    let mut counts = Counts::new();
+    for _ in 0..30_000 {
+        let call = writer_call(&mut rng);
+        let answer = write(&call);
+        if let Ok(line) = &answer {
+            assert_reads_back(&call, line);
+        }
+        count(&mut counts, &answer);
+    }
+    assert_each(&counts, &[0, 3, 5, 6, 7, 8, 9, 13, 14]);
+    println!("{counts:?}");
+}
+
+#[test]
+fn an_accepted_line_written_again_gives_its_bytes() {
+    let mut rng = Rng::new(8);
+    for _ in 0..500 {
+        let file = valid_file(&mut rng);
+        for parts in take_apart(&file).iter().rev().skip(1) {
+            let name = String::from_utf8(parts[0].clone()).unwrap();
+            let call = WriterCall::new(name.parse().unwrap(), &parts[1..]);
+            let line = [&parts.join(&b';')[..], b"\r\n"].concat();
+            assert_eq!(write(&call), Ok(line));
+        }
+    }
+}
+
+#[test]
+fn field_rules_at_their_boundaries() {
+    let cases = field_cases();
+    let (mut read, mut written) = (Counts::new(), Counts::new());
+    let mut known = 0;
+    for case in &cases {
+        let line = case.line();
+        let answer = read_line(&line, 0);
+        assert!(case.read.allows(&answer), "{case:?} {answer:?}");
+        // The same behind other bytes: the places move along.
+        let behind = [&b"\0;\n;\r"[..], &line].concat();
+        match (answer, read_line(&behind, 5)) {
+            (Ok(one), Ok(two)) => {
+                assert_eq!((one.record, one.fields), (two.record, two.fields));
+                assert_eq!(one.next + 5, two.next);
+            }
+            (Err(one), Err(two)) => {
+                assert_eq!((one.number, one.place + 5), (two.number, two.place));
+            }
+            (one, two) => panic!("{one:?} {two:?}"),
+        }
+        let call = case.writer_call();
+        let line_written = write(&call);
+        assert!(
+            case.written.allows(&line_written),
+            "{case:?} {line_written:?}"
+        );
+        match (&answer, &line_written) {
+            (Ok(_), Ok(bytes)) => assert_eq!(*bytes, line),
+            (Ok(_), Err(refusal)) => {
+                // A semicolon that makes one more field of a line is a byte of the field to the
+                // writer: too long, or else not allowed.
+                let width = if case.number == 1 { 22 } else { 64 };
+                let field = &case.fields[case.number - 1];
+                let number = if field.len() > width { 6 } else { 8 };
+                assert!(case.record == 40 || case.record == 50);
+                assert!(field.contains(&b';'));
+                assert_eq!((refusal.number, refusal.place), (number, case.number));
+            }
+            (Err(_), Err(_)) => {}
+            (Err(refusal), Ok(_)) => panic!("{case:?} {refusal:?}"),
+        }
+        known += usize::from(case.read != Outcome::Unknown);
+        count(&mut read, &answer);
+        count(&mut written, &line_written);
+    }
+    let fields: HashSet<(u32, usize)> = cases
+        .iter()
+        .map(|case| (case.record, case.number))
+        .collect();
+    assert_eq!(fields.len(), 10 + 16 + 40 + 24 + 24 + 10);
+    assert_each(&read, &[0, 2, 5, 6, 7, 8, 9]);
+    assert_each(&written, &[0, 6, 7, 8, 9]);
+    println!("{} cases, {known} known, {read:?}", cases.len());
+}
+
+/// The purpose from the parts of an accepted file, without its first 35 bytes being cut.
+fn purpose_of_parts(file: &[u8], line: usize) -> Option<Vec<u8>> {
+    let lines = take_apart(file);
+    let cash = lines.get(line)?;
+    if cash[0] != b"060" || cash[1] != b"006" {
+        return None;
+    }
+    let above = lines[..line].iter().rposition(|line| line[0] == b"030")?;
+    let parcel = lines[above..].iter().find(|line| line[0] == b"040")?;
+    let shipment = &lines[above];
+    let mut text = cash[8].clone();
+    for source in [&shipment[1], &shipment[34], &shipment[36], &parcel[3]] {
+        if text.is_empty() {
+            text = source.clone();
+        }
+    }
+    if text.is_empty() {
+        text = [&parcel[1][..], b"/", &shipment[16]].concat();
+    }
+    Some(text)
+}
+
+#[test]
+fn purposes() {
+    let mut rng = Rng::new(9);
+    let mut counts = Counts::new();
+    let mut cut = 0;
+    for _ in 0..10_000 {
+        let call = purpose_call(&mut rng);
+        let (mut list, mut out) = (vec![7; call.words], vec![9; call.output]);
+        let answer = purpose(&call.file, call.line, &mut list, &mut out);
+        let mut judged = vec![7; call.words];
+        let totals = judge(&call.file, &mut judged);
+        let expected = match totals {
+            Err(refusal) => Err(refusal),
+            Ok(_) => match purpose_of_parts(&call.file, call.line) {
+                None => Err(Refusal {
+                    number: 15,
+                    place: 0,
+                }),
+                Some(_) if call.output < 35 => Err(Refusal {
+                    number: 13,
+                    place: 0,
+                }),
+                Some(text) => Ok(text),
+            },
+        };
+        match (&answer, &expected) {
+            (Ok(length), Ok(text)) => {
+                cut += usize::from(text.len() > 35);
+                assert_eq!(*length, text.len().min(35));
+                assert_eq!(out[..*length], text[..*length]);
+                assert!(out[*length..].iter().all(|byte| *byte == 9));
+                assert_eq!(list, judged);
+            }
+            (Err(one), Err(two)) => {
+                assert_eq!(one, two);
+                assert!(out.iter().all(|byte| *byte == 9));
+                assert!(list.iter().all(|word| *word == 0));
+            }
+            _ => panic!("{answer:?} {expected:?}"),
+        }
+        count(&mut counts, &answer);
+    }
+    for number in [0, 13, 15] {
+        assert!(counts[&number] > 300, "{counts:?}");
+    }
+    assert!(cut > 100);
+    println!("{counts:?}, {cut} cut");
+}
+
+#[test]
+fn numbers() {
+    let mut rng = Rng::new(10);
+    let mut counts = Counts::new();
+    for _ in 0..20_000 {
+        let number = valid_number(&mut rng);
+        let kind = match number.len() {
+            15 => Kind::Tracking,
+            _ => Kind::Label,
+        };
+        assert_eq!(check_number(&number), Ok(kind));
+        count(&mut counts, &check_number(&damaged_number(&mut rng)));
+    }
+    assert_each(&counts, &[0, 16, 17, 18]);
+    println!("{counts:?}");
+}
+
+#[test]
+fn issuing() {
+    let mut rng = Rng::new(11);
+    let mut counts = Counts::new();
+    for _ in 0..20_000 {
+        let call = issue_call(&mut rng);
+        let mut out = vec![9; call.output];
+        let answer = issue_number(&call.body, &mut out);
+        let length = answer.unwrap_or(0);
+        if answer.is_ok() {
+            assert_eq!(length, call.body.len() + 1);
+            assert_eq!(out[..length - 1], call.body);
+            assert!(check_number(&out[..length]).is_ok());
+        }
+        assert!(out[length..].iter().all(|byte| *byte == 9));
+        count(&mut counts, &answer);
+    }
+    assert_each(&counts, &[0, 13, 16, 17]);
+    println!("{counts:?}");
+}
+
+/// The C function that 001 prints, in its own steps.
+fn check_of_001(body: &[u8]) -> u8 {
+    let mut p = 36;
+    for symbol in body {
+        p += (*symbol as char).to_digit(36).unwrap();
+        if p > 36 {
+            p -= 36;
+        }
+        p *= 2;
+        if p >= 37 {
+            p -= 37;
+        }
+    }
+    p = 37 - p;
+    let value = if p == 36 { 0 } else { p };
+    char::from_digit(value, 36).unwrap().to_ascii_uppercase() as u8
+}
+
+#[test]
+fn checks_are_those_of_001() {
+    let mut rng = Rng::new(12);
+    for _ in 0..20_000 {
+        let number = valid_number(&mut rng);
+        let (check, body) = number.split_last().unwrap();
+        assert_eq!(*check, check_of_001(body));
+    }
+}
+
+/// The remainder by 97, one symbol after the other.
+fn remainder(iban: &[u8]) -> u32 {
+    let moved = [&iban[4..], &iban[..4]].concat();
+    moved.iter().fold(0, |sum, symbol| {
+        let value = (*symbol as char).to_digit(36).unwrap();
+        let shift = if value >= 10 { 100 } else { 10 };
+        (sum * shift + value) % 97
+    })
+}
+
+#[test]
+fn ibans() {
+    let mut rng = Rng::new(13);
+    let mut counts = Counts::new();
+    let mut barred = 0;
+    for _ in 0..20_000 {
+        let iban = valid_iban(&mut rng);
+        assert_eq!(check_iban(&iban), Ok(()));
+        assert_eq!(remainder(&iban), 1);
+        let damaged = damaged_iban(&mut rng);
+        let answer = check_iban(&damaged);
+        if let Err(Refusal { number: 18, place }) = answer {
+            assert_eq!(place, 2);
+            barred += usize::from(remainder(&damaged) == 1);
+        }
+        count(&mut counts, &answer);
+    }
+    assert_each(&counts, &[0, 16, 17, 18]);
+    assert!(barred > 1000, "{barred}");
+    println!("{counts:?}, {barred} barred");
+}
+
+/// "Swapping two unlike neighbours in an accepted DPD number, where the shape still holds, passes
+/// exactly when one value follows the other (0 follows 35) and the carry before them plus the
+/// followed value is 18, modulo 36."
+#[test]
+fn swapped_neighbours_in_numbers() {
+    let value = |symbol: u8| (symbol as char).to_digit(36).unwrap();
+    let mut rng = Rng::new(14);
+    let mut passed = 0;
+    for _ in 0..20_000 {
+        let number = valid_number(&mut rng);
+        let mut carry = 36;
+        for place in 0..number.len() - 1 {
+            let (one, two) = (value(number[place]), value(number[place + 1]));
+            let mut swapped = number.clone();
+            swapped.swap(place, place + 1);
+            let answer = check_number(&swapped);
+            let shaped = !matches!(answer, Err(Refusal { number: 17, .. }));
+            if one != two && shaped {
+                let follows = |followed: u32, follower: u32| {
+                    (followed + 1) % 36 == follower && (carry + followed) % 36 == 18
+                };
+                assert_eq!(answer.is_ok(), follows(one, two) || follows(two, one));
+                passed += usize::from(answer.is_ok());
+            }
+            let sum = (carry + one) % 36;
+            carry = 2 * (if sum == 0 { 36 } else { sum }) % 37;
+        }
+    }
+    assert!(passed > 100, "{passed}");
+}
+
+/// "Two IBANs never differ by swapping two neighbouring digits or two neighbouring letters", nor in
+/// a digit for a digit or a letter for a letter.
+#[test]
+fn slips_in_ibans() {
+    let mut rng = Rng::new(15);
+    for _ in 0..5_000 {
+        let iban = valid_iban(&mut rng);
+        for place in 0..iban.len() {
+            let mut slipped = iban.clone();
+            slipped[place] = match iban[place].is_ascii_digit() {
+                true => rng.digit(),
+                false => rng.capital(),
+            };
+            assert!(slipped == iban || check_iban(&slipped).is_err());
+            let next = (place + 1).min(iban.len() - 1);
+            let mut swapped = iban.clone();
+            swapped.swap(place, next);
+            let alike = iban[place].is_ascii_digit() == iban[next].is_ascii_digit();
+            assert!(!alike || swapped == iban || check_iban(&swapped).is_err());
+        }
+    }
+}

@@ -1,0 +1,568 @@
+//! The cases that document 01 names, the numbers that 001 prints, and every refusal with its place.
+
+use reference::file::{judge, Totals};
+use reference::line::{find_field, read_line, Line};
+use reference::numbers::{check_iban, check_number, issue_number, Kind};
+use reference::purpose::purpose;
+use reference::writer::write_line;
+use reference::Refusal;
+
+const EXAMPLE: &str = "\
+010;0012345678;Muster;2021-02-23T13:37:50;2021-02-24T14:20:55;1005;5;;;;\r\n\
+020;A;;;;AT;1010;Wien;;Gasse;;1;1;a@b;;;\r\n\
+030;;;;;;;;;;;;;;;;B;;;;AT;1020;Wien;;Gasse;;2;;;;;;;;;;;;;;\r\n\
+040;1000000000000000000001;;\r\n\
+050;10\r\n\
+060;006;;12.50;EUR;Muster;AT611904300234573201;ABCDATWW;;;\r\n";
+
+/// The first offsets of the example's lines.
+const STARTS: [u32; 6] = [0, 74, 116, 178, 208, 216];
+
+fn no<T>(number: u32, place: usize) -> Result<T, Refusal> {
+    Err(Refusal { number, place })
+}
+
+fn judged(file: impl AsRef<[u8]>) -> Result<Totals, Refusal> {
+    judge(file.as_ref(), &mut [7; 4096])
+}
+
+fn totals(lines: usize, parcels: usize, cents: u64) -> Result<Totals, Refusal> {
+    Ok(Totals {
+        lines,
+        parcels,
+        cents,
+    })
+}
+
+/// The example with one piece put for another, which it must have exactly once.
+fn with(old: &str, new: &str) -> String {
+    assert_eq!(EXAMPLE.matches(old).count(), 1, "{old}");
+    EXAMPLE.replace(old, new)
+}
+
+/// Where a piece stands in the example.
+fn at(piece: &str) -> usize {
+    EXAMPLE.find(piece).unwrap()
+}
+
+#[test]
+fn the_example_is_accepted() {
+    let mut list = [7; 10];
+    assert_eq!(judge(EXAMPLE.as_bytes(), &mut list), totals(6, 1, 1250));
+    assert_eq!(list[..6], STARTS);
+    assert_eq!(list[6..], [0; 4]);
+    let mut exact = [7; 6];
+    assert_eq!(judge(EXAMPLE.as_bytes(), &mut exact), totals(6, 1, 1250));
+    assert_eq!(exact, STARTS);
+}
+
+#[test]
+fn the_example_has_its_purpose() {
+    let (mut list, mut out) = ([7; 7], [9; 40]);
+    let answer = purpose(EXAMPLE.as_bytes(), 5, &mut list, &mut out);
+    assert_eq!(answer, Ok(24));
+    assert_eq!(&out[..24], b"1000000000000000000001/B");
+    assert_eq!(out[24..], [9; 16]);
+    assert_eq!(list[..6], STARTS);
+    assert_eq!(list[6], 0);
+}
+
+#[test]
+fn the_three_short_inputs() {
+    assert_eq!(judged(""), no(12, 0));
+    assert_eq!(judge(b"", &mut []), no(12, 0));
+    assert_eq!(judged("\r\n"), no(3, 0));
+    assert_eq!(judged("010;\r\n"), no(5, 0));
+}
+
+#[test]
+fn marked_numbers() {
+    assert_eq!(check_number(b"09980000020041F"), Ok(Kind::Tracking));
+    assert_eq!(check_number(b"09980000020041f"), no(17, 14));
+    assert_eq!(check_number(b"09980000020041"), no(16, 0));
+    assert_eq!(check_number(b"00000000000000U"), Ok(Kind::Tracking));
+    assert_eq!(check_number(b"09230000000000Z"), Ok(Kind::Tracking));
+    assert_eq!(check_number(b"09320000000000Z"), Ok(Kind::Tracking));
+    assert_eq!(
+        check_number(b"0002800099800000200371550566"),
+        Ok(Kind::Label)
+    );
+    assert_eq!(check_number(b"0002800099800000200371550567"), no(18, 27));
+    assert_eq!(check_iban(b"AT611904300234573201"), Ok(()));
+    assert_eq!(check_iban(b"AT161904300234573201"), no(18, 2));
+}
+
+#[test]
+fn marked_amounts_and_dates() {
+    let amount = |text: &str| judged(with("12.50", text));
+    assert_eq!(amount("0.01"), totals(6, 1, 1));
+    assert_eq!(amount("999999.99"), totals(6, 1, 99_999_999));
+    assert_eq!(amount("0.00"), no(8, at("12.50")));
+    assert_eq!(amount("01.00"), no(8, at("12.50")));
+    let date = |text: &str| judged(with("2021-02-23", text));
+    assert_eq!(date("2024-02-29"), totals(6, 1, 1250));
+    assert_eq!(date("2023-02-29"), no(8, at("2021-02-23")));
+}
+
+/// The labels and tracking numbers that 001 prints with an undamaged check.
+#[test]
+fn published_numbers() {
+    let labels = "\
+        0081827 09980000020028 101 276 B, 0071106 01632532948375 179 276 A, \
+        0019900 09980000020084 109 203 1, 0081827 09980000020029 136 276 3, \
+        0012345 09980000020031 105 276 L, 0081827 09980000020032 154 276 J, \
+        0081827 09980000020030 109 276 W, 0081827 09980000020033 350 276 C, \
+        0081827 09980000020034 179 276 I, 0081827 09980000020035 225 276 H, \
+        0081827 09980000020036 155 276 5, 0002800 09980000020037 155 056 6, \
+        0078550 09980000020041 302 840 U, 0081827 09980000020042 102 276 R, \
+        0081827 09980000020043 113 276 Y, 0071600 09980000020050 294 276 C, \
+        0081827 09980000020045 327 276 N, 0081827 09980000020051 106 276 M, \
+        0081827 09980000020052 110 276 W, 0081827 09980000020054 352 276 B, \
+        0081827 09980000020055 191 276 A, 0081827 09980000020056 237 276 K";
+    let tracking = "\
+        099800000200289, 09980000020084U, 016325329483752, 099800000200297, \
+        09980000020032H, 09980000020030L, 09980000020033F, 09980000020034D, \
+        09980000020035B, 099800000200369, 09980000020041F, 09980000020042D, \
+        09980000020043B, 099800000200449, 09980000020050D, 099800000200457, \
+        099800000200473, 09980978004757U, 09980000020051B, 099800000200529, \
+        099800000200537, 099800000200545, 099800000200553, 099800000200561";
+    let passing = |printed: &str, kind: Kind| {
+        let numbers = printed.split(',').map(|number| number.replace(' ', ""));
+        numbers
+            .filter(|number| {
+                let mut out = vec![0; number.len()];
+                let body = &number.as_bytes()[..number.len() - 1];
+                assert_eq!(check_number(number.as_bytes()), Ok(kind), "{number}");
+                assert_eq!(issue_number(body, &mut out), Ok(number.len()));
+                out == number.as_bytes()
+            })
+            .count()
+    };
+    assert_eq!(passing(labels, Kind::Label), 22);
+    assert_eq!(passing(tracking, Kind::Tracking), 24);
+    // Printed with a zero for the letter O, and with a 3 for the letter M.
+    for (damaged, check) in [
+        ("0071106016325329483751012760", b'O'),
+        ("0063743099800000200473372760", b'O'),
+        ("0081827099800000200531612760", b'O'),
+        ("0063741099809780047573322763", b'M'),
+    ] {
+        assert_eq!(check_number(damaged.as_bytes()), no(18, 27), "{damaged}");
+        let mut out = [0; 28];
+        assert_eq!(issue_number(&damaged.as_bytes()[..27], &mut out), Ok(28));
+        assert_eq!(out[27], check);
+    }
+}
+
+#[test]
+fn refusals_of_numbers() {
+    for length in (0..40).filter(|length| *length != 15 && *length != 28) {
+        assert_eq!(check_number(&vec![b'?'; length]), no(16, 0));
+    }
+    for length in (0..40).filter(|length| *length != 14 && *length != 27) {
+        assert_eq!(issue_number(&vec![b'?'; length], &mut []), no(16, 0));
+    }
+    assert_eq!(check_number(b"0998000002004?F"), no(17, 13));
+    assert_eq!(check_number(b"A9980000020041f"), no(17, 0));
+    assert_eq!(check_number(b"A00280009980000020037155056?"), no(17, 27));
+    assert_eq!(check_number(b"000280A09980000020037155056a"), no(17, 27));
+    assert_eq!(check_number(b"0002800A9980000020037155056a"), no(17, 7));
+    assert_eq!(check_number(b"09980000020041G"), no(18, 14));
+    let mut out = [9; 20];
+    assert_eq!(issue_number(b"0998000002004A", &mut out), no(17, 13));
+    assert_eq!(issue_number(b"0998000002004A", &mut []), no(17, 13));
+    assert_eq!(issue_number(b"09980000020041", &mut out[..14]), no(13, 0));
+    assert_eq!(out, [9; 20]);
+    assert_eq!(issue_number(b"09980000020041", &mut out), Ok(15));
+    assert_eq!(&out[..15], b"09980000020041F");
+    assert_eq!(out[15..], [9; 5]);
+}
+
+/// d stands for a digit, c for a capital, s for either.
+#[test]
+fn every_symbol_at_every_place() {
+    let fits = |class: u8, symbol: u8| {
+        (class != b'c' && symbol.is_ascii_digit()) || (class != b'd' && symbol.is_ascii_uppercase())
+    };
+    let shapes = [
+        ("09980000020041F", "dddddddddddddds"),
+        (
+            "0002800099800000200371550566",
+            "sssssssdddddddddddddddddddds",
+        ),
+        ("AT611904300234573201", "ccddssssssssssssssss"),
+    ];
+    for (number, shape) in shapes {
+        let is_iban = number.starts_with('A');
+        let check = |number: &[u8]| match is_iban {
+            true => check_iban(number),
+            false => check_number(number).map(|_| ()),
+        };
+        for (place, class) in shape.bytes().enumerate() {
+            for symbol in 0..=255 {
+                let mut symbols = number.as_bytes().to_vec();
+                symbols[place] = symbol;
+                let place_of_18 = if is_iban { 2 } else { number.len() - 1 };
+                // No other symbol passes, but in an IBAN a letter may for a digit.
+                let exchanged = is_iban && symbol.is_ascii_uppercase() && place > 1;
+                let answer = check(&symbols);
+                match fits(class, symbol) {
+                    false => assert_eq!(answer, no(17, place)),
+                    true if symbols == number.as_bytes() => assert_eq!(answer, Ok(())),
+                    true if exchanged && answer.is_ok() => {}
+                    true => assert_eq!(answer, no(18, place_of_18)),
+                }
+                if !is_iban && place + 1 < number.len() {
+                    let issued = issue_number(&symbols[..number.len() - 1], &mut [0; 28]);
+                    match fits(class, symbol) {
+                        false => assert_eq!(issued, no(17, place)),
+                        true => assert_eq!(issued, Ok(number.len())),
+                    }
+                }
+            }
+        }
+    }
+}
+
+#[test]
+fn refusals_of_ibans() {
+    assert_eq!(check_iban(b"NO9386011117947"), Ok(()));
+    assert_eq!(check_iban(b"NO938601111794"), no(16, 0));
+    assert_eq!(check_iban(&[b'?'; 35]), no(16, 0));
+    assert_eq!(check_iban(&[b'?'; 34]), no(17, 0));
+    assert_eq!(check_iban(b"aT611904300234573201"), no(17, 0));
+    assert_eq!(check_iban(b"A1611904300234573201"), no(17, 1));
+    assert_eq!(check_iban(b"ATA11904300234573201"), no(17, 2));
+    assert_eq!(check_iban(b"AT991904300234573x01"), no(17, 17));
+    // Remainder 1, but check digits that no IBAN has: 97, 98 and 02 pass in their place.
+    for (passing, barred) in [("97", "00"), ("98", "01"), ("02", "99")] {
+        let found = (0..1000)
+            .map(|body| format!("AT{passing}19043002345{body:05}"))
+            .find(|iban| check_iban(iban.as_bytes()).is_ok())
+            .unwrap();
+        let other = found.replacen(passing, barred, 1);
+        assert_eq!(check_iban(other.as_bytes()), no(18, 2));
+    }
+}
+
+#[test]
+fn refusals_of_files() {
+    // 1
+    let long = EXAMPLE.to_string() + &"x".repeat(65_536 - EXAMPLE.len());
+    assert_eq!(judged(&long), no(1, 65_535));
+    assert_eq!(judged(&long[..65_535]), no(2, 65_535));
+    // 2
+    assert_eq!(judged("\n"), no(2, 0));
+    assert_eq!(judged("\r"), no(2, 0));
+    assert_eq!(judged("x"), no(2, 1));
+    assert_eq!(judged("x\ry"), no(2, 1));
+    assert_eq!(judged("010\r"), no(2, 3));
+    assert_eq!(judged(b"010;\x7F\r\n"), no(2, 4));
+    assert_eq!(judged(b"010;\x9F\r\n"), no(2, 4));
+    assert_eq!(judged(with("Muster;2021", "Mus\tter;2021")), no(2, 18));
+    assert_eq!(judged(&EXAMPLE[..EXAMPLE.len() - 1]), no(2, 274));
+    assert_eq!(judged(&EXAMPLE[..EXAMPLE.len() - 2]), no(2, 274));
+    assert_eq!(judged(EXAMPLE.to_string() + "0"), no(2, 277));
+    // 3
+    for name in [
+        "041;", "042;", "070;", "10;", "0100;", " 010;", ";", "", "266;",
+    ] {
+        assert_eq!(judged(format!("{name}\r\n")), no(3, 0), "{name}");
+    }
+    // 4
+    assert_eq!(judged(with("010;00", "020;00")), no(4, 0));
+    assert_eq!(judged(with("020;A", "010;A")), no(4, 74));
+    assert_eq!(judged(with("030;;", "020;;")), no(4, 116));
+    assert_eq!(judged(with("040;10", "060;10")), no(4, 178));
+    assert_eq!(judged(with("050;10", "060;10")), no(4, 208));
+    assert_eq!(judged(with("060;", "040;")), no(4, 216));
+    // 5
+    assert_eq!(judged(with("050;10", "050")), no(5, 208));
+    assert_eq!(
+        judged(with("050;10", &format!("050;10{}", ";".repeat(24)))),
+        no(5, 208)
+    );
+    assert_eq!(
+        judged(with("050;10", &format!("050;10{}", ";".repeat(23)))),
+        totals(6, 1, 1250)
+    );
+    assert_eq!(judged(with("01;;\r", "01;\r")), no(5, 178));
+    assert_eq!(judged(with("WW;;;", "WW;;")), no(5, 216));
+    assert_eq!(judged(with("WW;;;", "WW;;;;")), no(5, 216));
+    // 6
+    assert_eq!(
+        judged(with("Muster;2021", &format!("{};2021", "M".repeat(41)))),
+        no(6, 15)
+    );
+    // 7
+    assert_eq!(judged(with("Muster;2021", ";2021")), no(7, 15));
+    assert_eq!(judged(with("Muster;2021", " ;2021")), totals(6, 1, 1250));
+    // 8
+    assert_eq!(judged(with("1005;5", "1005;4")), no(8, at("5;;;;\r")));
+    assert_eq!(judged(with("AT;1010", "AT;101a")), no(8, at("1010;Wien")));
+    assert_eq!(judged(with("AT;1010", "DE;101a")), totals(6, 1, 1250));
+    assert_eq!(judged(with("AT;1020", "AT;102a")), no(8, at("1020;Wien")));
+    // 9
+    assert_eq!(judged(with("12.50", "")), no(9, 216));
+    assert_eq!(judged(with("ABCDATWW", "")), no(9, 216));
+    assert_eq!(judged(with("060;006;;12.50", "060;054;;12.50")), no(9, 216));
+    // 10
+    let parcel = "040;1000000000000000000001;;\r\n";
+    assert_eq!(judged(with(parcel, &parcel.repeat(2))), no(10, 212));
+    let far = EXAMPLE.to_string() + &EXAMPLE[116..].replace("0001;;", "0002;;") + &EXAMPLE[116..];
+    assert_eq!(judged(&far), no(10, 276 + 160 + 66));
+    // 11
+    for (words, start) in STARTS.into_iter().enumerate() {
+        let mut list = vec![7; words];
+        let answer = judge(EXAMPLE.as_bytes(), &mut list);
+        assert_eq!(answer, no(11, start as usize));
+        assert!(list.iter().all(|word| *word == 0));
+    }
+    // 12
+    for end in [74, 116, 178, 208] {
+        assert_eq!(judged(&EXAMPLE[..end]), no(12, end));
+    }
+    assert_eq!(judged(&EXAMPLE[..216]), totals(5, 1, 0));
+}
+
+#[test]
+fn the_order_of_refusals() {
+    // 2 before 3, 3 before 4, 4 before 5, 5 before 7.
+    assert_eq!(judged("999"), no(2, 3));
+    assert_eq!(judged(EXAMPLE.to_string() + "999;\r\n"), no(3, 276));
+    assert_eq!(judged("050;;;\r\n"), no(4, 0));
+    assert_eq!(judged("010;;\r\n"), no(5, 0));
+    // The field on the left first, whatever its number; 6 before 8.
+    assert_eq!(judged("010;;;;;;;;;;\r\n"), no(7, 4));
+    assert_eq!(judged("010;1;;;;;;;;;\r\n"), no(8, 4));
+    assert_eq!(judged("010;11111111111;;;;;;;;;\r\n"), no(6, 4));
+    // 8 before 9, 9 before 11, 10 before 11.
+    assert_eq!(
+        judged(with("12.50;EUR", ";eur")),
+        no(8, at("12.50;EUR") + 1)
+    );
+    assert_eq!(judge(with("12.50", "").as_bytes(), &mut [7; 5]), no(9, 216));
+    let parcel = "040;1000000000000000000001;;\r\n";
+    let twice = with(parcel, &parcel.repeat(2));
+    assert_eq!(judge(twice.as_bytes(), &mut [7; 4]), no(10, 212));
+    // 11 before 12.
+    assert_eq!(judge(&EXAMPLE.as_bytes()[..74], &mut []), no(11, 0));
+}
+
+#[test]
+fn cash_counts_euros_under_both_codes() {
+    let cash = &EXAMPLE[216..];
+    let more = [
+        cash.replace("006", "022"),           // counts
+        cash.replace("EUR", "USD"),           // another currency
+        cash.replace("006", "011"),           // another feature
+        cash.replace("12.50", "999999.99"),   // counts
+        cash.replace("060;006", "060;004"),   // needs nothing, counts nothing
+        "060;063;;5.00;EUR;;;;;;\r\n".into(), // another feature
+    ];
+    let file = EXAMPLE.to_string() + &more.concat();
+    assert_eq!(judged(file), totals(12, 1, 1250 + 1250 + 99_999_999));
+}
+
+#[test]
+fn one_line_and_one_field() {
+    let file = EXAMPLE.as_bytes();
+    let line = |record, fields, next| {
+        Ok(Line {
+            record,
+            fields,
+            next,
+        })
+    };
+    assert_eq!(read_line(file, 0), line(10, 10, 74));
+    assert_eq!(read_line(file, 74), line(20, 16, 116));
+    assert_eq!(read_line(file, 116), line(30, 40, 178));
+    assert_eq!(read_line(file, 178), line(40, 3, 208));
+    assert_eq!(read_line(file, 208), line(50, 1, 216));
+    assert_eq!(read_line(file, 216), line(60, 10, 276));
+    // Past the file, and inside a line.
+    assert_eq!(read_line(file, 276), no(2, 276));
+    assert_eq!(read_line(file, 277), no(2, 276));
+    assert_eq!(read_line(file, usize::MAX), no(2, 276));
+    assert_eq!(read_line(b"", 0), no(2, 0));
+    assert_eq!(read_line(file, 1), no(3, 1));
+    assert_eq!(read_line(b"x050;1\r\n", 1), line(50, 1, 8));
+    // Judged alone: no order, no identcodes, no list.
+    assert_eq!(read_line(b"050;1\r\n", 0), line(50, 1, 7));
+    assert_eq!(read_line(&[b'x'; 65_536], 7), no(1, 65_535));
+    assert_eq!(read_line(&[b'x'; 65_536], usize::MAX), no(1, 65_535));
+    assert_eq!(read_line(b"\x00050;;\r\n", 1), no(7, 5));
+    assert_eq!(read_line(b"\x00060;006;;;;;;;;;\r\n", 1), no(9, 1));
+
+    assert_eq!(find_field(file, 216, 1), Ok((220, 3)));
+    assert_eq!(find_field(file, 216, 2), Ok((224, 0)));
+    assert_eq!(find_field(file, 216, 3), Ok((225, 5)));
+    assert_eq!(find_field(file, 216, 10), Ok((274, 0)));
+    assert_eq!(find_field(file, 216, 11), no(15, 0));
+    assert_eq!(find_field(file, 216, 0), no(15, 0));
+    assert_eq!(find_field(file, 216, usize::MAX), no(15, 0));
+    assert_eq!(find_field(file, 276, 0), no(2, 276));
+    assert_eq!(find_field(file, 1, 0), no(3, 1));
+}
+
+#[test]
+fn every_source_of_the_purpose() {
+    let of = |file: &str, line: usize| {
+        let (mut list, mut out) = ([7; 20], [0; 35]);
+        let length = purpose(file.as_bytes(), line, &mut list, &mut out)?;
+        Ok(String::from_utf8(out[..length].to_vec()).unwrap())
+    };
+    let text = |text: &str| Ok::<_, Refusal>(text.to_string());
+    // Each source is set while those before it stay empty.
+    let name = "N".repeat(40);
+    let mut file = with(";;;;B;;;;AT", &format!(";;;;{name};;;;AT"));
+    let joined = format!("1000000000000000000001/{name}");
+    assert_eq!(of(&file, 5), text(&joined[..35]));
+    file = file.replace("0001;;\r\n", &format!("0001;;{}\r\n", "p".repeat(64)));
+    assert_eq!(of(&file, 5), text(&"p".repeat(35)));
+    file = file.replace(";;2;;;;;;;;;;;;;;\r", ";;2;;;;;;;;;;alt;;;;\r");
+    assert_eq!(of(&file, 5), text("alt"));
+    file = file.replace(";;2;;;;;;;;;;alt", ";;2;;;;;;;;ref;;alt");
+    assert_eq!(of(&file, 5), text("ref"));
+    file = file.replace("030;;", &format!("030;{};", "1".repeat(40)));
+    assert_eq!(of(&file, 5), text(&"1".repeat(35)));
+    file = file.replace("ABCDATWW;;", "ABCDATWW; ;");
+    assert_eq!(of(&file, 5), text(" "));
+    // The shipment's first parcel, not its last; the nearest shipment, not the first.
+    let second = "040;1000000000000000000002;;second\r\n";
+    let two = with("050;10", &format!("{second}050;10"));
+    assert_eq!(of(&two, 6), text("1000000000000000000001/B"));
+    let next = EXAMPLE[116..]
+        .replace("0001;;", "0003;;")
+        .replace(";B;", ";C;");
+    let both = EXAMPLE.to_string() + &next;
+    assert_eq!(of(&both, 9), text("1000000000000000000003/C"));
+    assert_eq!(of(&both, 5), text("1000000000000000000001/B"));
+}
+
+#[test]
+fn refusals_of_the_purpose() {
+    let file = EXAMPLE.as_bytes();
+    let ask = |file: &[u8], line: usize, words: usize, bytes: usize| {
+        let (mut list, mut out) = (vec![7; words], vec![9; bytes]);
+        let answer = purpose(file, line, &mut list, &mut out);
+        assert!(answer.is_ok() || list.iter().all(|word| *word == 0));
+        assert!(answer.is_ok() || out.iter().all(|byte| *byte == 9));
+        answer
+    };
+    assert_eq!(ask(file, 5, 6, 35), Ok(24));
+    assert_eq!(ask(file, 5, 6, 34), no(13, 0));
+    assert_eq!(ask(file, 5, 5, 34), no(11, 216));
+    for line in [0, 1, 2, 3, 4, 6, 7, usize::MAX] {
+        assert_eq!(ask(file, line, 6, 0), no(15, 0));
+    }
+    let other = EXAMPLE.replace("060;006", "060;022");
+    assert_eq!(ask(other.as_bytes(), 5, 6, 35), no(15, 0));
+    assert_eq!(ask(b"", 0, 0, 0), no(12, 0));
+    assert_eq!(ask(&[b'x'; 65_536], 0, 6, 35), no(1, 65_535));
+}
+
+#[test]
+fn refusals_of_the_writer() {
+    let write = |record: u32, text: &str, ends: &[usize], bytes: usize, fill: usize| {
+        let mut out = vec![9; bytes];
+        let answer = write_line(record, text.as_bytes(), ends, &mut out, fill);
+        let changed = out.iter().filter(|byte| **byte != 9).count();
+        assert_eq!(changed, answer.unwrap_or(0));
+        answer
+    };
+    assert_eq!(write(50, "10", &[2], 8, 0), Ok(8));
+    assert_eq!(write(50, "10", &[2], 20, 12), Ok(8));
+    // 3
+    for record in [0, 1, 5, 11, 41, 70, 266, u32::MAX] {
+        assert_eq!(write(record, "10", &[], 8, 0), no(3, 0));
+    }
+    // 14
+    assert_eq!(write(50, "10", &[], 8, 0), no(14, 0));
+    assert_eq!(write(50, "10", &[1], 8, 0), no(14, 0));
+    assert_eq!(write(50, "10", &[3], 8, 0), no(14, 0));
+    assert_eq!(write(50, "10", &[2, 1, 2], 8, 0), no(14, 0));
+    assert_eq!(write(50, "10", &[usize::MAX, 2], 8, 0), no(14, 0));
+    assert_eq!(write(50, "10", &[2, 2, 2], 10, 0), Ok(10));
+    // 5
+    assert_eq!(write(50, "", &[], 8, 0), no(5, 0));
+    assert_eq!(write(50, "10", &[2; 25], 100, 0), no(5, 0));
+    assert_eq!(write(40, "10", &[2; 2], 0, 0), no(5, 0));
+    // 6, 7, 8
+    assert_eq!(write(50, &"1".repeat(21), &[21], 0, 0), no(6, 1));
+    assert_eq!(write(50, &";".repeat(21), &[21], 0, 0), no(6, 1));
+    assert_eq!(write(50, "", &[0], 0, 0), no(7, 1));
+    assert_eq!(write(50, "1;", &[2], 0, 0), no(8, 1));
+    assert_eq!(write(50, "1x\r", &[1, 3], 0, 0), no(8, 2));
+    assert_eq!(write(50, "1x\u{7F}", &[1, 2, 3], 0, 0), no(8, 3));
+    let identcode = "1000000000000000000001";
+    assert_eq!(write(40, identcode, &[22; 3], 0, 0), no(13, 0));
+    assert_eq!(write(40, &identcode[1..], &[21; 3], 0, 0), no(8, 1));
+    // 9, then 13
+    assert_eq!(write(60, "006", &[3; 10], 0, 0), no(9, 0));
+    assert_eq!(write(60, "004", &[3; 10], 17, 0), no(13, 0));
+    assert_eq!(write(60, "004", &[3; 10], 18, 0), Ok(18));
+    assert_eq!(write(60, "004", &[3; 10], 18, 1), no(13, 0));
+    assert_eq!(write(60, "004", &[3; 10], 18, 19), no(13, 0));
+    assert_eq!(write(60, "004", &[3; 10], 18, usize::MAX), no(13, 0));
+}
+
+#[test]
+fn a_written_line_stands_at_the_fill() {
+    let mut out = *b"................";
+    assert_eq!(write_line(50, b"10x", &[2, 2, 3], &mut out, 3), Ok(11));
+    assert_eq!(&out, b"...050;10;;x\r\n..");
+}
+
+/// The example's first line with this date-time.
+fn date_time_holds(text: &str) -> bool {
+    let line = EXAMPLE[..74].replace("2021-02-23T13:37:50", text);
+    read_line(line.as_bytes(), 0).is_ok()
+}
+
+#[test]
+fn a_century_has_its_days() {
+    let mut days = 0;
+    for year in 1999..=2100 {
+        for month in 0..=13 {
+            for day in 0..=32 {
+                let text = format!("{year}-{month:02}-{day:02}T00:00:00");
+                days += u32::from(date_time_holds(&text));
+            }
+        }
+    }
+    // 2000 to 2099 has 25 leap years.
+    assert_eq!(days, 100 * 365 + 25);
+    let times = |shape: &dyn Fn(u32) -> String| {
+        let texts = (0..100).map(|number| format!("2021-02-23T{}", shape(number)));
+        texts.filter(|text| date_time_holds(text)).count()
+    };
+    assert_eq!(times(&|hour| format!("{hour:02}:59:59")), 24);
+    assert_eq!(times(&|minute| format!("23:{minute:02}:59")), 60);
+    assert_eq!(times(&|second| format!("23:59:{second:02}")), 60);
+}
+
+/// An amount holds exactly when it is how some number of cents from 1 to 99,999,999 is written.
+#[test]
+fn amounts_are_written_cents() {
+    let written = |text: &str| {
+        let cents = text.replacen('.', "", 1).parse::<u32>().unwrap_or(0);
+        let range = 1..=99_999_999;
+        range.contains(&cents) && text == format!("{}.{:02}", cents / 100, cents % 100)
+    };
+    let mut texts = vec![String::new()];
+    let mut held = 0;
+    for _ in 0..6 {
+        let longer = texts
+            .iter()
+            .flat_map(|text| ["0", "1", "9", ".", "a"].map(|symbol| text.clone() + symbol));
+        texts = longer.collect();
+        for text in &texts {
+            let answer = judged(with("12.50", text));
+            assert_eq!(answer.is_ok(), written(text), "{text}");
+            held += u32::from(answer.is_ok());
+        }
+    }
+    // 3, 6 and 18 whole parts of up to three symbols with 9 fractions each, without 0.00.
+    assert_eq!(held, (3 + 6 + 18) * 9 - 1);
+}
