@@ -6,6 +6,7 @@ mod table;
 
 pub use field::Tested;
 pub use field::test_field;
+pub use form::is_cash;
 pub use record::Due;
 pub use record::Named;
 pub use record::Record;

@@ -4,8 +4,8 @@ use mathlib.Core.Path.{_≡_, sym, ap, _∙_}
 use mathlib.Core.List.{List, [], _++_}
 use native.Mathlib.Numerals.{add-one}
 use native.Mathlib.Omega.{arith}
-use lib.ListN.{length, set, take, drop, getD}
-use lib.Seq.{paste, paste-zero, paste-suc, take-all}
+use lib.ListN.{length, set, take, drop, getD, length-drop, drop-of-length-le}
+use lib.Seq.{paste, paste-zero, paste-suc, take-all, take-nil}
 use borrow.Author.Tests.{le-leb, lt-leb}
 use Rattle.text.specs.Placed.{written, placed}
 
@@ -29,3 +29,14 @@ module _ (out : List ℕ) (at : ℕ) (src : List ℕ) where
   pub room : at ≤ length out → length src ≤ length out - at → (o : List ℕ) → o ≡ written out at src → o ≡ placed out at src
   unfolding placed
   room l h o e = simp (le-leb (at + length src) (length out) (omega arith)) e
+
+-- a part of a run, as much of it as there is
+module _ (s : List ℕ) (at n : ℕ) where
+  pub clip-none : length s < at → [] ≡ take n (drop at s)
+  clip-none h = sym (ap (take n) (drop-of-length-le s {i = at} (omega arith)) ∙ take-nil n)
+
+  pub clip-less : at ≤ length s → length s - at < n → take (length s - at) (drop at s) ≡ take n (drop at s)
+  clip-less l h = take-all (length s - at) (drop at s) (simp length-drop (omega arith)) ∙ sym (take-all n (drop at s) (simp length-drop (omega arith)))
+
+  pub clip-whole : take (at + n - at) (drop at s) ≡ take n (drop at s)
+  clip-whole = let e : at + n - at ≡ n = omega arith in rw e

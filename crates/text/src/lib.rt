@@ -129,3 +129,16 @@ fn copy(out: &mut [u8], at: usize, src: &[u8])
         i += 1;
     }
 }
+
+// The n bytes from the place at on, or as many of them as there are.
+pub fn clip(s: &[u8], at: usize, n: usize) -> &[u8]
+    ensures { λ r. ⌜ now r ≡ take n (drop at (now (s .entry))) ⌝ }
+{
+    if s.len() < at {
+        return &s[0..0];
+    }
+    if s.len() - at < n {
+        return &s[at..];
+    }
+    &s[at..at + n]
+}

@@ -1,0 +1,153 @@
+-- One line: it is accepted exactly when an allowed line stands at the offset, and the bytes can be read in one way only.
+use Prim.Native.Nat.{ℕ, suc, _+_, _-_, _≤_}
+use mathlib.Core.Path.{_≡_, refl, sym, ap, _∙_}
+use mathlib.Core.Bool.{true, not}
+use mathlib.Core.List.{List, [], _∷_, _++_, append-assoc}
+use mathlib.Core.Logic.{_↔_}
+use native.Mathlib.Omega.{arith}
+use lib.Dec.{ltb, eqb}
+use lib.ListN.{length, drop, getD, length-append, length-drop}
+use lib.Seq.{drop-drop, drop-append-seam}
+use borrow.Author.Tests.{ltb-false, le-ltb, eqb-true, not-false}
+use Rattle.text.specs.Choice.{if_then_else_}
+use Rattle.text.specs.Byte.{textByte}
+use Rattle.text.specs.Quoted.{bytes}
+use Rattle.text.specs.Scan.{all}
+use Rattle.text.proofs.Choices.{and-left, came-else}
+use Rattle.refusal.specs.declared.Refusal.the-variants.{FileTooLong, NoLineEnd}
+use Rattle.forms.specs.Shape.{digits, allDigits}
+use Rattle.fields.specs.Record.{typeOf, mayCome}
+use Rattle.fields.specs.Table.{required, isRequired}
+use Rattle.fields.specs.Form.{formsOf, hasForm}
+use Rattle.fields.specs.declared.record.Record.{Record}
+use Rattle.fields.specs.declared.record.Record.the-variants.{Parcel}
+use Rattle.fields.specs.declared.record.Due.{Due}
+use Rattle.fields.specs.declared.record.Due.the-variants.{Any}
+use Rattle.line.specs.Parts.{split, partAt, nameOf, fieldsOf}
+use Rattle.line.specs.Line.{lineEnd, endsWell, textAt, ofText, lineAnswer}
+use Rattle.line.specs.declared.read.Line.{Line}
+use Rattle.line.specs.declared.read.LineAnswer.the-variants.{Accepted, Refused}
+use Rattle.grammar.specs.Grammar.{joined, textOf, render, fieldNo, LineOk, Reads}
+use Rattle.grammar.proofs.Ends.{run-once, ended, ends-at, ends-well, text-there}
+use Rattle.grammar.proofs.Texts.{refused, type-long, type-tells, text-split, text-bytes, text-accepted, accepted-text}
+
+pub render-long : (kind : Record) (fs : List (List ℕ)) → length (render kind fs) ≡ length (textOf kind fs) + 2
+render-long kind fs = length-append (textOf kind fs) (bytes "\r\n")
+
+-- an accepted line stands there
+pub accepted-reads : (due : Due) (s : List ℕ) (at : ℕ) (line : Line) → lineAnswer due s at ≡ Accepted line → Reads due s at line (fieldsOf (textAt s at))
+unfolding lineAnswer
+accepted-reads due s at line e =
+    let text = textAt s at in
+    let end = lineEnd s at in
+    let ending = if not (endsWell s end) then Refused NoLineEnd end else ofText due at text in
+    let inside = if ltb (length s) at then Refused NoLineEnd (length s) else ending in
+    let a = came-else (ltb 65535 (length s)) (Refused FileTooLong 65535) inside (Accepted line) refused e in
+    let b = came-else (ltb (length s) at) (Refused NoLineEnd (length s)) ending (Accepted line) refused (a .1) in
+    let c = came-else (not (endsWell s end)) (Refused NoLineEnd end) (ofText due at text) (Accepted line) refused (b .1) in
+    let d = ended s at (not-false (endsWell s end) (c .0)) in
+    let g = accepted-text at text line due (d .text) (c .1) in
+    record {
+      small = ltb-false 65535 (length s) (a .0);
+      comes = g .comes;
+      allowed = g .allowed;
+      rest = d .rest;
+      stands = d .whole ∙ ap (λ (l : List ℕ). l ++ bytes "\r\n" ++ d .rest) (g .written);
+      count = g .count;
+      next = omega (arith, g .next, ap length (g .written), render-long (line .kind) (fieldsOf text));
+    }
+
+-- what a line that stands there tells
+module _ {due : Due} {s : List ℕ} {at : ℕ} {line : Line} {fs : List (List ℕ)} (g : Reads due s at line fs) where
+  long : length s - at ≡ length (textOf (line .kind) fs) + 2 + length (g .rest)
+  long = sym (length-drop at s) ∙ ap length (g .stands) ∙ length-append (render (line .kind) fs) (g .rest) ∙ rw (render-long (line .kind) fs)
+
+  text-long : 3 ≤ length (textOf (line .kind) fs)
+  text-long = omega (arith, length-append (typeOf (line .kind)) (joined fs), type-long (line .kind))
+
+  pub read-inside : at ≤ length s
+  read-inside = omega (arith, long)
+
+  pub next-inside : line .next ≤ length s
+  next-inside = omega (arith, long, g .next, render-long (line .kind) fs)
+
+  pub next-far : at + 5 ≤ line .next
+  next-far = omega (arith, text-long, g .next, render-long (line .kind) fs)
+
+  pub rest-is : g .rest ≡ drop (line .next) s
+  rest-is = sym (rw (g .next, ← drop-drop (length (render (line .kind) fs)) at s, g .stands) (drop-append-seam (render (line .kind) fs) (g .rest)))
+
+  bytes-of : all textByte (textOf (line .kind) fs) ≡ true
+  bytes-of = text-bytes (line .kind) fs (g .allowed)
+
+  pub read-text : textAt s at ≡ textOf (line .kind) fs
+  read-text = text-there s at (textOf (line .kind) fs) (g .rest) bytes-of (g .stands)
+
+  pub read-text-bytes : all textByte (textAt s at) ≡ true
+  read-text-bytes = ap (all textByte) read-text ∙ bytes-of
+
+  pub read-end : lineEnd s at + 2 ≡ line .next
+  read-end = omega (arith, ends-at s at (textOf (line .kind) fs) (g .rest) bytes-of (g .stands), g .next, render-long (line .kind) fs)
+
+  pub read-parts : split (textAt s at) ≡ typeOf (line .kind) ∷ fs
+  read-parts = ap split read-text ∙ text-split (line .kind) fs (g .allowed)
+
+  pub read-name : nameOf (textAt s at) ≡ typeOf (line .kind)
+  read-name = rw read-parts
+
+  pub read-fields : fieldsOf (textAt s at) ≡ fs
+  read-fields = rw read-parts
+
+  pub read-field : (n : ℕ) → 1 ≤ n → partAt (textAt s at) n ≡ fieldNo fs n
+  read-field n h = go (n - 1) (omega arith)
+    where
+      go : (m : ℕ) → n ≡ suc m → partAt (textAt s at) n ≡ getD fs m []
+      go m e = rw (e, read-parts)
+
+  pub reads-accepted : lineAnswer due s at ≡ Accepted line
+  unfolding lineAnswer
+  reads-accepted =
+      let n : at + length (textOf (line .kind) fs) + 2 ≡ line .next = omega (arith, g .next, render-long (line .kind) fs) in
+      rw (
+        le-ltb 65535 (length s) (g .small),
+        le-ltb (length s) at read-inside,
+        ends-well s at (textOf (line .kind) fs) (g .rest) bytes-of (g .stands),
+        read-text,
+      )
+      (text-accepted (line .kind) fs (g .allowed) due at (g .comes) ∙ rw (n, ← g .count))
+
+-- a line is accepted exactly when an allowed line stands at the offset
+pub line-exactly : (due : Due) (s : List ℕ) (at : ℕ) (line : Line) → (lineAnswer due s at ≡ Accepted line) ↔ ((fs : List (List ℕ)) × Reads due s at line fs)
+line-exactly due s at line = (λ e. (fieldsOf (textAt s at), accepted-reads due s at line e), λ g. reads-accepted (g .1))
+
+-- the same bytes are no other line, and no other fields
+pub one-line : (kind other : Record) (fs gs : List (List ℕ)) (rest more : List ℕ) → LineOk kind fs → LineOk other gs → render kind fs ++ rest ≡ render other gs ++ more → (kind ≡ other) × ((fs ≡ gs) × (rest ≡ more))
+one-line kind other fs gs rest more g h e =
+    let cut : textOf kind fs ++ 13 ∷ 10 ∷ rest ≡ textOf other gs ++ 13 ∷ 10 ∷ more =
+    sym (append-assoc (textOf kind fs) (bytes "\r\n") rest) ∙ e ∙ append-assoc (textOf other gs) (bytes "\r\n") more
+    in
+    let a = run-once textByte (textOf kind fs) (textOf other gs) 13 13 (10 ∷ rest) (10 ∷ more) (text-bytes kind fs g) (text-bytes other gs h) refl refl cut in
+    let parts : typeOf kind ∷ fs ≡ typeOf other ∷ gs = sym (text-split kind fs g) ∙ ap split (a .0) ∙ text-split other gs h in
+    (type-tells kind other (ap (λ (l : List (List ℕ)). getD l 0 []) parts), (ap (drop 1) parts, ap (drop 2) (a .1)))
+
+-- a line that stands where a record is due stands there alone too
+pub reads-alone : {due : Due} {s : List ℕ} {at : ℕ} {line : Line} {fs : List (List ℕ)} → Reads due s at line fs → Reads Any s at line fs
+unfolding mayCome
+reads-alone g = record { small = g .small; comes = refl; allowed = g .allowed; rest = g .rest; stands = g .stands; count = g .count; next = g .next }
+
+-- at one offset stands one line with one list of fields, whatever is due
+pub one-reading : {due late : Due} {s : List ℕ} {at : ℕ} {line other : Line} {fs gs : List (List ℕ)} → Reads due s at line fs → Reads late s at other gs → (line ≡ other) × (fs ≡ gs)
+one-reading g h =
+    let e = sym (reads-accepted (reads-alone g)) ∙ reads-accepted (reads-alone h) in
+    (cc, sym (read-fields g) ∙ read-fields h)
+
+-- "040: 1 R 22 digits"
+pub identcode : (kind : Record) (fs : List (List ℕ)) → kind ≡ Parcel → LineOk kind fs → (digits 22 (fieldNo fs 1) ≡ true) × (length (fieldNo fs 1) ≡ 22)
+unfolding isRequired required hasForm formsOf digits
+identcode kind fs e g = go fs (rw e at g)
+  where
+    go : (fs : List (List ℕ)) → LineOk Parcel fs → (digits 22 (fieldNo fs 1) ≡ true) × (length (fieldNo fs 1) ≡ 22)
+    go [] g = let z : _≡_ {A = ℕ} 0 1 = cc in absurd (omega arith)
+    go (f ∷ fs) g =
+        let d : digits 22 f ≡ true = g .fields .0 .formed (g .fields .0 .filled refl) in
+        (d, eqb-true (length f) 22 (and-left (eqb (length f) 22) (allDigits f) d))

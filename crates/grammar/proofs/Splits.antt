@@ -1,0 +1,71 @@
+-- A line's text taken apart at its semicolons and joined again: each is the other's inverse.
+use Prim.Native.Nat.{ℕ, _+_}
+use mathlib.Core.Path.{_≡_, refl, sym, ap, _∙_}
+use mathlib.Core.Bool.{Bool, true, false, _&&_}
+use mathlib.Core.List.{List, [], _∷_, _++_, append-nil}
+use native.Mathlib.Omega.{arith}
+use lib.ListN.{length, drop, getD}
+use borrow.Author.Tests.{eqb-true, not-true}
+use Rattle.text.specs.Choice.{if_then_else_}
+use Rattle.text.specs.Scan.{all, count}
+use Rattle.text.proofs.Choices.{and-left, and-right}
+use Rattle.line.specs.Parts.{semicolon, intoFirst, split, nameOf, fieldsOf, inField}
+use Rattle.grammar.specs.Grammar.{joined}
+
+-- there is always a first part
+pub split-some : (line : List ℕ) → split line ≡ nameOf line ∷ fieldsOf line
+split-some [] = refl
+split-some (b ∷ line) = go (semicolon b) (split-some line)
+  where
+    go : (t : Bool) → split line ≡ nameOf line ∷ fieldsOf line →
+        (if t then [] ∷ split line else intoFirst b (split line)) ≡ getD (if t then [] ∷ split line else intoFirst b (split line)) 0 [] ∷ drop 1 (if t then [] ∷ split line else intoFirst b (split line))
+    go true h = refl
+    go false h = rw h
+
+-- each field stands behind a semicolon
+pub fields-count : (line : List ℕ) → length (fieldsOf line) ≡ count semicolon line
+fields-count [] = refl
+fields-count (b ∷ line) = go (semicolon b) (fields-count line) (split-some line)
+  where
+    go : (t : Bool) → length (fieldsOf line) ≡ count semicolon line → split line ≡ nameOf line ∷ fieldsOf line →
+        length (drop 1 (if t then [] ∷ split line else intoFirst b (split line))) ≡ (if t then 1 else 0) + count semicolon line
+    go true h k = rw k (omega (arith, h))
+    go false h k = rw k (omega (arith, h))
+
+-- the parts joined again
+abbrev whole : List (List ℕ) → List ℕ
+whole [] = []
+whole (part ∷ parts) = part ++ joined parts
+
+whole-into : (b : ℕ) (parts : List (List ℕ)) → whole (intoFirst b parts) ≡ b ∷ whole parts
+whole-into b [] = refl
+whole-into b (part ∷ parts) = refl
+
+whole-split : (line : List ℕ) → whole (split line) ≡ line
+whole-split [] = refl
+whole-split (b ∷ line) = go (semicolon b) refl (whole-split line) (split-some line)
+  where
+    go : (t : Bool) → semicolon b ≡ t → whole (split line) ≡ line → split line ≡ nameOf line ∷ fieldsOf line → whole (if t then [] ∷ split line else intoFirst b (split line)) ≡ b ∷ line
+    go true e h k = rw (k, eqb-true b 59 e) (ap (λ (l : List ℕ). 59 ∷ l) (ap whole (sym k) ∙ h))
+    go false e h k = whole-into b (split line) ∙ ap (λ (l : List ℕ). b ∷ l) h
+
+pub join-split : (line : List ℕ) → nameOf line ++ joined (fieldsOf line) ≡ line
+join-split line = ap whole (sym (split-some line)) ∙ whole-split line
+
+-- bytes without a semicolon go into the first part
+pub split-front : (f line : List ℕ) → all inField f ≡ true → split (f ++ line) ≡ (f ++ nameOf line) ∷ fieldsOf line
+split-front [] line e = split-some line
+split-front (b ∷ f) line e =
+    let h : semicolon b ≡ false = not-true (semicolon b) (and-left (inField b) (all inField f) e) in
+    rw (h, split-front f line (and-right (inField b) (all inField f) e))
+
+-- every byte of every part passes the test
+abbrev pub allIn : (ℕ → Bool) → List (List ℕ) → Bool
+allIn ok [] = true
+allIn ok (f ∷ fs) = all ok f && allIn ok fs
+
+pub split-joined : (f : List ℕ) (fs : List (List ℕ)) → all inField f ≡ true → allIn inField fs ≡ true → split (f ++ joined fs) ≡ f ∷ fs
+split-joined f [] e d = split-front f [] e ∙ rw append-nil
+split-joined f (g ∷ fs) e d =
+    split-front f (joined (g ∷ fs)) e
+    ∙ rw (append-nil, split-joined g fs (and-left (all inField g) (allIn inField fs) d) (and-right (all inField g) (allIn inField fs) d))

@@ -1,0 +1,88 @@
+-- Document 01, 'The file': what an allowed line is, apart from any order of tests, and how it stands in a file.
+use Prim.Native.Nat.{ℕ, suc, _+_, _-_, _≤_}
+use mathlib.Core.Path.{_≡_}
+use mathlib.Core.Bool.{Bool, true, false, _&&_}
+use mathlib.Core.List.{List, [], _∷_, _++_}
+use lib.ListN.{length, take, drop, getD}
+use Rattle.text.specs.Byte.{textByte}
+use Rattle.text.specs.Quoted.{bytes}
+use Rattle.text.specs.Scan.{all}
+use Rattle.fields.specs.Record.{typeOf, countFits, mayCome}
+use Rattle.fields.specs.Table.{isRequired}
+use Rattle.fields.specs.Form.{hasForm}
+use Rattle.fields.specs.Field.{widthOf}
+use Rattle.fields.specs.declared.record.Record.{Record}
+use Rattle.fields.specs.declared.record.Due.{Due}
+use Rattle.line.specs.Parts.{inField}
+use Rattle.line.specs.Need.{lacks}
+use Rattle.line.specs.declared.read.Line.{Line}
+
+-- "Semicolons divide fields": each field stands after a semicolon
+abbrev pub joined : List (List ℕ) → List ℕ
+joined [] = []
+joined (f ∷ fs) = bytes ";" ++ f ++ joined fs
+
+-- "The first field is the record type. Fields are numbered from 1 after it."
+abbrev pub textOf : Record → List (List ℕ) → List ℕ
+textOf kind fs = typeOf kind ++ joined fs
+
+-- "A line runs to its first other byte, which must be CR followed by LF."
+abbrev pub render : Record → List (List ℕ) → List ℕ
+render kind fs = textOf kind fs ++ bytes "\r\n"
+
+-- a byte that may stand in a field: a text byte, and no semicolon, since "nothing quotes them"
+abbrev pub plain : ℕ → Bool
+plain b = textByte b && inField b
+
+-- "only zero bytes is empty"
+abbrev pub Filled : List ℕ → Type 0
+Filled f = length f ≡ 0 → ⊥
+
+-- the field with this number, beside it the part in front of it
+pub record FieldOk (kind : Record) (n : ℕ) (beside f : List ℕ) : Type 0 where
+  pub clean : all plain f ≡ true
+  -- "Widths count bytes."
+  pub fits : length f ≤ widthOf kind n beside
+  -- "R = must be filled"
+  pub filled : isRequired kind n ≡ true → Filled f
+  -- "Forms apply to filled fields."
+  pub formed : Filled f → hasForm kind n beside f ≡ true
+
+-- these fields, the first with this number, beside it the part in front of it
+abbrev pub FieldsOk : Record → ℕ → List ℕ → List (List ℕ) → Type 0
+FieldsOk kind n beside [] = Unit {0}
+FieldsOk kind n beside (f ∷ fs) = FieldOk kind n beside f × FieldsOk kind (suc n) f fs
+
+pub record LineOk (kind : Record) (fs : List (List ℕ)) : Type 0 where
+  -- "Fields per record"
+  pub counted : countFits kind (length fs) ≡ true
+  -- "Widths and rules"
+  pub fields : FieldsOk kind 1 (typeOf kind) fs
+  -- "What a feature needs depends on its three-digit code alone"
+  pub served : lacks kind (typeOf kind ∷ fs) ≡ false
+
+-- at this offset of the file stands an allowed line with these fields, of a record that may come: "the answer names the record
+-- kind, the field count and where the next line starts"
+pub record Reads (due : Due) (s : List ℕ) (at : ℕ) (line : Line) (fs : List (List ℕ)) : Type 0 where
+  -- "At most 65,535 bytes."
+  pub small : length s ≤ 65535
+  -- "Record order"
+  pub comes : mayCome due (line .kind) ≡ true
+  pub allowed : LineOk (line .kind) fs
+  pub rest : List ℕ
+  pub stands : drop at s ≡ render (line .kind) fs ++ rest
+  pub count : line .count ≡ length fs
+  pub next : line .next ≡ at + length (render (line .kind) fs)
+
+-- the field with a number, "numbered from 1"
+abbrev pub fieldNo : List (List ℕ) → ℕ → List ℕ
+fieldNo fs n = getD fs (n - 1) []
+
+-- "One field adds a field number, then 15 for 0 or above the count, and answers start and length."
+pub record Finds (kind : Record) (fs : List (List ℕ)) (s : List ℕ) (at n start long : ℕ) : Type 0 where
+  pub first : 1 ≤ n
+  pub last : n ≤ length fs
+  -- in front of it stand the record type, the fields before it, and its own semicolon
+  pub starts : start ≡ at + length (textOf kind (take (n - 1) fs) ++ bytes ";")
+  pub measures : long ≡ length (fieldNo fs n)
+  pub there : take long (drop start s) ≡ fieldNo fs n
