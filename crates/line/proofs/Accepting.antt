@@ -1,5 +1,5 @@
 -- What an accepted line tells: each test passed, and the answer names the line's own record, count and next start.
-use Prim.Native.Nat.{ℕ, _+_, _-_, _≤_}
+use Prim.Native.Nat.{ℕ, _+_, _-_, _≤_, _<_}
 use mathlib.Core.Path.{_≡_, refl, sym, ap, _∙_}
 use mathlib.Core.Bool.{Bool, true, false, not}
 use mathlib.Core.List.{List}
@@ -118,3 +118,29 @@ module _ (due : Due) (s : List ℕ) (at : ℕ) (l : Line) (g : LineAt due s at l
 
   pub end-after : at ≤ lineEnd s at
   end-after = first-least textByte at (drop at s)
+
+-- the text of an accepted line, as the callers take it from the answer
+module _ (due : Due) (s : List ℕ) (at : ℕ) (a : LineAnswer) (ea : a ≡ lineAnswer due s at) (l : Line) (el : a ≡ Accepted l) where
+  pub lies : LineAt due s at l
+  lies = line-ok due s at l (sym ea ∙ el)
+
+  pub text-end : l .next - 2 ≡ lineEnd s at
+  text-end = omega (arith, next-is due s at l lies)
+
+  pub text-starts : at ≤ l .next - 2
+  text-starts = omega (arith, next-is due s at l lies, end-after due s at l lies)
+
+  pub text-inside : l .next - 2 ≤ length s
+  text-inside = omega (arith, next-is due s at l lies, end-inside due s at l lies)
+
+  pub next-least : 2 ≤ l .next
+  next-least = omega (arith, next-is due s at l lies)
+
+  pub next-after : at + 2 ≤ l .next
+  next-after = omega (arith, next-is due s at l lies, end-after due s at l lies)
+
+  pub text-small : at + length (take (l .next - 2 - at) (drop at s)) < 65536
+  text-small = omega (arith, length-take (l .next - 2 - at) (drop at s), length-drop at s, text-starts, text-inside, lies .short)
+
+  pub text-is : take (l .next - 2 - at) (drop at s) ≡ textAt s at
+  text-is = ap (λ (k : ℕ). take (k - at) (drop at s)) text-end

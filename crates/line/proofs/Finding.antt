@@ -4,7 +4,7 @@ use mathlib.Core.Path.{_≡_, refl, sym, ap, _∙_}
 use mathlib.Core.Bool.{Bool, true, false, not, _||_}
 use mathlib.Core.List.{List}
 use native.Mathlib.Omega.{arith}
-use lib.ListN.{length, take, drop, length-take, length-drop}
+use lib.ListN.{length, take, drop}
 use borrow.Author.Tests.{lt-ltb, le-ltb, eq-eqb, ne-eqb}
 use Rattle.refusal.specs.declared.Refusal.{Refusal}
 use Rattle.refusal.specs.declared.Refusal.the-variants.{NotThere}
@@ -12,7 +12,7 @@ use Rattle.fields.specs.declared.record.Due.the-variants.{Any}
 use Rattle.line.specs.Parts.{startOf, partAt}
 use Rattle.line.specs.Line.{lineEnd, textAt, lineAnswer}
 use Rattle.line.specs.Find.{handedOn, inLine, fieldAnswer}
-use Rattle.line.proofs.Accepting.{LineAt, line-ok, next-is, end-inside, end-after}
+use Rattle.line.proofs.Accepting.{text-is}
 use Rattle.line.specs.declared.read.Line.{Line}
 use Rattle.line.specs.declared.read.LineAnswer.{LineAnswer}
 use Rattle.line.specs.declared.read.LineAnswer.the-variants.{Accepted, Refused}
@@ -39,27 +39,8 @@ module _ (s : List ℕ) (at n : ℕ) (a : LineAnswer) (ea : a ≡ lineAnswer Any
     unfolding fieldAnswer inLine
     above-count m h = rw (← ea, el, ne-eqb n 0 m, lt-ltb (line .count) n h)
 
-    -- the text of the line, as the code takes it from the answer
-    place : LineAt Any s at line
-    place = line-ok Any s at line (sym ea ∙ el)
-
-    pub text-end : line .next - 2 ≡ lineEnd s at
-    text-end = omega (arith, next-is Any s at line place)
-
-    pub text-starts : at ≤ line .next - 2
-    text-starts = omega (arith, next-is Any s at line place, end-after Any s at line place)
-
-    pub text-inside : line .next - 2 ≤ length s
-    text-inside = omega (arith, next-is Any s at line place, end-inside Any s at line place)
-
-    pub next-least : 2 ≤ line .next
-    next-least = omega (arith, next-is Any s at line place)
-
-    pub text-small : at + length (take (line .next - 2 - at) (drop at s)) < 65536
-    text-small = omega (arith, length-take (line .next - 2 - at) (drop at s), length-drop at s, text-starts, text-inside, place .short)
-
     pub field-there : (n ≡ 0 → ⊥) → n ≤ line .count → (r : FieldAnswer) → r ≡ Found (at + startOf (take (line .next - 2 - at) (drop at s)) n) (length (partAt (take (line .next - 2 - at) (drop at s)) n)) → r ≡ fieldAnswer s at n
     unfolding fieldAnswer inLine
     field-there m h r e =
         rw (← ea, el, ne-eqb n 0 m, le-ltb (line .count) n h)
-        (e ∙ ap (λ (k : ℕ). Found (at + startOf (take (k - at) (drop at s)) n) (length (partAt (take (k - at) (drop at s)) n))) text-end)
+        (e ∙ ap (λ (t : List ℕ). Found (at + startOf t n) (length (partAt t n))) (text-is Any s at a ea line el))

@@ -1,5 +1,6 @@
 -- `find::find_field` meets its contract.
-use Rattle.line.proofs.Finding.{handed-on, no-number, above-count, text-starts, text-inside, next-least, text-small, field-there}
+use Rattle.line.proofs.Accepting.{text-starts, text-inside, next-least, text-small}
+use Rattle.line.proofs.Finding.{handed-on, no-number, above-count, field-there}
 use borrow.Author.Needs.{needs}
 use Rattle.line.proofs.find.find_field.Statement.{statement}
 use Rattle.line.proofs.find.find_field.Tie as tie

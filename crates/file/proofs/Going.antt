@@ -1,0 +1,184 @@
+-- The judge on its way through a file: what holds whenever it comes to a line, one line further, and at the end.
+use Prim.Native.Nat.{ℕ, zero, suc, _+_, _-_, _*_, _≤_, _<_}
+use mathlib.Core.Path.{_≡_, refl, sym, ap, _∙_}
+use mathlib.Core.Bool.{Bool, true, false, not}
+use mathlib.Core.List.{List, [], _∷_, _++_}
+use native.Mathlib.Numerals.{add-one}
+use native.Mathlib.Omega.{arith}
+use lib.Dec.{ltb}
+use lib.ListN.{length, take, drop, set, replicate, length-set, length-take}
+use borrow.Author.Tests.{lt-ltb, le-ltb, not-true, not-false}
+use Rattle.text.specs.Choice.{if_then_else_}
+use Rattle.refusal.specs.declared.Refusal.{Refusal}
+use Rattle.refusal.specs.declared.Refusal.the-variants.{FileTooLong, FileEnds}
+use Rattle.fields.specs.Record.{mayEnd}
+use Rattle.fields.specs.declared.record.Record.{Record}
+use Rattle.fields.specs.declared.record.Record.the-variants.{Header, Sender, Shipment, Parcel, Product, Feature}
+use Rattle.fields.specs.declared.record.Due.{Due}
+use Rattle.line.specs.Line.{lineAnswer, textAt}
+use Rattle.line.specs.Parts.{split}
+use Rattle.line.specs.declared.read.Line.{Line}
+use Rattle.line.proofs.Accepting.{next-after}
+use Rattle.file.specs.Cash.{cashOf}
+use Rattle.file.specs.Step.{parcelsIn, behind, stepAnswer}
+use Rattle.file.specs.File.{Judged, begin, ended, onStep, fileFrom, judged, listOf, handed}
+use Rattle.file.specs.declared.step.State.{State}
+use Rattle.file.specs.declared.step.Step.{Step}
+use Rattle.file.specs.declared.step.Step.the-variants.{Next, Stopped}
+use Rattle.file.specs.declared.whole.FileAnswer.{FileAnswer}
+use Rattle.file.specs.declared.whole.FileAnswer.the-variants.{Accepted, Refused}
+use Rattle.file.proofs.Cashing.{cash-below}
+use Rattle.file.proofs.Stepping.{Went, went}
+use Rattle.file.proofs.Lists.{fill-front, fill-back, list-whole}
+
+pub record Going (s : List ℕ) (m : ℕ) (words : List ℕ) (state : State) : Type 0 where
+  pub small : length s ≤ 65535
+  pub long : length words ≡ m
+  pub lines : state .lines ≤ state .at
+  pub room : state .lines ≤ m
+  pub parcels : state .parcels ≤ state .lines
+  pub cents : state .cents ≤ 99999999 * state .lines
+  pub cleared : drop (state .lines) words ≡ replicate (m - state .lines) 0
+  pub going : fileFrom (length s + 1 - state .lines) s m (take (state .lines) words) state ≡ judged s m
+
+pub going-none : (s words : List ℕ) → length s ≤ 65535 → words ≡ replicate (length words) 0 → Going s (length words) words begin
+unfolding judged
+going-none s words h e =
+    record {
+      small = h;
+      long = refl;
+      lines = omega arith;
+      room = omega arith;
+      parcels = omega arith;
+      cents = omega arith;
+      cleared = e ∙ ap (λ (k : ℕ). replicate k 0) less;
+      going = ap (λ (n : ℕ). fileFrom n s (length words) [] begin) whole ∙ sym (rw (le-ltb 65535 (length s) h));
+    }
+  where
+    less : length words ≡ length words - 0
+    less = omega arith
+
+    whole : length s + 1 - 0 ≡ length s + 1
+    whole = omega arith
+
+parcels-le : (kind : Record) → parcelsIn kind ≤ 1
+parcels-le Header = omega arith
+parcels-le Sender = omega arith
+parcels-le Shipment = omega arith
+parcels-le Parcel = omega arith
+parcels-le Product = omega arith
+parcels-le Feature = omega arith
+
+-- where no line is listed all words are 0
+no-lines : (s : List ℕ) (m : ℕ) (words : List ℕ) → length words ≡ m → (j : Judged) → j .starts ≡ [] → replicate (length words) 0 ≡ listOf m (j .starts)
+no-lines s m words long j e = let k : length words ≡ m - 0 = omega arith in ap (λ (n : ℕ). replicate n 0) k ∙ sym (ap (listOf m) e)
+
+module _ (s : List ℕ) (m : ℕ) (h : 65535 < length s) where
+  long-is : judged s m ≡ record { answer = Refused FileTooLong 65535; starts = [] }
+  unfolding judged
+  long-is = rw (lt-ltb 65535 (length s) h)
+
+  pub long-answer : Refused FileTooLong 65535 ≡ judged s m .answer
+  long-answer = sym (ap (λ (j : Judged). j .answer) long-is)
+
+  pub long-list : (words : List ℕ) → length words ≡ m → (list : List ℕ) → list ≡ replicate (length words) 0 → list ≡ listOf m (judged s m .starts)
+  long-list words long list e = e ∙ no-lines s m words long (judged s m) (ap (λ (j : Judged). j .starts) long-is)
+
+module _ (s : List ℕ) (m : ℕ) (words : List ℕ) (state : State) (g : Going s m words state) where
+  -- the turn that is due
+  turn : state .at < length s → onStep (stepAnswer s m (take (state .lines) words) state) (λ next. fileFrom (length s - state .lines) s m (take (state .lines) words ++ (state .at ∷ [])) next) ≡ judged s m
+  turn h =
+      let k : length s + 1 - state .lines ≡ suc (length s - state .lines) = omega (arith, g .lines) in
+      sym (ap (λ (n : ℕ). fileFrom n s m (take (state .lines) words) state) k ∙ rw (lt-ltb (state .at) (length s) h)) ∙ g .going
+
+  module _ (step : Step) (h : state .at < length s) (el : step ≡ stepAnswer s (length words) (take (state .lines) words) state) where
+    es : step ≡ stepAnswer s m (take (state .lines) words) state
+    es = el ∙ ap (λ (n : ℕ). stepAnswer s n (take (state .lines) words) state) (g .long)
+
+    -- a step that goes on has a word for its line, and comes nearer to the end
+    over : (next : State) → step ≡ Next next → Went s m (take (state .lines) words) state next
+    over next e = went s m (take (state .lines) words) state next (sym es ∙ e)
+
+    pub word-there : (next : State) → step ≡ Next next → state .lines < length words
+    word-there next e = omega (arith, over next e .room, g .long)
+
+    pub less-left : (next : State) → step ≡ Next next → length s - next .at < length s - state .at
+    less-left next e =
+        let w = over next e in
+        let after = next-after (state .due) s (state .at) (lineAnswer (state .due) s (state .at)) refl (w .line) (w .accepted) in
+        omega (arith, after, ap (λ (n : State). n .at) (w .there))
+
+    pub going-more : (next : State) → step ≡ Next next → Going s m (set words (state .lines) (state .at)) next
+    going-more next e =
+        let w = over next e in
+        let line = w .line in
+        let now = behind s state line in
+        let after = next-after (state .due) s (state .at) (lineAnswer (state .due) s (state .at)) refl line (w .accepted) in
+        let fewer : length s + 1 - (state .lines + 1) ≡ length s - state .lines = omega arith in
+        let on : fileFrom (length s - state .lines) s m (take (state .lines) words ++ (state .at ∷ [])) now ≡ judged s m = rw (sym es ∙ e, ← w .there) at (turn h) in
+        let more : Going s m (set words (state .lines) (state .at)) now =
+        record {
+          small = g .small;
+          long = length-set words (state .lines) (state .at) ∙ g .long;
+          lines = omega (arith, g .lines, after);
+          room = omega (arith, w .room);
+          parcels = omega (arith, g .parcels, parcels-le (line .kind));
+          cents = omega (arith, g .cents, cash-below (line .kind) (split (textAt s (state .at))));
+          cleared = fill-back words (state .lines) m (state .at) (g .long) (w .room) (g .cleared);
+          going = ap (λ (n : ℕ). fileFrom n s m (take (state .lines + 1) (set words (state .lines) (state .at))) now) fewer
+              ∙ ap (λ (l : List ℕ). fileFrom (length s - state .lines) s m l now) (fill-front words (state .lines) m (state .at) (g .long) (w .room) (g .cleared))
+              ∙ on;
+        } in
+        rw (w .there) at more
+
+    going-stops : (why : Refusal) (place : ℕ) → step ≡ Stopped why place → judged s m ≡ record { answer = Refused why place; starts = [] }
+    going-stops why place e = sym (rw (sym es ∙ e) at (turn h))
+
+    -- what the code answers and leaves where a line stops it
+    module _ (why : Refusal) (place : ℕ) (e : step ≡ Stopped why place) where
+      pub stop-answer : (r : FileAnswer) → r ≡ handed step → r ≡ judged s m .answer
+      stop-answer r er = er ∙ ap handed e ∙ sym (ap (λ (j : Judged). j .answer) (going-stops why place e))
+
+      pub stop-list : (list : List ℕ) → list ≡ replicate (length words) 0 → list ≡ listOf m (judged s m .starts)
+      stop-list list el = el ∙ no-lines s m words (g .long) (judged s m) (ap (λ (j : Judged). j .starts) (going-stops why place e))
+
+  module _ (h : length s ≤ state .at) where
+    file-ends : (turns : ℕ) → fileFrom turns s m (take (state .lines) words) state ≡ ended s (take (state .lines) words) state
+    file-ends zero = refl
+    file-ends (suc turns) = rw (le-ltb (state .at) (length s) h)
+
+    at-end : judged s m ≡ ended s (take (state .lines) words) state
+    at-end = sym (g .going) ∙ file-ends (length s + 1 - state .lines)
+
+    module _ (t : Bool) (et : t ≡ mayEnd (state .due)) where
+      due-left : not t ≡ true → judged s m ≡ record { answer = Refused FileEnds (length s); starts = [] }
+      due-left e = at-end ∙ rw (← et, not-true t e)
+
+      pub due-answer : not t ≡ true → Refused FileEnds (length s) ≡ judged s m .answer
+      due-answer e = sym (ap (λ (j : Judged). j .answer) (due-left e))
+
+      pub due-list : not t ≡ true → (list : List ℕ) → list ≡ replicate (length words) 0 → list ≡ listOf m (judged s m .starts)
+      due-list e list el = el ∙ no-lines s m words (g .long) (judged s m) (ap (λ (j : Judged). j .starts) (due-left e))
+
+      all-read : not t ≡ false → judged s m ≡ record { answer = Accepted (record { lines = state .lines; parcels = state .parcels; cents = state .cents }); starts = take (state .lines) words }
+      all-read e = at-end ∙ rw (← et, not-false t e)
+
+      pub end-answer : not t ≡ false → Accepted (record { lines = state .lines; parcels = state .parcels; cents = state .cents }) ≡ judged s m .answer
+      end-answer e = sym (ap (λ (j : Judged). j .answer) (all-read e))
+
+      pub end-list : not t ≡ false → words ≡ listOf m (judged s m .starts)
+      end-list e = list-whole words (state .lines) m (g .long) (g .room) (g .cleared) ∙ sym (ap (λ (j : Judged). listOf m (j .starts)) (all-read e))
+
+pub handed-as : (step case : Step) (r : FileAnswer) → step ≡ case → r ≡ handed case → r ≡ handed step
+handed-as step case r e f = rw e f
+
+-- the list's length is what it was
+module _ (s : List ℕ) (m n : ℕ) (e : m ≡ n) where
+  pub same-answer : (r : FileAnswer) → r ≡ judged s m .answer → r ≡ judged s n .answer
+  same-answer r er = er ∙ ap (λ (k : ℕ). judged s k .answer) e
+
+  pub same-list : (list : List ℕ) → list ≡ listOf m (judged s m .starts) → list ≡ listOf n (judged s n .starts)
+  same-list list el = el ∙ ap (λ (k : ℕ). listOf k (judged s k .starts)) e
+
+pub clear-now : (words words₀ : List ℕ) → length words ≡ length words₀ → words ≡ replicate (length words₀) 0 → words ≡ replicate (length words) 0
+clear-now words words₀ long e = e ∙ ap (λ (k : ℕ). replicate k 0) (sym long)

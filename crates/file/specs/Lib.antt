@@ -1,0 +1,4 @@
+pub mod Identcode
+pub mod Cash
+pub mod Step
+pub mod File

@@ -1,0 +1,56 @@
+-- Document 01, 'Refusal numbers': "Lines go in file order", and on each line 10 and 11 after the line's own refusals.
+use Prim.Native.Nat.{ℕ, _+_}
+use mathlib.Core.List.{List}
+use lib.Dec.{leb}
+use lib.ListN.{length}
+use Rattle.text.specs.Choice.{if_then_else_}
+use Rattle.refusal.specs.declared.Refusal.the-variants.{IdentcodeRepeated, ListFull, NotThere}
+use Rattle.fields.specs.declared.record.Record.{Record}
+use Rattle.fields.specs.declared.record.Record.the-variants.{Header, Sender, Shipment, Parcel, Product, Feature}
+use Rattle.fields.specs.declared.record.Due.the-variants.{After}
+use Rattle.line.specs.Parts.{split}
+use Rattle.line.specs.Line.{textAt, lineAnswer}
+use Rattle.line.specs.declared.read.Line.{Line}
+use Rattle.line.specs.declared.read.LineAnswer.{LineAnswer}
+use Rattle.line.specs.declared.read.LineAnswer.the-variants.{Accepted, Refused}
+use Rattle.file.specs.Identcode.{repeats}
+use Rattle.file.specs.Cash.{cashOf}
+use Rattle.file.specs.declared.step.State.{State}
+use Rattle.file.specs.declared.step.Step.{Step}
+use Rattle.file.specs.declared.step.Step.the-variants.{Next, Stopped}
+
+-- "number of 040 lines": what one line adds
+abbrev pub parcelsIn : Record → ℕ
+parcelsIn Header = 0
+parcelsIn Sender = 0
+parcelsIn Shipment = 0
+parcelsIn Parcel = 1
+parcelsIn Product = 0
+parcelsIn Feature = 0
+
+-- the state behind an accepted line
+abbrev pub behind : List ℕ → State → Line → State
+behind s state line =
+    record {
+      at = line .next;
+      lines = state .lines + 1;
+      parcels = state .parcels + parcelsIn (line .kind);
+      cents = state .cents + cashOf (line .kind) (split (textAt s (state .at)));
+      due = After (line .kind);
+    }
+
+-- the line's refusal, handed on
+abbrev pub handedOn : LineAnswer → Step
+handedOn (Accepted line) = Stopped NotThere 0
+handedOn (Refused why place) = Stopped why place
+
+-- the line's answer, with a list of so many words, behind the lines that start at these places
+unfoldable pub onLine : LineAnswer → List ℕ → ℕ → List ℕ → State → Step
+onLine (Refused why place) s words starts state = Stopped why place
+onLine (Accepted line) s words starts state =
+    if repeats (line .kind) s starts (state .at) then Stopped IdentcodeRepeated (state .at + 4)
+    else if leb words (state .lines) then Stopped ListFull (state .at)
+    else Next (behind s state line)
+
+unfoldable pub stepAnswer : List ℕ → ℕ → List ℕ → State → Step
+stepAnswer s words starts state = onLine (lineAnswer (state .due) s (state .at)) s words starts state

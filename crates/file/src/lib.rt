@@ -1,0 +1,10 @@
+// A whole file: its lines in order, no identcode twice, the list of its lines, its parcels and its cash.
+mod cash;
+mod identcode;
+mod list;
+mod step;
+mod whole;
+
+pub use whole::FileAnswer;
+pub use whole::Totals;
+pub use whole::judge;

@@ -1,0 +1,88 @@
+// A whole file, judged line by line; the lent list then holds where each line starts.
+ghost use mathlib.Core.Path.{_≡_};
+ghost use Prim.Native.Nat.{_≤_};
+ghost use lib.ListN.{length, replicate};
+ghost use Rattle.file.specs.File.{handed, Judges};
+use crate::list;
+use crate::step;
+use crate::step::State;
+use crate::step::Step;
+use fields::Due;
+use refusal::Refusal;
+
+pub struct Totals {
+    pub lines: usize,
+    pub parcels: usize,
+    pub cents: u64,
+}
+
+pub enum FileAnswer {
+    Accepted(Totals),
+    Refused { why: Refusal, place: usize },
+}
+
+// Judges a file. Accepted, each word of the list below the number of lines is that line's offset and every other word is 0;
+// refused, all words are 0.
+pub fn judge(s: &[u8], words: &mut [u32]) -> FileAnswer
+    ensures { λ r. ⌜ Judges (now (s .entry)) (length (now (words .entry))) r (now (words .exit)) ⌝ }
+{
+    list::clear(words);
+    if 65535 < s.len() {
+        return FileAnswer::Refused {
+            why: Refusal::FileTooLong,
+            place: 65535,
+        };
+    }
+    run(s, words)
+}
+
+// The lines of a file that is not too long, with a list that is clear.
+fn run(s: &[u8], words: &mut [u32]) -> FileAnswer
+    requires { ⌜ (length (now s) ≤ 65535) × (now words ≡ replicate (length (now words)) 0) ⌝ }
+    ensures { λ r. ⌜ Judges (now (s .entry)) (length (now (words .entry))) r (now (words .exit)) ⌝ }
+{
+    let mut state = State {
+        at: 0,
+        lines: 0,
+        parcels: 0,
+        cents: 0,
+        due: Due::First,
+    };
+    while state.at < s.len() {
+        let at = state.at;
+        let lines = state.lines;
+        let step = step::one_line(s, words, state);
+        let Step::Next(next) = step else {
+            list::clear(words);
+            return refusal_of(step);
+        };
+        words[lines] = at as u32;
+        state = next;
+    }
+    let due = state.due;
+    if !fields::may_end(due) {
+        list::clear(words);
+        return FileAnswer::Refused {
+            why: Refusal::FileEnds,
+            place: s.len(),
+        };
+    }
+    FileAnswer::Accepted(Totals {
+        lines: state.lines,
+        parcels: state.parcels,
+        cents: state.cents,
+    })
+}
+
+// The refusal of a line, handed on.
+fn refusal_of(step: Step) -> FileAnswer
+    ensures { λ r. ⌜ r ≡ handed step ⌝ }
+{
+    match step {
+        Step::Next(_) => FileAnswer::Refused {
+            why: Refusal::NotThere,
+            place: 0,
+        },
+        Step::Stopped { why, place } => FileAnswer::Refused { why, place },
+    }
+}
