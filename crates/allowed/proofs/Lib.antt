@@ -1,0 +1,4 @@
+pub mod Codes
+pub mod Twice
+pub mod Runs
+pub mod Files

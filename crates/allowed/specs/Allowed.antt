@@ -1,0 +1,86 @@
+-- Demand 2: "A file is accepted exactly when our profile of the pre-advice manual allows it. Line list, parcel count and cash total
+-- are those of the file's own lines." What an allowed file is, as a list of lines, apart from any way of judging it.
+use Prim.Native.Nat.{ℕ, _+_, _≤_}
+use mathlib.Core.Path.{_≡_}
+use mathlib.Core.Bool.{Bool, true, false, _||_}
+use mathlib.Core.List.{List, [], _∷_, _++_}
+use lib.ListN.{length}
+use Rattle.text.specs.Scan.{same}
+use Rattle.fields.specs.Record.{typeOf, mayCome, mayEnd}
+use Rattle.fields.specs.declared.record.Record.{Record}
+use Rattle.fields.specs.declared.record.Record.the-variants.{Header, Sender, Shipment, Parcel, Product, Feature}
+use Rattle.fields.specs.declared.record.Due.{Due}
+use Rattle.fields.specs.declared.record.Due.the-variants.{First, After}
+use Rattle.grammar.specs.Grammar.{render, LineOk, fieldNo}
+use Rattle.file.specs.Cash.{cashOf}
+use Rattle.file.specs.Step.{parcelsIn}
+
+-- a line of a file: its record and its fields
+pub record FileLine : Type 0 where
+  pub kind : Record
+  pub fields : List (List ℕ)
+
+-- the bytes of a line, and of lines one after the other
+abbrev pub lineBytes : FileLine → List ℕ
+lineBytes l = render (l .kind) (l .fields)
+
+abbrev pub fileBytes : List FileLine → List ℕ
+fileBytes [] = []
+fileBytes (l ∷ ls) = lineBytes l ++ fileBytes ls
+
+-- each line keeps its rules
+abbrev pub LinesOk : List FileLine → Type 0
+LinesOk [] = Unit {0}
+LinesOk (l ∷ ls) = LineOk (l .kind) (l .fields) × LinesOk ls
+
+-- "Record order": each record may come where it comes, and "The end is allowed only there."
+abbrev pub InOrder : Due → List FileLine → Type 0
+InOrder due [] = mayEnd due ≡ true
+InOrder due (l ∷ ls) = (mayCome due (l .kind) ≡ true) × InOrder (After (l .kind)) ls
+
+-- the identcodes (040.1) of lines
+abbrev pub codeOf : Record → List (List ℕ) → List (List ℕ)
+codeOf Header fs = []
+codeOf Sender fs = []
+codeOf Shipment fs = []
+codeOf Parcel fs = fieldNo fs 1 ∷ []
+codeOf Product fs = []
+codeOf Feature fs = []
+
+abbrev pub identcodes : List FileLine → List (List ℕ)
+identcodes [] = []
+identcodes (l ∷ ls) = codeOf (l .kind) (l .fields) ++ identcodes ls
+
+-- a code is one of these
+abbrev pub oneOfCodes : List ℕ → List (List ℕ) → Bool
+oneOfCodes code [] = false
+oneOfCodes code (c ∷ cs) = same c code || oneOfCodes code cs
+
+-- "No identcode (040.1) occurs twice in a file": none stands among those behind it
+abbrev pub NoneTwice : List (List ℕ) → Type 0
+NoneTwice [] = Unit {0}
+NoneTwice (c ∷ cs) = (oneOfCodes c cs ≡ false) × NoneTwice cs
+
+-- an allowed file, and its lines
+pub record AllowedFile (s : List ℕ) (ls : List FileLine) : Type 0 where
+  pub bytes : s ≡ fileBytes ls
+  -- "At most 65,535 bytes."
+  pub small : length s ≤ 65535
+  pub lines : LinesOk ls
+  pub order : InOrder First ls
+  pub codes : NoneTwice (identcodes ls)
+
+-- "number of 040 lines"
+abbrev pub parcelCount : List FileLine → ℕ
+parcelCount [] = 0
+parcelCount (l ∷ ls) = parcelsIn (l .kind) + parcelCount ls
+
+-- "the cash total in cents"
+abbrev pub cashTotal : List FileLine → ℕ
+cashTotal [] = 0
+cashTotal (l ∷ ls) = cashOf (l .kind) (typeOf (l .kind) ∷ l .fields) + cashTotal ls
+
+-- "that line's first offset": where lines start, the first of them at this offset
+abbrev pub lineStarts : ℕ → List FileLine → List ℕ
+lineStarts at [] = []
+lineStarts at (l ∷ ls) = at ∷ lineStarts (at + length (lineBytes l)) ls
