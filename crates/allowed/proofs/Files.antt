@@ -21,7 +21,7 @@ use Rattle.file.specs.File.{Judged, begin, fileFrom, judged}
 use Rattle.file.specs.declared.whole.Totals.{Totals}
 use Rattle.file.specs.declared.whole.FileAnswer.{FileAnswer}
 use Rattle.file.specs.declared.whole.FileAnswer.the-variants.{Accepted, Refused}
-use Rattle.allowed.specs.Allowed.{FileLine, lineBytes, fileBytes, LinesOk, InOrder, codeOf, identcodes, NoneTwice, AllowedFile, parcelCount, cashTotal, lineStarts}
+use Rattle.allowed.specs.Allowed.{FileLine, lineBytes, fileBytes, LinesOk, InOrder, codeOf, identcodes, NoneTwice, AllowedFile, parcelCount, cashTotal, totalsOf, lineStarts}
 use Rattle.allowed.proofs.Twice.{none-more, fresh-before}
 use Rattle.allowed.proofs.Runs.{AllowedFrom, judgedWith, Ran, ran, runs}
 
@@ -63,9 +63,6 @@ line-some l = omega (arith, render-long (l .kind) (l .fields))
 few-lines : (ls : List FileLine) → length ls ≤ length (fileBytes ls)
 few-lines [] = omega arith
 few-lines (l ∷ ls) = omega (arith, few-lines ls, line-some l, length-append (lineBytes l) (fileBytes ls))
-
-abbrev pub totalsOf : List FileLine → Totals
-totalsOf ls = record { lines = length ls; parcels = parcelCount ls; cents = cashTotal ls }
 
 pub record Accepts (s : List ℕ) (words : ℕ) (totals : Totals) (starts : List ℕ) : Type 0 where
   pub lines : List FileLine

@@ -14,6 +14,7 @@ use Rattle.fields.specs.declared.record.Due.the-variants.{First, After}
 use Rattle.grammar.specs.Grammar.{render, LineOk, fieldNo}
 use Rattle.file.specs.Cash.{cashOf}
 use Rattle.file.specs.Step.{parcelsIn}
+use Rattle.file.specs.declared.whole.Totals.{Totals}
 
 -- a line of a file: its record and its fields
 pub record FileLine : Type 0 where
@@ -79,6 +80,10 @@ parcelCount (l ∷ ls) = parcelsIn (l .kind) + parcelCount ls
 abbrev pub cashTotal : List FileLine → ℕ
 cashTotal [] = 0
 cashTotal (l ∷ ls) = cashOf (l .kind) (typeOf (l .kind) ∷ l .fields) + cashTotal ls
+
+-- "Accepted: number of lines, number of 040 lines, and the cash total in cents"
+abbrev pub totalsOf : List FileLine → Totals
+totalsOf ls = record { lines = length ls; parcels = parcelCount ls; cents = cashTotal ls }
 
 -- "that line's first offset": where lines start, the first of them at this offset
 abbrev pub lineStarts : ℕ → List FileLine → List ℕ

@@ -5,26 +5,52 @@
 use Prim.Native.Nat.{ℕ}
 use mathlib.Core.Path.{_≡_, sym, ap, _∙_}
 use mathlib.Core.List.{List}
-use Rattle.refusal.specs.Table.{numberOf}
-use Rattle.refusal.specs.declared.Refusal.{Refusal}
-use Rattle.text.specs.Byte.{digit, capital}
-use Rattle.check_characters.specs.Number.{issuedTo, Issues, checked as checkedNumber}
+use lib.ListN.{length}
+use Rattle.text.specs.Placed.{placed}
+use Rattle.check_characters.specs.Number.{issueAnswer, issuedTo, Issues, checked as checkedNumber}
 use Rattle.check_characters.specs.Iban.{checked as checkedIban}
 use Rattle.check_characters.specs.declared.number.NumberAnswer.{NumberAnswer}
 use Rattle.check_characters.specs.declared.number.IssueAnswer.{IssueAnswer}
 use Rattle.check_characters.specs.declared.iban.IbanAnswer.{IbanAnswer}
+use Rattle.fields.specs.Field.{tested}
+use Rattle.fields.specs.declared.record.Record.{Record}
+use Rattle.fields.specs.declared.record.Due.the-variants.{Any}
+use Rattle.fields.specs.declared.field.Tested.{Tested}
+use Rattle.line.specs.Line.{lineAnswer}
+use Rattle.line.specs.Find.{fieldAnswer}
+use Rattle.line.specs.declared.read.LineAnswer.{LineAnswer}
+use Rattle.line.specs.declared.find.FieldAnswer.{FieldAnswer}
+use Rattle.file.specs.File.{Judges}
+use Rattle.file.specs.declared.whole.FileAnswer.{FileAnswer}
 
--- a contract that names its answer leaves one answer
-one-answer : {A : Type 0} {a b right : A} → a ≡ right → b ≡ right → a ≡ b
-one-answer p q = p ∙ sym q
+-- A contract `answer ≡ definition of the inputs` leaves one answer. That is the contract of every public function but those that
+-- write into a buffer, which follow below one by one.
+pub one-answer : {A B : Type 0} (definition : A → B) (input : A) (a b : B) → a ≡ definition input → b ≡ definition input → a ≡ b
+one-answer definition input a b p q = p ∙ sym q
 
 pub check-number-unique : (s : List ℕ) (a b : NumberAnswer) → a ≡ checkedNumber s → b ≡ checkedNumber s → a ≡ b
-check-number-unique s a b p q = one-answer p q
+check-number-unique s = one-answer checkedNumber s
 
 pub issue-number-unique : (body out : List ℕ) (a b : IssueAnswer) (x y : List ℕ) → Issues body out a x → Issues body out b y → (a ≡ b) × (x ≡ y)
 issue-number-unique body out a b x y p q =
-    let same = one-answer (p .0) (q .0) in
+    let same = one-answer (issueAnswer body) (length out) a b (p .0) (q .0) in
     (same, p .1 ∙ ap (λ (r : IssueAnswer). issuedTo r body out) same ∙ sym (q .1))
 
 pub check-iban-unique : (s : List ℕ) (a b : IbanAnswer) → a ≡ checkedIban s → b ≡ checkedIban s → a ≡ b
-check-iban-unique s a b p q = one-answer p q
+check-iban-unique s = one-answer checkedIban s
+
+pub read-line-unique : (s : List ℕ) (at : ℕ) (a b : LineAnswer) → a ≡ lineAnswer Any s at → b ≡ lineAnswer Any s at → a ≡ b
+read-line-unique s = one-answer (lineAnswer Any s)
+
+pub find-field-unique : (s : List ℕ) (at n : ℕ) (a b : FieldAnswer) → a ≡ fieldAnswer s at n → b ≡ fieldAnswer s at n → a ≡ b
+find-field-unique s at = one-answer (fieldAnswer s at)
+
+pub test-field-unique : (kind : Record) (n : ℕ) (beside f : List ℕ) (a b : Tested) → a ≡ tested kind n beside f → b ≡ tested kind n beside f → a ≡ b
+test-field-unique kind n beside = one-answer (tested kind n beside)
+
+pub judge-unique : (s : List ℕ) (words : ℕ) (a b : FileAnswer) (x y : List ℕ) → Judges s words a x → Judges s words b y → (a ≡ b) × (x ≡ y)
+judge-unique s words a b x y p q = (p .0 ∙ sym (q .0), p .1 ∙ sym (q .1))
+
+-- a run placed in an output
+pub place-unique : (out : List ℕ) (at : ℕ) (src x y : List ℕ) → x ≡ placed out at src → y ≡ placed out at src → x ≡ y
+place-unique out at = one-answer (placed out at)

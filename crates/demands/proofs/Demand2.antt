@@ -1,6 +1,7 @@
--- Demand 2: "DPD numbers and IBANs pass exactly by ISO 7064."
+-- Demand 2: "A file is accepted exactly when our profile of the pre-advice manual allows it. Line list, parcel count and cash total
+-- are those of the file's own lines. .. DPD numbers and IBANs pass exactly by ISO 7064."
 use Prim.Native.Nat.{ℕ, _≤_}
-use mathlib.Core.Path.{_≡_}
+use mathlib.Core.Path.{_≡_, refl, sym, ap, _∙_}
 use mathlib.Core.List.{List, _++_}
 use mathlib.Core.Logic.{_↔_}
 use lib.ListN.{length, take, drop}
@@ -11,10 +12,58 @@ use Rattle.check_characters.specs.declared.number.NumberAnswer.the-variants.{Ac
 use Rattle.check_characters.specs.declared.number.IssueAnswer.{IssueAnswer}
 use Rattle.check_characters.specs.declared.number.IssueAnswer.the-variants.{Issued}
 use Rattle.check_characters.specs.declared.iban.IbanAnswer.the-variants.{Accepted as AcceptedIban}
+use Rattle.fields.specs.declared.record.Due.the-variants.{Any}
+use Rattle.line.specs.Line.{lineAnswer}
+use Rattle.line.specs.Find.{fieldAnswer}
+use Rattle.line.specs.declared.read.Line.{Line}
+use Rattle.line.specs.declared.read.LineAnswer.the-variants.{Accepted as AcceptedLine}
+use Rattle.line.specs.declared.find.FieldAnswer.the-variants.{Found}
+use Rattle.grammar.specs.Grammar.{Reads, Finds}
+use Rattle.grammar.proofs.Lines as lines
+use Rattle.grammar.proofs.Finding as finding
+use Rattle.file.specs.File.{Judged, judged, listOf, Judges}
+use Rattle.file.specs.declared.whole.Totals.{Totals}
+use Rattle.file.specs.declared.whole.FileAnswer.{FileAnswer}
+use Rattle.file.specs.declared.whole.FileAnswer.the-variants.{Accepted as AcceptedFile}
+use Rattle.allowed.specs.Allowed.{FileLine, AllowedFile, totalsOf, lineStarts}
+use Rattle.allowed.proofs.Files.{accepted-allowed, allowed-accepted, one-division}
 use Rattle.slips.specs.Exactly.{SoundNumber, SoundIban, bodyOf}
 use Rattle.slips.proofs.Numbers as numbers
 use Rattle.slips.proofs.Ibans as ibans
 use Rattle.slips.proofs.Issues.{issued-sound, sound-issued}
+
+said : FileAnswer → List ℕ → Judged
+said answer starts = record { answer = answer; starts = starts }
+
+-- A file is accepted, with these totals and this list, exactly when it is allowed, the list has a word for each of its lines, the
+-- totals are those of its lines, and each word is where that line starts, every other 0. So a judge that refuses everything, one
+-- with a constant answer and invented counts are shut out.
+pub file-exactly : (s : List ℕ) (words : ℕ) (totals : Totals) (list : List ℕ) → Judges s words (AcceptedFile totals) list ↔ ((ls : List FileLine) × AllowedFile s ls × (length ls ≤ words) × (totals ≡ totalsOf ls) × (list ≡ listOf words (lineStarts 0 ls)))
+unfolding said
+file-exactly s words totals list = (forth, back)
+  where
+    forth : Judges s words (AcceptedFile totals) list → (ls : List FileLine) × AllowedFile s ls × (length ls ≤ words) × (totals ≡ totalsOf ls) × (list ≡ listOf words (lineStarts 0 ls))
+    forth j =
+        let g = accepted-allowed s words totals (judged s words .starts) (ap (λ (a : FileAnswer). said a (judged s words .starts)) (sym (j .0))) in
+        (g .lines, g .allowed, g .room, g .counts, j .1 ∙ ap (listOf words) (g .list))
+
+    back : (ls : List FileLine) × AllowedFile s ls × (length ls ≤ words) × (totals ≡ totalsOf ls) × (list ≡ listOf words (lineStarts 0 ls)) → Judges s words (AcceptedFile totals) list
+    back g =
+        let e = allowed-accepted s words totals (lineStarts 0 (g .0)) (record { lines = g .0; allowed = g .1; room = g .2; counts = g .3; list = refl }) in
+        (sym (ap (λ (j : Judged). j .answer) e), g .4 ∙ sym (ap (λ (j : Judged). listOf words (j .starts)) e))
+
+-- No other division of the bytes into lines exists: the lines of an allowed file are its own.
+pub one-division-into-lines : (s : List ℕ) (ls ks : List FileLine) → AllowedFile s ls → AllowedFile s ks → ls ≡ ks
+one-division-into-lines s ls ks a b = one-division ls ks (a .lines) (b .lines) (sym (a .bytes) ∙ b .bytes)
+
+-- A line alone is accepted exactly when the bytes from the offset on are the rendering of an allowed line; the answer names its
+-- record, its count and where the next line starts.
+pub line-exactly : (s : List ℕ) (at : ℕ) (line : Line) → (lineAnswer Any s at ≡ AcceptedLine line) ↔ ((fs : List (List ℕ)) × Reads Any s at line fs)
+line-exactly s at line = lines.line-exactly Any s at line
+
+-- Of an accepted line each field is found where it stands, and no other.
+pub field-exactly : (s : List ℕ) (at : ℕ) (line : Line) (fs : List (List ℕ)) (n start long : ℕ) → Reads Any s at line fs → (fieldAnswer s at n ≡ Found start long) ↔ Finds (line .kind) fs s at n start long
+field-exactly s at line fs n start long g = finding.field-exactly g n start long
 
 -- a tracking number or label code is accepted exactly when it has its kind's length and shape and its check closes the carry
 pub number-exactly : (k : Kind) (s : List ℕ) → (checkedNumber s ≡ Accepted k) ↔ SoundNumber k s
