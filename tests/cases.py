@@ -1,0 +1,254 @@
+#!/usr/bin/env python3
+"""Writes the stored files of crates/cases with the answers that document 01 gives them, worked out from how each file is made:
+python3 tests/cases.py [FOLDER] (default crates/cases)"""
+import os
+import sys
+
+CRLF = b"\r\n"
+
+
+def line(kind, *fields):
+    return [kind] + [f if isinstance(f, bytes) else f.encode("latin-1") for f in fields]
+
+
+def header(**put):
+    return filled("010", 10, {1: "0012345678", 2: "Muster", 3: "2021-02-23T13:37:50", 4: "2021-02-24T14:20:55", 5: "1005", 6: "5"}, put)
+
+
+def sender(**put):
+    return filled("020", 16, {1: "A", 5: "AT", 6: "1010", 7: "Wien", 9: "Gasse", 11: "1", 12: "1", 13: "a@b"}, put)
+
+
+def shipment(**put):
+    return filled("030", 40, {16: "B", 20: "AT", 21: "1020", 22: "Wien", 24: "Gasse", 26: "2"}, put)
+
+
+def parcel(code, **put):
+    return filled("040", 3, {1: f"{code:022d}"}, put)
+
+
+def product(**put):
+    return filled("050", 1, {1: "10"}, put)
+
+
+def feature(code="006", **put):
+    base = {1: code}
+    if code in ("006", "022"):
+        base.update({3: "12.50", 4: "EUR", 5: "Muster", 6: "AT611904300234573201", 7: "ABCDATWW"})
+    return filled("060", 10, base, put)
+
+
+def filled(kind, count, base, put):
+    fields = {**base, **{int(k[1:]): v for k, v in put.items()}}
+    return line(kind, *[fields.get(n, "") for n in range(1, count + 1)])
+
+
+def text(parts):
+    return b";".join([parts[0].encode()] + parts[1:])
+
+
+def render(lines):
+    return b"".join(text(l) + CRLF for l in lines)
+
+
+def starts(lines):
+    at, out = 0, []
+    for l in lines:
+        out.append(at)
+        at += len(text(l)) + 2
+    return out
+
+
+def place(lines, i, n=None):
+    """Where line i starts, or its field n."""
+    at = starts(lines)[i]
+    if n is None:
+        return at
+    return at + sum(len(p) + 1 for p in [lines[i][0].encode()] + lines[i][1:n])
+
+
+EXAMPLE = [header(), sender(), shipment(), parcel(10**21 + 1), product(), feature()]
+
+
+def accepted(lines, words, cents):
+    parcels = sum(l[0] == "040" for l in lines)
+    return render(lines), words, f"ok {len(lines)} {parcels} {cents} list {sum(starts(lines))}"
+
+
+def refused(lines, number, at, words=4096):
+    data = lines if isinstance(lines, bytes) else render(lines)
+    return data, words, f"no {number} {at} list 0"
+
+
+def with_line(i, new):
+    return EXAMPLE[:i] + [new] + EXAMPLE[i + 1 :]
+
+
+def field_case(i, make, number, n):
+    lines = with_line(i, make)
+    return refused(lines, number, place(lines, i, n))
+
+
+def full_file(size):
+    """An accepted file of so many bytes: parcels, then a last line lengthened by its free fields."""
+    lines = [header(), sender(), shipment()] + [parcel(k) for k in range(1, 2100)] + [product()]
+    left = size - len(render(lines))
+    while left > 2000:
+        lines.append(feature("011", f3="1.00", f4="EUR", f2="x" * 60, f5="y" * 60))
+        left = size - len(render(lines))
+    # The bytes that are still missing go into free fields of 050 lines' successors.
+    while left:
+        take = min(left, 64 * 3 + 40)
+        pad = feature("004")
+        need = take - len(render([pad])) if take >= len(render([pad])) else None
+        if need is None:
+            break
+        for n, width in ((2, 64), (5, 64), (10, 40)):
+            use = min(width, need)
+            pad[n] = b"z" * use
+            need -= use
+        lines.append(pad)
+        left = size - len(render(lines))
+    short = left
+    if short:
+        grown = lines[1]
+        for n, width in ((14, 64), (15, 64), (16, 64), (2, 40), (3, 40)):
+            use = min(width - len(grown[n]), short)
+            grown[n] += b"w" * use
+            short -= use
+    assert len(render(lines)) == size, (size, len(render(lines)))
+    cents = 0
+    return lines, cents
+
+
+def cases():
+    e = EXAMPLE
+    yield "example", accepted(e, 4096, 1250)
+    yield "list_just_full", accepted(e, 6, 1250)
+    yield "list_one_short", refused(e, 11, place(e, 5), 5)
+    yield "list_none", refused(e, 11, 0, 0)
+    yield "empty", refused(b"", 12, 0)
+    yield "empty_no_words", refused(b"", 12, 0, 0)
+    yield "line_end_alone", refused(CRLF, 3, 0)
+    yield "header_short", refused(b"010;" + CRLF, 5, 0)
+    # 1
+    lines, cents = full_file(65535)
+    yield "at_limit", accepted(lines, 4096, cents)
+    yield "over_limit", refused(render(lines) + b" ", 1, 65535)
+    # 2
+    whole = render(e)
+    yield "no_last_end", refused(whole[:-2], 2, len(whole) - 2)
+    yield "cr_alone", refused(whole[:-1], 2, len(whole) - 2)
+    yield "lf_alone", refused(whole.replace(CRLF, b"\n"), 2, len(text(e[0])))
+    yield "control_byte", refused(whole[:20] + b"\x1f" + whole[21:], 2, 20)
+    yield "delete_byte", refused(whole[:20] + b"\x7f" + whole[21:], 2, 20)
+    yield "byte_159", refused(whole[:20] + b"\x9f" + whole[21:], 2, 20)
+    upper = with_line(1, sender(f1=bytes([160, 255])))
+    yield "bytes_160_255", accepted(upper, 4096, 1250)
+    yield "trailing_text", refused(whole + b"x", 2, len(whole) + 1)
+    # 3
+    for name, kind in (("041", "041"), ("070", "070"), ("10", "10"), ("0100", "0100"), ("space_010", " 010")):
+        lines = e[:1] + [[kind] + e[1][1:]] + e[2:]
+        yield f"type_{name}", refused(lines, 3, place(lines, 1))
+    # 4
+    yield "two_headers", refused(e[:1] + e, 4, place(e[:1] + e, 1))
+    yield "no_sender", refused(e[:1] + e[2:], 4, place(e, 1))
+    yield "no_parcel", refused(e[:3] + e[4:], 4, place(e, 3))
+    yield "parcel_first", refused(e[3:], 4, 0)
+    yield "feature_after_parcel", refused(e[:4] + e[5:], 4, place(e, 4))
+    # 5
+    for i, name in enumerate(("header", "sender", "shipment", "parcel", "product", "feature")):
+        fewer = with_line(i, e[i][:-1]) if i != 4 else with_line(4, ["050"])
+        yield f"{name}_field_less", refused(fewer, 5, place(fewer, i))
+        more = with_line(i, e[i] + [b""] * (1 if i not in (3, 4) else 25 - (len(e[i]) - 1)))
+        yield f"{name}_field_more", refused(more, 5, place(more, i))
+    most = with_line(3, e[3] + [b"x"] * 21)
+    yield "parcel_24_fields", accepted(most, 4096, 1250)
+    # 6, 7, 8
+    yield "width_full", accepted(with_line(1, sender(f1="x" * 40)), 4096, 1250)
+    yield "width_over", field_case(1, sender(f1="x" * 41), 6, 1)
+    yield "required_empty", field_case(2, shipment(f26=""), 7, 26)
+    yield "required_spaces", accepted(with_line(2, shipment(f26="  ")), 4096, 1250)
+    yield "carriers_own", field_case(2, shipment(f39="x"), 8, 39)
+    yield "carriers_own_long", field_case(2, shipment(f39="x" * 21), 6, 39)
+    yield "post_code_at", field_case(1, sender(f6="10101"), 8, 6)
+    yield "post_code_de", accepted(with_line(1, sender(f5="DE", f6="10115")), 4096, 1250)
+    yield "post_code_free", accepted(with_line(2, shipment(f8="no form")), 4096, 1250)
+    yield "country_small", field_case(1, sender(f5="at"), 8, 5)
+    yield "leap_2024", accepted(with_line(0, header(f3="2024-02-29T23:59:59")), 4096, 1250)
+    yield "leap_2023", field_case(0, header(f3="2023-02-29T23:59:59"), 8, 3)
+    yield "second_60", field_case(0, header(f4="2024-02-28T23:59:60"), 8, 4)
+    yield "year_1999", field_case(0, header(f3="1999-12-31T00:00:00"), 8, 3)
+    yield "year_2100", field_case(0, header(f3="2100-01-01T00:00:00"), 8, 3)
+    yield "version_55", field_case(0, header(f6="55"), 8, 6)
+    yield "customer_01", field_case(0, header(f1="0112345678"), 8, 1)
+    yield "identcode_21", field_case(3, line("040", "1" * 21, "", ""), 8, 1)
+    yield "identcode_23", field_case(3, line("040", "1" * 23, "", ""), 6, 1)
+    yield "feature_005", field_case(5, feature("005"), 8, 1)
+    yield "reference_36", field_case(5, feature(f2="x" * 36), 6, 2)
+    yield "reference_35", accepted(with_line(5, feature(f2="x" * 35)), 4096, 1250)
+    yield "reference_64_of_004", accepted(with_line(5, feature("004", f2="&" * 64)), 4096, 0)
+    yield "reference_sign", field_case(5, feature(f2="a&b"), 8, 2)
+    yield "amount_0_00", field_case(5, feature(f3="0.00"), 8, 3)
+    yield "amount_01_00", field_case(5, feature(f3="01.00"), 8, 3)
+    yield "amount_0_01", accepted(with_line(5, feature(f3="0.01")), 4096, 1)
+    yield "amount_most", accepted(with_line(5, feature(f3="999999.99")), 4096, 99999999)
+    yield "iban_wrong", field_case(5, feature(f6="AT161904300234573201"), 8, 6)
+    yield "iban_35", field_case(5, feature(f6="A" * 35), 6, 6)
+    yield "bic_9", field_case(5, feature(f7="ABCDATWW1"), 8, 7)
+    yield "purpose_sign", field_case(5, feature("004", f8="a_b"), 8, 8)
+    yield "mail_two", field_case(5, feature("004", f9="a@b@c"), 8, 9)
+    yield "mail_first", field_case(5, feature("004", f9="@b"), 8, 9)
+    yield "mail_last", field_case(5, feature("004", f9="a@"), 8, 9)
+    # 9
+    for n in (3, 4, 5, 6, 7):
+        lines = with_line(5, feature(**{f"f{n}": ""}))
+        yield f"cash_lacks_{n}", refused(lines, 9, place(lines, 5))
+    lines = with_line(5, feature("063", f3="1.00"))
+    yield "money_lacks_currency", refused(lines, 9, place(lines, 5))
+    lines = with_line(5, feature("054"))
+    yield "contact_lacks_both", refused(lines, 9, place(lines, 5))
+    yield "contact_by_phone", accepted(with_line(5, feature("054", f10="1")), 4096, 0)
+    # 10
+    near = e[:4] + [e[3]] + e[4:]
+    yield "code_next_line", refused(near, 10, place(near, 4, 1))
+    two = e + [sender(), shipment()] + e[3:5]
+    yield "code_other_sender", refused(two, 10, place(two, 8, 1))
+    many = e[:3] + [parcel(k) for k in range(1, 1501)]
+    far = many + [parcel(1)]
+    yield "code_far", refused(far, 10, place(far, len(far) - 1, 1))
+    yield "code_far_list_full", refused(far, 10, place(far, len(far) - 1, 1), len(far) - 1)
+    yield "codes_many", accepted(many + [product()], 4096, 0)
+    # 12
+    yield "ends_after_parcel", refused(e[:4], 12, len(render(e[:4])))
+    yield "ends_after_header", refused(e[:1], 12, len(render(e[:1])))
+    yield "ends_after_product", accepted(e[:5], 4096, 0)
+    yield "full_list_before_end", refused(e[:4], 11, place(e, 3), 3)
+    # cash
+    mixed = e + [feature("022", f3="1.00"), feature(f3="2.00", f4="USD"), feature("011", f3="4.00", f4="EUR"), feature(f3="8.00")]
+    yield "cash_of_006_and_022", accepted(mixed, 4096, 1250 + 100 + 800)
+    # 31 times 999999.99 is more than 32 bits hold
+    big = e[:5] + [feature(f3="999999.99") for _ in range(50)]
+    yield "cash_over_32_bits", accepted(big, 4096, 50 * 99999999)
+    # slips: a refused line is not skipped
+    lines = e[:2] + [shipment(f16="x" * 41)] + e[3:]
+    yield "overlong_shipment", refused(lines, 6, place(lines, 2, 16))
+
+
+def main(folder):
+    os.makedirs(f"{folder}/data", exist_ok=True)
+    args, out = [], []
+    for name, (data, words, answer) in cases():
+        with open(f"{folder}/data/{name}", "wb") as f:
+            f.write(data)
+        args += [str(words), name]
+        out.append(f"{name} {words} {answer}")
+    with open(f"{folder}/args", "w", encoding="ascii") as f:
+        f.write("\n".join(args) + "\n")
+    with open(f"{folder}/stdout", "w", encoding="ascii") as f:
+        f.write("\n".join(out) + "\n")
+    print(f"{len(out)} cases")
+
+
+if __name__ == "__main__":
+    main(sys.argv[1] if len(sys.argv) > 1 else "crates/cases")
