@@ -56,12 +56,14 @@ pub data Row : Type 0 where
 unfoldable pub formsOf : Record → List Row
 -- 010: "1 R ten digits, the first two 00 ..; 3 R and 4 R date-times; 5 R four digits; 6 R .. exactly `5`"
 formsOf Header =
-    field 1 is alone customer ∷ field 3 is alone dateTime ∷ field 4 is alone dateTime ∷ field 5 is alone (digits 4) ∷ field 6 is alone version ∷ []
+    field 1 is alone customer ∷ field 3 is alone dateTime ∷ field 4 is alone dateTime ∷ field 5 is alone (digits 4) ∷
+    field 6 is alone version ∷ []
 -- 020: "Countries (020.5, 030.7, 030.20) are two capitals."
 formsOf Sender = field 5 is alone (capitals 2) ∷ field 6 is postCode ∷ []
 -- 030: "Fields 1 and 2, if filled, are digits."
 formsOf Shipment =
-    field 1 is alone allDigits ∷ field 2 is alone allDigits ∷ field 7 is alone (capitals 2) ∷ field 8 is postCode ∷ field 20 is alone (capitals 2) ∷ field 21 is postCode ∷ field 39 is alone nothing ∷ []
+    field 1 is alone allDigits ∷ field 2 is alone allDigits ∷ field 7 is alone (capitals 2) ∷ field 8 is postCode ∷
+    field 20 is alone (capitals 2) ∷ field 21 is postCode ∷ field 39 is alone nothing ∷ []
 -- 040: "1 R 22 digits"
 formsOf Parcel = field 1 is alone (digits 22) ∷ []
 -- 050: none
@@ -69,7 +71,8 @@ formsOf Product = []
 -- 060: "1 R .. a feature code; .. 3: 9, an amount; 4: 3, three capitals; .. 6: 34, an IBAN; 7: 11, a BIC ..; 9: 64, with exactly
 -- one `@`, neither first nor last"
 formsOf Feature =
-    field 1 is alone isFeature ∷ field 2 is reference ∷ field 3 is alone amount ∷ field 4 is alone (capitals 3) ∷ field 6 is alone isIban ∷ field 7 is alone bic ∷ field 8 is alone purposeText ∷ field 9 is alone mail ∷ []
+    field 1 is alone isFeature ∷ field 2 is reference ∷ field 3 is alone amount ∷ field 4 is alone (capitals 3) ∷
+    field 6 is alone isIban ∷ field 7 is alone bic ∷ field 8 is alone purposeText ∷ field 9 is alone mail ∷ []
 
 -- a field that no row names has no form
 abbrev pub hasFormIn : List Row → ℕ → Form

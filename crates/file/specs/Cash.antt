@@ -17,7 +17,9 @@ centsOf f = if amount f then cents f else 0
 
 -- what the parts of a 060 line add
 unfoldable pub cashIn : List (List ℕ) → ℕ
-cashIn parts = if isCash (getD parts 1 []) then (if same (getD parts 4 []) (bytes "EUR") then centsOf (getD parts 3 []) else 0) else 0
+cashIn parts =
+    if isCash (getD parts 1 []) then (if same (getD parts 4 []) (bytes "EUR") then centsOf (getD parts 3 []) else 0)
+    else 0
 
 unfoldable pub cashOf : Record → List (List ℕ) → ℕ
 cashOf Header parts = 0

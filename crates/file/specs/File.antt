@@ -24,10 +24,15 @@ pub record Judged : Type 0 where
 abbrev pub begin : State
 begin = record { at = 0; lines = 0; parcels = 0; cents = 0; due = First }
 
+-- "Accepted: number of lines, number of 040 lines, and the cash total in cents"
+abbrev pub passed : List ℕ → State → Judged
+passed starts state =
+    record { answer = Accepted (record { lines = state .lines; parcels = state .parcels; cents = state .cents }); starts = starts }
+
 -- "12 comes last": the file may end here, or a record is due
 abbrev pub ended : List ℕ → List ℕ → State → Judged
 ended s starts state =
-    if mayEnd (state .due) then record { answer = Accepted (record { lines = state .lines; parcels = state .parcels; cents = state .cents }); starts = starts }
+    if mayEnd (state .due) then passed starts state
     else record { answer = Refused FileEnds (length s); starts = [] }
 
 -- a refused line is the file's refusal; behind an accepted one the next follows
@@ -40,7 +45,8 @@ onStep (Stopped why place) more = record { answer = Refused why place; starts = 
 abbrev pub fileFrom : ℕ → List ℕ → ℕ → List ℕ → State → Judged
 fileFrom zero s words starts state = ended s starts state
 fileFrom (suc turns) s words starts state =
-    if ltb (state .at) (length s) then onStep (stepAnswer s words starts state) (λ next. fileFrom turns s words (starts ++ (state .at ∷ [])) next)
+    if ltb (state .at) (length s) then
+    onStep (stepAnswer s words starts state) (λ next. fileFrom turns s words (starts ++ (state .at ∷ [])) next)
     else ended s starts state
 
 -- "1 comes first of all."

@@ -29,4 +29,7 @@ codeOf s = if isFeature s then number s else 0
 -- needs 9 or 10; the rest need nothing."
 unfoldable pub needOf : ℕ → Need
 needOf code =
-    if among code (6 ∷ 22 ∷ []) then CashAccount else (if among code (11 ∷ 63 ∷ []) then Cash else (if eqb code 54 then Contact else Nothing))
+    if among code (6 ∷ 22 ∷ []) then CashAccount
+    else if among code (11 ∷ 63 ∷ []) then Cash
+    else if eqb code 54 then Contact
+    else Nothing
