@@ -1,0 +1,4 @@
+pub mod Ends
+pub mod Walks
+pub mod Puts
+pub mod Answers
