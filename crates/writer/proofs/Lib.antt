@@ -2,3 +2,4 @@ pub mod Ends
 pub mod Walks
 pub mod Puts
 pub mod Answers
+pub mod Back

@@ -1,6 +1,6 @@
 -- Document 01, 'Writer': "Record type as a number (10 for 010, up to 60), one text with all fields joined, a list of field ends, an
 -- output and its fill. Order: 3, 14, 5, fields (6, 7, 8), 9, 13."
-use Prim.Native.Nat.{ℕ, suc, _+_, _-_}
+use Prim.Native.Nat.{ℕ, suc, _+_, _-_, _≤_}
 use mathlib.Core.Path.{_≡_}
 use mathlib.Core.Bool.{Bool, not, _&&_}
 use mathlib.Core.List.{List, [], _∷_, _++_}
@@ -19,11 +19,16 @@ use Rattle.fields.specs.declared.record.Named.{Named}
 use Rattle.fields.specs.declared.record.Named.the-variants.{Known, Unknown}
 use Rattle.fields.specs.declared.field.Tested.{Tested}
 use Rattle.fields.specs.declared.field.Tested.the-variants.{Good, Bad}
+use Rattle.fields.specs.declared.record.Due.the-variants.{Any}
 use Rattle.line.specs.Need.{lacks}
 use Rattle.line.specs.Walk.{onTest}
+use Rattle.line.specs.Line.{lineAnswer}
+use Rattle.line.specs.Find.{fieldAnswer}
 use Rattle.line.specs.declared.walk.Walk.{Walk}
 use Rattle.line.specs.declared.walk.Walk.the-variants.{Fine, Stopped}
-use Rattle.grammar.specs.Grammar.{render, plain}
+use Rattle.line.specs.declared.read.LineAnswer.the-variants.{Accepted}
+use Rattle.line.specs.declared.find.FieldAnswer.the-variants.{Found}
+use Rattle.grammar.specs.Grammar.{render, plain, fieldNo, LineOk}
 use Rattle.writer.specs.declared.write.WriteAnswer.{WriteAnswer}
 use Rattle.writer.specs.declared.write.WriteAnswer.the-variants.{Written, NotWritten}
 
@@ -120,3 +125,12 @@ inOne (f ∷ fs) = f ++ inOne fs
 abbrev pub endsFrom : ℕ → List (List ℕ) → List ℕ
 endsFrom start [] = []
 endsFrom start (f ∷ fs) = (start + length f) ∷ endsFrom (start + length f) fs
+
+-- "Reading back is of the written line's bytes by themselves": they are the line of this record with these fields, they are read as
+-- that, and each field is found again
+pub record ReadsBack (kind : Record) (fs : List (List ℕ)) (line : List ℕ) : Type 0 where
+  pub allowed : LineOk kind fs
+  pub rendered : line ≡ render kind fs
+  pub read : lineAnswer Any line 0 ≡ Accepted (record { kind = kind; count = length fs; next = length line })
+  pub found :
+      (n : ℕ) → 1 ≤ n → n ≤ length fs → (start : ℕ) × ((fieldAnswer line 0 n ≡ Found start (length (fieldNo fs n))) × (take (length (fieldNo fs n)) (drop start line) ≡ fieldNo fs n))
