@@ -2,7 +2,7 @@
 -- output and its fill. Order: 3, 14, 5, fields (6, 7, 8), 9, 13."
 use Prim.Native.Nat.{ℕ, suc, _+_, _-_, _≤_}
 use mathlib.Core.Path.{_≡_}
-use mathlib.Core.Bool.{Bool, not, _&&_}
+use mathlib.Core.Bool.{Bool, true, not, _&&_}
 use mathlib.Core.List.{List, [], _∷_, _++_}
 use lib.Dec.{leb, eqb}
 use lib.ListN.{length, take, drop}
@@ -125,6 +125,15 @@ inOne (f ∷ fs) = f ++ inOne fs
 abbrev pub endsFrom : ℕ → List (List ℕ) → List ℕ
 endsFrom start [] = []
 endsFrom start (f ∷ fs) = (start + length f) ∷ endsFrom (start + length f) fs
+
+-- when a line is written, apart from any order of tests: it is of a known record, its ends hold, it is allowed, and there is room
+pub record Writable (number : ℕ) (text ends : List ℕ) (size fill n : ℕ) : Type 0 where
+  pub kind : Record
+  pub known : recordNumbered number ≡ Known kind
+  pub held : endsHold ends (length text) ≡ true
+  pub allowed : LineOk kind (between text ends)
+  pub fits : fill + length (render kind (between text ends)) ≤ size
+  pub long : n ≡ length (render kind (between text ends))
 
 -- "Reading back is of the written line's bytes by themselves": they are the line of this record with these fields, they are read as
 -- that, and each field is found again
