@@ -4,11 +4,12 @@ use mathlib.Core.Path.{_≡_, refl, sym, ap, _∙_}
 use mathlib.Core.Bool.{Bool, true, false, not}
 use mathlib.Core.List.{List, _∷_, _++_, append-assoc}
 use native.Mathlib.Omega.{arith}
-use lib.ListN.{length, take, drop, length-append}
+use lib.ListN.{length, take, drop}
 use lib.Seq.{take-at}
 use borrow.Author.Tests.{le-leb, lt-leb, ne-eqb, not-false}
 use Rattle.text.specs.Quoted.{bytes}
 use Rattle.text.specs.Placed.{written, placed}
+use Rattle.text.proofs.Placing.{placed-there}
 use Rattle.refusal.specs.declared.Refusal.{Refusal}
 use Rattle.refusal.specs.declared.Refusal.the-variants.{UnknownRecord, FieldCount, FeatureLacks, OutputTooShort, FieldEnds}
 use Rattle.fields.specs.Record.{typeOf, countFits}
@@ -19,16 +20,16 @@ use Rattle.line.specs.Parts.{split}
 use Rattle.line.specs.Need.{lacks}
 use Rattle.line.specs.declared.walk.Walk.{Walk}
 use Rattle.line.specs.declared.walk.Walk.the-variants.{Fine, Stopped}
-use Rattle.grammar.specs.Grammar.{joined, textOf, render}
-use Rattle.grammar.proofs.Texts.{type-long, fields-split}
+use Rattle.grammar.specs.Grammar.{textOf, render}
+use Rattle.grammar.proofs.Texts.{fields-split}
 use Rattle.grammar.proofs.Lines.{render-long}
 use Rattle.grammar.proofs.Sizes.{count-le, fields-le}
-use Rattle.writer.specs.Write.{recordNumbered, endsHold, between, walked, ofFields, afterWalk, ofRecord, writeAnswer, lineTo, writtenTo}
+use Rattle.writer.specs.Write.{recordNumbered, endsHold, between, walked, ofFields, ofRecord, writeAnswer, lineTo, writtenTo}
 use Rattle.writer.specs.declared.write.WriteAnswer.{WriteAnswer}
 use Rattle.writer.specs.declared.write.WriteAnswer.the-variants.{Written, NotWritten}
 use Rattle.writer.proofs.Ends.{between-count}
 use Rattle.writer.proofs.Walks.{walked-fields}
-use Rattle.writer.proofs.Puts.{placed-there, together-long}
+use Rattle.writer.proofs.Puts.{together-long}
 
 -- the record's number, by the arm that names it
 pub number-is : (n case : ℕ) (nd : Named) → n ≡ case → nd ≡ recordNumbered case → nd ≡ recordNumbered n

@@ -1,12 +1,12 @@
 -- What is written reads back as what was handed over, a line that was read is written again with its own bytes, and an outcome is
 -- the only one.
-use Prim.Native.Nat.{ℕ, suc, _+_, _-_, _≤_}
+use Prim.Native.Nat.{ℕ, _+_, _-_, _≤_}
 use mathlib.Core.Path.{_≡_, refl, sym, ap, _∙_}
-use mathlib.Core.Bool.{Bool, true, false, not}
+use mathlib.Core.Bool.{true, not}
 use mathlib.Core.List.{List, [], _∷_, _++_, append-assoc}
 use mathlib.Core.Logic.{_↔_}
 use native.Mathlib.Omega.{arith}
-use lib.Dec.{leb, eqb}
+use lib.Dec.{leb}
 use lib.ListN.{length, take, drop, length-append}
 use lib.Seq.{take-append-seam, drop-at, take-at, length-take-le}
 use borrow.Author.Tests.{le-leb, leb-true, eq-eqb, not-false}
@@ -109,9 +109,9 @@ rendered-back kind fs g =
       rendered = refl;
       read = render-accepted kind fs g;
       found = λ n h l.
-        let r = render-reads kind fs g in
-        let f = found r n h l in
-        (_, (f, field-exactly r n _ (length (fieldNo fs n)) .0 f .there));
+          let r = render-reads kind fs g in
+          let f = found r n h l in
+          (_, (f, field-exactly r n _ (length (fieldNo fs n)) .0 f .there));
     }
 
 -- what was written, read by itself, is the line of the record with that number and of the fields that were handed over

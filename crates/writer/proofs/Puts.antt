@@ -1,18 +1,15 @@
 -- A line put together piece by piece.
-use Prim.Native.Nat.{ℕ, suc, _+_, _-_, _≤_, _<_}
-use mathlib.Core.Path.{_≡_, refl, sym, ap, _∙_}
-use mathlib.Core.Bool.{Bool, true, false}
-use mathlib.Core.List.{List, [], _∷_, _++_, append-assoc, append-nil}
-use native.Mathlib.Nat.{add-zero}
+use Prim.Native.Nat.{ℕ, _+_, _-_, _≤_, _<_}
+use mathlib.Core.Path.{_≡_, sym, ap, _∙_}
+use mathlib.Core.Bool.{true}
+use mathlib.Core.List.{List, [], _∷_, _++_}
 use native.Mathlib.Numerals.{add-one}
 use native.Mathlib.Omega.{arith}
-use lib.Dec.{leb}
-use lib.ListN.{length, take, drop, getD, length-append, length-drop, take-append-drop, drop-of-length-le}
-use lib.Seq.{drop-cons, drop-drop, length-take-le, take-at, drop-at}
-use borrow.Author.Tests.{le-leb, leb-true}
-use Rattle.text.specs.Choice.{if_then_else_}
+use lib.ListN.{length, take, drop, getD, length-append, length-drop, drop-of-length-le}
+use lib.Seq.{drop-cons}
 use Rattle.text.specs.Quoted.{bytes}
-use Rattle.text.specs.Placed.{written, placed}
+use Rattle.text.specs.Placed.{placed}
+use Rattle.text.proofs.Placing.{placed-none, placed-long, placed-on}
 use Rattle.fields.specs.Record.{typeOf}
 use Rattle.fields.specs.declared.record.Record.{Record}
 use Rattle.grammar.specs.Grammar.{joined, textOf, render}
@@ -20,42 +17,6 @@ use Rattle.grammar.proofs.Texts.{type-long}
 use Rattle.grammar.proofs.Lines.{render-long}
 use Rattle.writer.specs.Write.{risesTo, endsHold, fieldsFrom, between}
 use Rattle.writer.proofs.Ends.{end-rises, rest-rises, end-inside, field-long, joined-long}
-
--- what was placed, where it fits
-module _ (out : List ℕ) (at : ℕ) (a : List ℕ) where
-  pub placed-there : at + length a ≤ length out → placed out at a ≡ written out at a
-  unfolding placed
-  placed-there h = rw (le-leb (at + length a) (length out) h)
-
-  pub placed-none : placed out at [] ≡ out
-  unfolding placed
-  placed-none = go (leb (at + 0) (length out))
-    where
-      go : (t : Bool) → (if t then written out at [] else out) ≡ out
-      go true = rw (add-zero, append-nil) (take-append-drop at out)
-      go false = refl
-
-  pub placed-long : length (placed out at a) ≡ length out
-  unfolding placed
-  placed-long = go (leb (at + length a) (length out)) refl
-    where
-      go : (t : Bool) → leb (at + length a) (length out) ≡ t → length (if t then written out at a else out) ≡ length out
-      go true e =
-          let h = leb-true (at + length a) (length out) e in
-          omega (arith, length-append (take at out ++ a) (drop (at + length a) out), length-append (take at out) a, length-take-le at out (omega arith), length-drop (at + length a) out)
-      go false e = refl
-
--- two pieces placed one behind the other are one
-pub placed-on : (out : List ℕ) (at : ℕ) (a b : List ℕ) → at + length a + length b ≤ length out → placed (placed out at a) (at + length a) b ≡ placed out at (a ++ b)
-placed-on out at a b h =
-    let p : length (take at out ++ a) ≡ at + length a = omega (arith, length-append (take at out) a, length-take-le at out (omega arith)) in
-    let n : at + length (a ++ b) ≡ at + length a + length b = omega (arith, length-append a b) in
-    let t : take (at + length a) (take at out ++ a ++ drop (at + length a) out) ≡ take at out ++ a = take-at (take at out ++ a) (drop (at + length a) out) (at + length a) p in
-    let d : drop (at + length a + length b) (take at out ++ a ++ drop (at + length a) out) ≡ drop (at + length a + length b) out =
-    sym (drop-drop (length b) (at + length a) (take at out ++ a ++ drop (at + length a) out)) ∙ rw (drop-at (take at out ++ a) (drop (at + length a) out) (at + length a) p) (drop-drop (length b) (at + length a) out)
-    in
-    placed-there (placed out at a) (at + length a) b (omega (arith, placed-long out at a))
-    ∙ rw (placed-there out at a (omega arith), placed-there out at (a ++ b) (omega (arith, length-append a b)), t, d, n) (simp append-assoc)
 
 -- the record type, by the arm that places it
 pub type-as : (out room : List ℕ) (kind case : Record) → kind ≡ case → out ≡ placed room 0 (typeOf case) → out ≡ placed room 0 (typeOf kind)

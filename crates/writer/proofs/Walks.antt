@@ -7,7 +7,6 @@ use native.Mathlib.Numerals.{add-one}
 use native.Mathlib.Omega.{arith}
 use lib.ListN.{length, take, drop, getD, drop-of-length-le}
 use lib.Seq.{drop-cons}
-use Rattle.text.specs.Choice.{if_then_else_}
 use Rattle.text.specs.Scan.{all}
 use Rattle.text.proofs.Choices.{came-then}
 use Rattle.refusal.specs.declared.Refusal.{Refusal}
@@ -22,7 +21,7 @@ use Rattle.fields.specs.declared.field.Tested.the-variants.{Good, Bad}
 use Rattle.line.specs.Walk.{onTest}
 use Rattle.line.specs.declared.walk.Walk.{Walk}
 use Rattle.line.specs.declared.walk.Walk.the-variants.{Fine, Stopped}
-use Rattle.grammar.specs.Grammar.{plain, FieldOk, FieldsOk}
+use Rattle.grammar.specs.Grammar.{plain, FieldsOk}
 use Rattle.grammar.proofs.Fields.{good-field, field-good, on-fine}
 use Rattle.writer.specs.Write.{fieldsFrom, between, ifPlain, testedToWrite, walked}
 

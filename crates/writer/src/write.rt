@@ -21,7 +21,13 @@ pub enum WriteAnswer {
 
 // Writes the line of the record with this number, whose fields stand one behind the other in the text and end at these ends, into
 // the output from its fill on.
-pub fn write_line(number: u32, text: &[u8], ends: &[usize], out: &mut [u8], fill: usize) -> WriteAnswer
+pub fn write_line(
+    number: u32,
+    text: &[u8],
+    ends: &[usize],
+    out: &mut [u8],
+    fill: usize,
+) -> WriteAnswer
     ensures { λ r. ⌜ Writes number (now (text .entry)) (now (ends .entry)) (now (out .entry)) fill r (now (out .exit)) ⌝ }
 {
     let named = record_numbered(number);
@@ -68,7 +74,14 @@ fn record_numbered(number: u32) -> Named
 
 // The same for fields that are good. The line is put together aside, since a refusal must leave the output as it was and the
 // reader's rule of needed fields asks a line.
-fn write_fields(kind: Record, text: &[u8], ends: &[usize], line: &mut [u8], out: &mut [u8], fill: usize) -> WriteAnswer
+fn write_fields(
+    kind: Record,
+    text: &[u8],
+    ends: &[usize],
+    line: &mut [u8],
+    out: &mut [u8],
+    fill: usize,
+) -> WriteAnswer
     requires { ⌜ (length (now text) + length (now ends) + 5 ≤ length (now line)) × (endsHold (now ends) (length (now text)) ≡ true) × (walked kind 1 (typeOf kind) (between (now text) (now ends)) ≡ Fine) ⌝ }
     ensures { λ r. ⌜ (r ≡ ofFields kind (between (now (text .entry)) (now (ends .entry))) (length (now (out .entry))) fill) × (now (out .exit) ≡ lineTo r kind (between (now (text .entry)) (now (ends .entry))) (now (out .entry)) fill) ⌝ }
 {
