@@ -53,6 +53,7 @@ pub fn write_line(
     if let Walk::Stopped { why, place } = walked {
         return WriteAnswer::NotWritten { why, place };
     }
+    // No allowed line is longer than 4,045 bytes.
     let mut line = [0u8; 4096];
     write_fields(kind, text, ends, &mut line, out, fill)
 }
@@ -72,8 +73,8 @@ fn record_numbered(number: u32) -> Named
     }
 }
 
-// The same for fields that are good. The line is put together aside, since a refusal must leave the output as it was and the
-// reader's rule of needed fields asks a line.
+// The same for fields that are good. The line is put together aside: the reader's rule of needed fields asks a line, and a refusal
+// must leave the output as it was.
 fn write_fields(
     kind: Record,
     text: &[u8],
