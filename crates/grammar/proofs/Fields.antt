@@ -58,7 +58,7 @@ module _ (kind : Record) (n : ℕ) (beside f : List ℕ) where
       (λ z. sym (form-good kind n beside f (widthOf kind n beside) refl (g .fits) z (hasForm kind n beside f) refl (g .formed z)))
       (eq-or-ne (length f) 0)
 
-on-fine : (t : Tested) (place : ℕ) (rest : Walk) → onTest t place rest ≡ Fine → (t ≡ Good) × (rest ≡ Fine)
+pub on-fine : (t : Tested) (place : ℕ) (rest : Walk) → onTest t place rest ≡ Fine → (t ≡ Good) × (rest ≡ Fine)
 on-fine Good place rest e = (refl, e)
 on-fine (Bad why) place rest e = absurd (stopped e)
 

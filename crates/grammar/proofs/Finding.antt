@@ -64,7 +64,7 @@ module _ {due : Due} {s : List ℕ} {at : ℕ} {line : Line} {fs : List (List �
       rw (← drop-drop (length (front m)) at s, cut, drop-append-seam) (take-append-seam (getD fs m []) back)
 
   module _ (n : ℕ) where
-    found : 1 ≤ n → n ≤ length fs → fieldAnswer s at n ≡ Found (at + length (front (n - 1))) (length (fieldNo fs n))
+    pub found : 1 ≤ n → n ≤ length fs → fieldAnswer s at n ≡ Found (at + length (front (n - 1))) (length (fieldNo fs n))
     unfolding fieldAnswer inLine
     found h l =
         rw (accepted, ne-eqb n 0 (λ z. omega arith), le-ltb (line .count) n (omega (arith, g .count)), start-is n (n - 1) (omega arith), read-field g n h)

@@ -61,7 +61,7 @@ count-le Parcel n e = omega (arith, leb-true n 24 (and-right (leb 3 n) (leb n 24
 count-le Product n e = omega (arith, leb-true n 24 (and-right (leb 1 n) (leb n 24) e))
 count-le Feature n e = omega (arith, eqb-true n 10 e)
 
-fields-le : (kind : Record) (n : ℕ) (beside : List ℕ) (fs : List (List ℕ)) → FieldsOk kind n beside fs → length (joined fs) ≤ 101 * length fs
+pub fields-le : (kind : Record) (n : ℕ) (beside : List ℕ) (fs : List (List ℕ)) → FieldsOk kind n beside fs → length (joined fs) ≤ 101 * length fs
 fields-le kind n beside [] g = zero-le
 fields-le kind n beside (f ∷ fs) g = omega (arith, fields-le kind (suc n) f fs (g .1), g .0 .fits, width-le kind n beside, length-append f (joined fs))
 

@@ -27,7 +27,7 @@ use Rattle.line.specs.declared.walk.Walk.{Walk}
 use Rattle.line.specs.declared.walk.Walk.the-variants.{Fine, Stopped}
 use Rattle.line.specs.declared.read.Line.{Line}
 use Rattle.line.specs.declared.read.LineAnswer.the-variants.{Accepted, Refused}
-use Rattle.grammar.specs.Grammar.{joined, textOf, plain, LineOk}
+use Rattle.grammar.specs.Grammar.{joined, textOf, plain, FieldsOk, LineOk}
 use Rattle.grammar.proofs.Splits.{split-some, join-split, allIn, split-joined}
 use Rattle.grammar.proofs.Fields.{fine-fields, fields-fine, fields-plain, all-also, all-in-also, plain-text, plain-in-field, all-append, joined-text, split-plain}
 
@@ -78,14 +78,18 @@ unfolding named
 named-type name kind e =
     one-name name Header kind _ (one-name name Sender kind _ (one-name name Shipment kind _ (one-name name Parcel kind _ (one-name name Product kind _ (one-name name Feature kind Unknown (λ u. let z : _≡_ {A = ℕ} 0 1 = cc in absurd (omega arith))))))) e
 
+-- a text with good fields falls into them again
+pub fields-split : (kind : Record) (fs : List (List ℕ)) → FieldsOk kind 1 (typeOf kind) fs → split (textOf kind fs) ≡ typeOf kind ∷ fs
+fields-split kind fs g =
+    split-joined (typeOf kind) fs (all-also plain inField plain-in-field (typeOf kind) (type-plain kind)) (all-in-also plain inField plain-in-field fs (fields-plain kind 1 (typeOf kind) fs g))
+
 -- the text of an allowed line
 module _ (kind : Record) (fs : List (List ℕ)) (g : LineOk kind fs) where
   clean : allIn plain fs ≡ true
   clean = fields-plain kind 1 (typeOf kind) fs (g .fields)
 
   pub text-split : split (textOf kind fs) ≡ typeOf kind ∷ fs
-  text-split =
-      split-joined (typeOf kind) fs (all-also plain inField plain-in-field (typeOf kind) (type-plain kind)) (all-in-also plain inField plain-in-field fs clean)
+  text-split = fields-split kind fs (g .fields)
 
   pub text-bytes : all textByte (textOf kind fs) ≡ true
   text-bytes =

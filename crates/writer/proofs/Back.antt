@@ -1,0 +1,177 @@
+-- What is written reads back as what was handed over, a line that was read is written again with its own bytes, and an outcome is
+-- the only one.
+use Prim.Native.Nat.{ℕ, _+_, _-_, _≤_}
+use mathlib.Core.Path.{_≡_, refl, sym, ap, _∙_}
+use mathlib.Core.Bool.{true, not}
+use mathlib.Core.List.{List, [], _∷_, _++_, append-assoc}
+use mathlib.Core.Logic.{_↔_}
+use native.Mathlib.Omega.{arith}
+use lib.Dec.{leb}
+use lib.ListN.{length, take, drop, length-append}
+use lib.Seq.{take-append-seam, drop-at, take-at, length-take-le}
+use borrow.Author.Tests.{le-leb, leb-true, eq-eqb, not-false}
+use Rattle.text.specs.Choice.{if_then_else_}
+use Rattle.text.specs.Placed.{written}
+use Rattle.text.proofs.Choices.{and-both, came-then, came-else}
+use Rattle.refusal.specs.declared.Refusal.{Refusal}
+use Rattle.refusal.specs.declared.Refusal.the-variants.{FieldCount, FeatureLacks, OutputTooShort, FieldEnds}
+use Rattle.fields.specs.Record.{typeOf, countFits}
+use Rattle.fields.specs.declared.record.Record.{Record}
+use Rattle.fields.specs.declared.record.Named.{Named}
+use Rattle.fields.specs.declared.record.Named.the-variants.{Known, Unknown}
+use Rattle.fields.specs.declared.record.Due.{Due}
+use Rattle.line.specs.Need.{lacks}
+use Rattle.line.specs.declared.read.Line.{Line}
+use Rattle.line.specs.declared.walk.Walk.{Walk}
+use Rattle.line.specs.declared.walk.Walk.the-variants.{Fine, Stopped}
+use Rattle.grammar.specs.Grammar.{render, fieldNo, LineOk, Reads}
+use Rattle.grammar.proofs.Sizes.{render-reads, render-accepted}
+use Rattle.grammar.proofs.Finding.{found, field-exactly}
+use Rattle.writer.specs.Write.{recordNumbered, risesTo, endsHold, fieldsFrom, between, walked, ofFields, afterWalk, ofRecord, writeAnswer, writtenTo, Writes, inOne, endsFrom, Writable, ReadsBack}
+use Rattle.writer.specs.declared.write.WriteAnswer.{WriteAnswer}
+use Rattle.writer.specs.declared.write.WriteAnswer.the-variants.{Written, NotWritten}
+use Rattle.writer.proofs.Ends.{between-count}
+use Rattle.writer.proofs.Walks.{walked-fields, fields-walked}
+
+-- two outcomes that the contract allows are equal
+pub one-outcome :
+    (number : ℕ) (text ends out : List ℕ) (fill : ℕ) (a b : WriteAnswer) (x y : List ℕ) → Writes number text ends out fill a x → Writes number text ends out fill b y → (a ≡ b) × (x ≡ y)
+one-outcome number text ends out fill a b x y g h =
+    let e : a ≡ b = g .0 ∙ sym (h .0) in
+    (e, g .1 ∙ ap (λ (r : WriteAnswer). writtenTo r (recordNumbered number) (between text ends) out fill) e ∙ sym (h .1))
+
+not-written : {why : Refusal} {place n : ℕ} → NotWritten why place ≡ Written n → ⊥
+not-written e = let z : _≡_ {A = ℕ} 0 1 = cc in omega arith
+
+-- a line that was written could be
+module _ (number : ℕ) (text ends : List ℕ) (size fill n : ℕ) where
+  wrote : (nd : Named) → recordNumbered number ≡ nd → ofRecord nd text ends size fill ≡ Written n → Writable number text ends size fill n
+  unfolding ofRecord ofFields
+  wrote Unknown k e = absurd (not-written e)
+  wrote (Known kind) k e =
+      let held = endsHold ends (length text) in
+      let fits = countFits kind (length ends) in
+      let w = walked kind 1 (typeOf kind) (between text ends) in
+      let after = afterWalk w kind (between text ends) size fill in
+      let a = came-else (not held) (NotWritten FieldEnds 0) (if not fits then NotWritten FieldCount 0 else after) (Written n) not-written e in
+      let b = came-else (not fits) (NotWritten FieldCount 0) after (Written n) not-written (a .1) in
+      go w refl (not-false held (a .0)) (not-false fits (b .0)) (b .1)
+    where
+      go :
+          (w : Walk) → walked kind 1 (typeOf kind) (between text ends) ≡ w → endsHold ends (length text) ≡ true → countFits kind (length ends) ≡ true →
+          afterWalk w kind (between text ends) size fill ≡ Written n → Writable number text ends size fill n
+      go (Stopped why place) ew eh ec e = absurd (not-written e)
+      go Fine ew eh ec e =
+          let line = render kind (between text ends) in
+          let room = if leb (fill + length line) size then Written (length line) else NotWritten OutputTooShort 0 in
+          let a = came-else (lacks kind (typeOf kind ∷ between text ends)) (NotWritten FeatureLacks 0) room (Written n) not-written e in
+          let b = came-then (leb (fill + length line) size) (Written (length line)) (NotWritten OutputTooShort 0) (Written n) not-written (a .1) in
+          record {
+            kind = kind;
+            known = k;
+            held = eh;
+            allowed = record { counted = ap (countFits kind) (between-count text ends) ∙ ec; fields = walked-fields kind 1 (typeOf kind) (between text ends) ew; served = a .0 };
+            fits = leb-true (fill + length line) size (b .0);
+            long = cc;
+          }
+
+  writable : Writable number text ends size fill n → writeAnswer number text ends size fill ≡ Written n
+  unfolding writeAnswer ofRecord ofFields
+  writable g =
+      rw (
+        g .known,
+        g .held,
+        ← between-count text ends,
+        g .allowed .counted,
+        fields-walked (g .kind) 1 (typeOf (g .kind)) (between text ends) (g .allowed .fields),
+        g .allowed .served,
+        le-leb (fill + length (render (g .kind) (between text ends))) size (g .fits),
+        g .long,
+      )
+
+  -- a line is written exactly when it is allowed, as it is handed over, and has room
+  pub written-exactly : (writeAnswer number text ends size fill ≡ Written n) ↔ Writable number text ends size fill n
+  unfolding writeAnswer
+  written-exactly = (λ e. wrote (recordNumbered number) refl e, writable)
+
+-- the bytes at the fill of an output that was written
+there : (out line : List ℕ) (fill n : ℕ) → fill + length line ≤ length out → n ≡ length line → take n (drop fill (written out fill line)) ≡ line
+there out line fill n h e =
+    let cut : drop fill (take fill out ++ line ++ drop (fill + length line) out) ≡ line ++ drop (fill + length line) out =
+    ap (drop fill) (append-assoc (take fill out) line (drop (fill + length line) out)) ∙ drop-at (take fill out) (line ++ drop (fill + length line) out) fill (length-take-le fill out (omega arith))
+    in
+    rw cut (take-at line (drop (fill + length line) out) n (sym e))
+
+rendered-back : (kind : Record) (fs : List (List ℕ)) → LineOk kind fs → ReadsBack kind fs (render kind fs)
+rendered-back kind fs g =
+    record {
+      allowed = g;
+      rendered = refl;
+      read = render-accepted kind fs g;
+      found = λ n h l.
+          let r = render-reads kind fs g in
+          let f = found r n h l in
+          (_, (f, field-exactly r n _ (length (fieldNo fs n)) .0 f .there));
+    }
+
+-- what was written, read by itself, is the line of the record with that number and of the fields that were handed over
+pub reads-back :
+    (number : ℕ) (text ends out : List ℕ) (fill n : ℕ) (after : List ℕ) → Writes number text ends out fill (Written n) after →
+    (kind : Record) × ((recordNumbered number ≡ Known kind) × ((length (take n (drop fill after)) ≡ n) × ReadsBack kind (between text ends) (take n (drop fill after))))
+unfolding writtenTo
+reads-back number text ends out fill n after g =
+    let w = written-exactly number text ends (length out) fill n .0 (sym (g .0)) in
+    let line = render (w .kind) (between text ends) in
+    let e : after ≡ written out fill line = g .1 ∙ ap (λ (nd : Named). writtenTo (Written n) nd (between text ends) out fill) (w .known) in
+    let t : take n (drop fill after) ≡ line = ap (λ (l : List ℕ). take n (drop fill l)) e ∙ there out line fill n (w .fits) (w .long) in
+    (w .kind, (w .known, (ap length t ∙ sym (w .long), rw t (rendered-back (w .kind) (between text ends) (w .allowed)))))
+
+-- a caller's text and ends give the fields back
+fields-again : (start : ℕ) (front : List ℕ) (fs : List (List ℕ)) → length front ≡ start → fieldsFrom start (front ++ inOne fs) (endsFrom start fs) ≡ fs
+fields-again start front [] e = refl
+fields-again start front (f ∷ fs) e =
+    let here : take (start + length f - start) (drop start (front ++ (f ++ inOne fs))) ≡ f =
+    let n : start + length f - start ≡ length f = omega arith in
+    rw (n, drop-at front (f ++ inOne fs) start e) (take-append-seam f (inOne fs))
+    in
+    let rest : fieldsFrom (start + length f) (front ++ (f ++ inOne fs)) (endsFrom (start + length f) fs) ≡ fs =
+    ap (λ (l : List ℕ). fieldsFrom (start + length f) l (endsFrom (start + length f) fs)) (sym (append-assoc front f (inOne fs)))
+    ∙ fields-again (start + length f) (front ++ f) fs (length-append front f ∙ ap (λ (n : ℕ). n + length f) e)
+    in
+    rw (here, rest)
+
+ends-rise : (long start : ℕ) (fs : List (List ℕ)) → long ≡ start + length (inOne fs) → risesTo long start (endsFrom start fs) ≡ true
+ends-rise long start [] e = eq-eqb start long (omega arith)
+ends-rise long start (f ∷ fs) e =
+    and-both (leb start (start + length f)) (risesTo long (start + length f) (endsFrom (start + length f) fs)) (le-leb start (start + length f) (omega arith)) (ends-rise long (start + length f) fs (omega (arith, length-append f (inOne fs))))
+
+pub handed-over : (fs : List (List ℕ)) → between (inOne fs) (endsFrom 0 fs) ≡ fs
+unfolding between
+handed-over fs = fields-again 0 [] fs refl
+
+pub handed-ends : (fs : List (List ℕ)) → endsHold (endsFrom 0 fs) (length (inOne fs)) ≡ true
+unfolding endsHold
+handed-ends fs = ends-rise (length (inOne fs)) 0 fs (omega arith)
+
+-- a line that stands in a file, its fields handed to the writer, is written with its own bytes
+pub writes-again :
+    {due : Due} {s : List ℕ} {at : ℕ} {line : Line} {fs : List (List ℕ)} → Reads due s at line fs →
+    (number : ℕ) (out : List ℕ) (fill : ℕ) → recordNumbered number ≡ Known (line .kind) → fill + (line .next - at) ≤ length out →
+    (answer : WriteAnswer) (after : List ℕ) → Writes number (inOne fs) (endsFrom 0 fs) out fill answer after →
+    (answer ≡ Written (line .next - at)) × (after ≡ written out fill (take (line .next - at) (drop at s)))
+unfolding writtenTo
+writes-again {s = s} {at = at} {line = line} {fs = fs} g number out fill k h answer after w =
+    let n : line .next - at ≡ length (render (line .kind) fs) = omega (arith, g .next) in
+    let e : between (inOne fs) (endsFrom 0 fs) ≡ fs = handed-over fs in
+    let u : Writable number (inOne fs) (endsFrom 0 fs) (length out) fill (length (render (line .kind) fs)) =
+    record { kind = line .kind; known = k; held = handed-ends fs; allowed = rw e (g .allowed); fits = rw e (omega (arith, n)); long = rw e }
+    in
+    let a : answer ≡ Written (length (render (line .kind) fs)) = w .0 ∙ written-exactly number (inOne fs) (endsFrom 0 fs) (length out) fill (length (render (line .kind) fs)) .1 u in
+    let own : take (line .next - at) (drop at s) ≡ render (line .kind) fs = rw (g .stands) (take-at (render (line .kind) fs) (g .rest) (line .next - at) (sym n)) in
+    let b : after ≡ written out fill (render (line .kind) fs) =
+    w .1
+    ∙ ap (λ (r : WriteAnswer). writtenTo r (recordNumbered number) (between (inOne fs) (endsFrom 0 fs)) out fill) a
+    ∙ ap (λ (nd : Named). writtenTo (Written (length (render (line .kind) fs))) nd (between (inOne fs) (endsFrom 0 fs)) out fill) k
+    ∙ ap (λ (l : List (List ℕ)). written out fill (render (line .kind) l)) e
+    in
+    (a ∙ ap Written (sym n), b ∙ ap (λ (l : List ℕ). written out fill l) (sym own))

@@ -1,0 +1,5 @@
+pub mod Ends
+pub mod Walks
+pub mod Puts
+pub mod Answers
+pub mod Back

@@ -1,0 +1,84 @@
+-- A line put together piece by piece.
+use Prim.Native.Nat.{ℕ, _+_, _-_, _≤_, _<_}
+use mathlib.Core.Path.{_≡_, sym, ap, _∙_}
+use mathlib.Core.Bool.{true}
+use mathlib.Core.List.{List, [], _∷_, _++_}
+use native.Mathlib.Numerals.{add-one}
+use native.Mathlib.Omega.{arith}
+use lib.ListN.{length, take, drop, getD, length-append, length-drop, drop-of-length-le}
+use lib.Seq.{drop-cons}
+use Rattle.text.specs.Quoted.{bytes}
+use Rattle.text.specs.Placed.{placed}
+use Rattle.text.proofs.Placing.{placed-none, placed-long, placed-on}
+use Rattle.fields.specs.Record.{typeOf}
+use Rattle.fields.specs.declared.record.Record.{Record}
+use Rattle.grammar.specs.Grammar.{joined, textOf, render}
+use Rattle.grammar.proofs.Texts.{type-long}
+use Rattle.grammar.proofs.Lines.{render-long}
+use Rattle.writer.specs.Write.{risesTo, endsHold, fieldsFrom, between}
+use Rattle.writer.proofs.Ends.{end-rises, rest-rises, end-inside, field-long, joined-long}
+
+-- the record type, by the arm that places it
+pub type-as : (out room : List ℕ) (kind case : Record) → kind ≡ case → out ≡ placed room 0 (typeOf case) → out ≡ placed room 0 (typeOf kind)
+type-as out room kind case e f = rw e f
+
+-- a loop at the field behind i others, which starts at start in the text: each premise is a fact that the loop has
+module _ (text ends room : List ℕ) (i start : ℕ) (whole : List ℕ) (left : placed room (start + i + 3) (joined (fieldsFrom start text (drop i ends))) ≡ whole) where
+  pub put-done : length ends ≤ i → room ≡ whole
+  put-done h =
+      let e : drop i ends ≡ [] = drop-of-length-le ends h in
+      sym (ap (λ (l : List ℕ). placed room (start + i + 3) (joined (fieldsFrom start text l))) e ∙ placed-none room (start + i + 3) []) ∙ left
+
+  module _ (h : i < length ends) (rises : risesTo (length text) start (drop i ends) ≡ true) (size : ℕ) (same : length room ≡ size) (fits : length text + length ends + 3 ≤ size) where
+    pub put-on : (semi o : List ℕ) → semi ≡ placed room (start + i + 3) (bytes ";") → o ≡ placed semi (start + i + 4) (take (getD ends i 0 - start) (drop start text)) → placed o (getD ends i 0 + (i + 1) + 3) (joined (fieldsFrom (getD ends i 0) text (drop (i + 1) ends))) ≡ whole
+    put-on semi o es eo =
+        let end = getD ends i 0 in
+        let f = take (getD ends i 0 - start) (drop start text) in
+        let r = joined (fieldsFrom (getD ends i 0) text (drop (i + 1) ends)) in
+        let u = end-rises (length text) ends i start rises h in
+        let v = end-inside (length text) ends i start rises h in
+        let n : length f ≡ end - start = field-long text start end u v in
+        let m = joined-long end text (drop (i + 1) ends) (rest-rises (length text) ends i start rises h) in
+        let d = length-drop (i + 1) ends in
+        let a : end + (i + 1) + 3 ≡ start + i + 4 + length f = omega (arith, n, u) in
+        let b : start + i + 4 ≡ start + i + 3 + length (bytes ";") = omega arith in
+        let k : length semi ≡ size = ap length es ∙ placed-long room (start + i + 3) (bytes ";") ∙ same in
+        let c : drop i ends ≡ getD ends i 0 ∷ drop (i + 1) ends = rw add-one (drop-cons ends i 0 h) in
+        ap (λ (p : ℕ). placed o p r) a
+        ∙ ap (λ (l : List ℕ). placed l (start + i + 4 + length f) r) eo
+        ∙ placed-on semi (start + i + 4) f r (omega (arith, n, m, d, u, v, k))
+        ∙ ap (λ (p : ℕ). placed semi p (f ++ r)) b
+        ∙ ap (λ (l : List ℕ). placed l (start + i + 3 + length (bytes ";")) (f ++ r)) es
+        ∙ placed-on room (start + i + 3) (bytes ";") (f ++ r) (omega (arith, n, m, d, u, v, length-append f r))
+        ∙ ap (λ (l : List ℕ). placed room (start + i + 3) (joined (fieldsFrom start text l))) (sym c)
+        ∙ left
+
+pub still-long : (room semi o f g : List ℕ) (at next size : ℕ) → length room ≡ size → semi ≡ placed room at f → o ≡ placed semi next g → length o ≡ size
+still-long room semi o f g at next size e es eo = ap length eo ∙ placed-long semi next g ∙ ap length es ∙ placed-long room at f ∙ e
+
+-- the line as a whole
+module _ (kind : Record) (text ends : List ℕ) (rises : endsHold ends (length text) ≡ true) where
+  pub together-long : length (joined (between text ends)) ≡ length text + length ends
+  unfolding endsHold between
+  together-long = omega (arith, joined-long 0 text ends rises)
+
+  pub line-long : length text + length ends + 3 + 2 ≡ length (render kind (between text ends))
+  line-long =
+      omega (arith, together-long, render-long kind (between text ends), length-append (typeOf kind) (joined (between text ends)), type-long kind)
+
+  pub line-put : (room typed filled whole : List ℕ) → length text + length ends + 5 ≤ length room → typed ≡ placed room 0 (typeOf kind) → filled ≡ placed typed 3 (joined (between text ends)) →
+      whole ≡ placed filled (length text + length ends + 3) (bytes "\r\n") → whole ≡ placed room 0 (render kind (between text ends))
+  line-put room typed filled whole h et ef ew =
+      let fs = joined (between text ends) in
+      let n = together-long in
+      let k = type-long kind in
+      let a : 3 ≡ 0 + length (typeOf kind) = omega (arith, k) in
+      let t : filled ≡ placed room 0 (textOf kind (between text ends)) =
+      ef ∙ ap (λ (l : List ℕ). placed l 3 fs) et ∙ ap (λ (p : ℕ). placed (placed room 0 (typeOf kind)) p fs) a ∙ placed-on room 0 (typeOf kind) fs (omega (arith, n, k))
+      in
+      let l = length-append (typeOf kind) fs in
+      let b : length text + length ends + 3 ≡ 0 + length (textOf kind (between text ends)) = omega (arith, n, k, l) in
+      ew
+      ∙ ap (λ (l : List ℕ). placed l (length text + length ends + 3) (bytes "\r\n")) t
+      ∙ ap (λ (p : ℕ). placed (placed room 0 (textOf kind (between text ends))) p (bytes "\r\n")) b
+      ∙ placed-on room 0 (textOf kind (between text ends)) (bytes "\r\n") (omega (arith, n, k, l))

@@ -1,0 +1,145 @@
+-- Document 01, 'Writer': "Record type as a number (10 for 010, up to 60), one text with all fields joined, a list of field ends, an
+-- output and its fill. Order: 3, 14, 5, fields (6, 7, 8), 9, 13."
+use Prim.Native.Nat.{ℕ, suc, _+_, _-_, _≤_}
+use mathlib.Core.Path.{_≡_}
+use mathlib.Core.Bool.{Bool, true, not, _&&_}
+use mathlib.Core.List.{List, [], _∷_, _++_}
+use lib.Dec.{leb, eqb}
+use lib.ListN.{length, take, drop}
+use Rattle.text.specs.Choice.{if_then_else_}
+use Rattle.text.specs.Placed.{written}
+use Rattle.text.specs.Scan.{all}
+use Rattle.refusal.specs.Table.{numberOf, Verdict}
+use Rattle.refusal.specs.declared.Refusal.the-variants.{UnknownRecord, FieldCount, FieldForm, FeatureLacks, OutputTooShort, FieldEnds}
+use Rattle.fields.specs.Record.{typeOf, countFits}
+use Rattle.fields.specs.Field.{tested}
+use Rattle.fields.specs.declared.record.Record.{Record}
+use Rattle.fields.specs.declared.record.Record.the-variants.{Header, Sender, Shipment, Parcel, Product, Feature}
+use Rattle.fields.specs.declared.record.Named.{Named}
+use Rattle.fields.specs.declared.record.Named.the-variants.{Known, Unknown}
+use Rattle.fields.specs.declared.field.Tested.{Tested}
+use Rattle.fields.specs.declared.field.Tested.the-variants.{Good, Bad}
+use Rattle.fields.specs.declared.record.Due.the-variants.{Any}
+use Rattle.line.specs.Need.{lacks}
+use Rattle.line.specs.Walk.{onTest}
+use Rattle.line.specs.Line.{lineAnswer}
+use Rattle.line.specs.Find.{fieldAnswer}
+use Rattle.line.specs.declared.walk.Walk.{Walk}
+use Rattle.line.specs.declared.walk.Walk.the-variants.{Fine, Stopped}
+use Rattle.line.specs.declared.read.LineAnswer.the-variants.{Accepted}
+use Rattle.line.specs.declared.find.FieldAnswer.the-variants.{Found}
+use Rattle.grammar.specs.Grammar.{render, plain, fieldNo, LineOk}
+use Rattle.writer.specs.declared.write.WriteAnswer.{WriteAnswer}
+use Rattle.writer.specs.declared.write.WriteAnswer.the-variants.{Written, NotWritten}
+
+-- "Record type as a number (10 for 010, up to 60)"
+unfoldable pub recordNumbered : ℕ → Named
+recordNumbered n =
+    if eqb n 10 then Known Header
+    else if eqb n 20 then Known Sender
+    else if eqb n 30 then Known Shipment
+    else if eqb n 40 then Known Parcel
+    else if eqb n 50 then Known Product
+    else if eqb n 60 then Known Feature
+    else Unknown
+
+-- these ends never fall, from the place start on, and the last is the text's length
+abbrev pub risesTo : ℕ → ℕ → List ℕ → Bool
+risesTo long start [] = eqb start long
+risesTo long start (end ∷ ends) = leb start end && risesTo long end ends
+
+-- what is not refused as "field ends fall, or the last is not the text's length, or no ends with text"
+unfoldable pub endsHold : List ℕ → ℕ → Bool
+endsHold ends long = risesTo long 0 ends
+
+-- the fields that end at these ends, the first from the place start on
+abbrev pub fieldsFrom : ℕ → List ℕ → List ℕ → List (List ℕ)
+fieldsFrom start text [] = []
+fieldsFrom start text (end ∷ ends) = take (end - start) (drop start text) ∷ fieldsFrom end text ends
+
+-- the fields of a text, each between the end in front of it and its own
+unfoldable pub between : List ℕ → List ℕ → List (List ℕ)
+between text ends = fieldsFrom 0 text ends
+
+-- "A semicolon or non-text byte is 8."
+abbrev pub ifPlain : Tested → List ℕ → Tested
+ifPlain (Bad why) f = Bad why
+ifPlain Good f = if all plain f then Good else Bad FieldForm
+
+-- the reader's rule of a field, then that
+unfoldable pub testedToWrite : Record → ℕ → List ℕ → List ℕ → Tested
+testedToWrite kind n beside f = ifPlain (tested kind n beside f) f
+
+-- "Place is the field number for 6 to 8": these fields, the first with this number; beside it stands the part in front of it
+abbrev pub walked : Record → ℕ → List ℕ → List (List ℕ) → Walk
+walked kind n beside [] = Fine
+walked kind n beside (f ∷ fs) = onTest (testedToWrite kind n beside f) n (walked kind (suc n) f fs)
+
+-- 9, then 13: whether the line fits into an output of this size behind its fill. "A fill past the output is 13."
+unfoldable pub ofFields : Record → List (List ℕ) → ℕ → ℕ → WriteAnswer
+ofFields kind fs size fill =
+    if lacks kind (typeOf kind ∷ fs) then NotWritten FeatureLacks 0
+    else if leb (fill + length (render kind fs)) size then Written (length (render kind fs))
+    else NotWritten OutputTooShort 0
+
+abbrev pub afterWalk : Walk → Record → List (List ℕ) → ℕ → ℕ → WriteAnswer
+afterWalk (Stopped why place) kind fs size fill = NotWritten why place
+afterWalk Fine kind fs size fill = ofFields kind fs size fill
+
+-- 3, then 14, then 5, then the fields
+unfoldable pub ofRecord : Named → List ℕ → List ℕ → ℕ → ℕ → WriteAnswer
+ofRecord Unknown text ends size fill = NotWritten UnknownRecord 0
+ofRecord (Known kind) text ends size fill =
+    if not (endsHold ends (length text)) then NotWritten FieldEnds 0
+    else if not (countFits kind (length ends)) then NotWritten FieldCount 0
+    else afterWalk (walked kind 1 (typeOf kind) (between text ends)) kind (between text ends) size fill
+
+-- "The answer is how many bytes were written"
+unfoldable pub writeAnswer : ℕ → List ℕ → List ℕ → ℕ → ℕ → WriteAnswer
+writeAnswer number text ends size fill = ofRecord (recordNumbered number) text ends size fill
+
+-- "The line goes at the fill, other output bytes stay; a refusal changes none."
+abbrev pub lineTo : WriteAnswer → Record → List (List ℕ) → List ℕ → ℕ → List ℕ
+lineTo (NotWritten why place) kind fs out fill = out
+lineTo (Written n) kind fs out fill = written out fill (render kind fs)
+
+unfoldable pub writtenTo : WriteAnswer → Named → List (List ℕ) → List ℕ → ℕ → List ℕ
+writtenTo answer Unknown fs out fill = out
+writtenTo answer (Known kind) fs out fill = lineTo answer kind fs out fill
+
+-- the outcomes that the writer may have: its answer, and the output after it
+abbrev pub Writes : ℕ → List ℕ → List ℕ → List ℕ → ℕ → WriteAnswer → List ℕ → Type 0
+Writes number text ends out fill answer after =
+    (answer ≡ writeAnswer number text ends (length out) fill) × (after ≡ writtenTo answer (recordNumbered number) (between text ends) out fill)
+
+-- the paper's number and place for each answer
+abbrev pub writeVerdict : WriteAnswer → Verdict
+writeVerdict (Written n) = Verdict.passes
+writeVerdict (NotWritten why place) = Verdict.refused (numberOf why) place
+
+-- what a caller hands over for fields: "one text with all fields joined, a list of field ends"
+abbrev pub inOne : List (List ℕ) → List ℕ
+inOne [] = []
+inOne (f ∷ fs) = f ++ inOne fs
+
+abbrev pub endsFrom : ℕ → List (List ℕ) → List ℕ
+endsFrom start [] = []
+endsFrom start (f ∷ fs) = (start + length f) ∷ endsFrom (start + length f) fs
+
+-- when a line is written, apart from any order of tests: it is of a known record, its ends hold, it is allowed, and there is room
+pub record Writable (number : ℕ) (text ends : List ℕ) (size fill n : ℕ) : Type 0 where
+  pub kind : Record
+  pub known : recordNumbered number ≡ Known kind
+  pub held : endsHold ends (length text) ≡ true
+  pub allowed : LineOk kind (between text ends)
+  pub fits : fill + length (render kind (between text ends)) ≤ size
+  pub long : n ≡ length (render kind (between text ends))
+
+-- "Reading back is of the written line's bytes by themselves": they are the line of this record with these fields, they are read as
+-- that, and each field is found again
+pub record ReadsBack (kind : Record) (fs : List (List ℕ)) (line : List ℕ) : Type 0 where
+  pub allowed : LineOk kind fs
+  pub rendered : line ≡ render kind fs
+  pub read : lineAnswer Any line 0 ≡ Accepted (record { kind = kind; count = length fs; next = length line })
+  pub found :
+      (n : ℕ) → 1 ≤ n → n ≤ length fs → (start : ℕ) × ((fieldAnswer line 0 n ≡ Found start (length (fieldNo fs n))) × (take (length (fieldNo fs n)) (drop start line) ≡ fieldNo fs n))

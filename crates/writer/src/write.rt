@@ -1,0 +1,110 @@
+// One line from a record's number and its fields, in the order of the refusals.
+ghost use mathlib.Core.Path.{_≡_};
+ghost use mathlib.Core.Bool.{true};
+ghost use Prim.Native.Nat.{_+_, _≤_};
+ghost use lib.ListN.{length};
+ghost use Rattle.fields.specs.Record.{typeOf};
+ghost use Rattle.line.specs.declared.walk.Walk.the-variants.{Fine};
+ghost use Rattle.writer.specs.Write.{recordNumbered, endsHold, between, walked, ofFields, lineTo, Writes};
+use crate::put;
+use crate::test;
+use fields::Named;
+use fields::Record;
+use line::Walk;
+use refusal::Refusal;
+
+pub enum WriteAnswer {
+    // How many bytes.
+    Written(usize),
+    NotWritten { why: Refusal, place: usize },
+}
+
+// Writes the line of the record with this number, whose fields stand one behind the other in the text and end at these ends, into
+// the output from its fill on.
+pub fn write_line(
+    number: u32,
+    text: &[u8],
+    ends: &[usize],
+    out: &mut [u8],
+    fill: usize,
+) -> WriteAnswer
+    ensures { λ r. ⌜ Writes number (now (text .entry)) (now (ends .entry)) (now (out .entry)) fill r (now (out .exit)) ⌝ }
+{
+    let named = record_numbered(number);
+    let Named::Known(kind) = named else {
+        return WriteAnswer::NotWritten {
+            why: Refusal::UnknownRecord,
+            place: 0,
+        };
+    };
+    if !test::ends_hold(ends, text.len()) {
+        return WriteAnswer::NotWritten {
+            why: Refusal::FieldEnds,
+            place: 0,
+        };
+    }
+    if !fields::count_fits(kind, ends.len()) {
+        return WriteAnswer::NotWritten {
+            why: Refusal::FieldCount,
+            place: 0,
+        };
+    }
+    let walked = test::walk_fields(kind, text, ends);
+    if let Walk::Stopped { why, place } = walked {
+        return WriteAnswer::NotWritten { why, place };
+    }
+    // No allowed line is longer than 4,045 bytes.
+    let mut line = [0u8; 4096];
+    write_fields(kind, text, ends, &mut line, out, fill)
+}
+
+// The record with this number.
+fn record_numbered(number: u32) -> Named
+    ensures { λ r. ⌜ r ≡ recordNumbered number ⌝ }
+{
+    match number {
+        10 => Named::Known(Record::Header),
+        20 => Named::Known(Record::Sender),
+        30 => Named::Known(Record::Shipment),
+        40 => Named::Known(Record::Parcel),
+        50 => Named::Known(Record::Product),
+        60 => Named::Known(Record::Feature),
+        _ => Named::Unknown,
+    }
+}
+
+// The same for fields that are good. The line is put together aside: the reader's rule of needed fields asks a line, and a refusal
+// must leave the output as it was.
+fn write_fields(
+    kind: Record,
+    text: &[u8],
+    ends: &[usize],
+    line: &mut [u8],
+    out: &mut [u8],
+    fill: usize,
+) -> WriteAnswer
+    requires { ⌜ (length (now text) + length (now ends) + 5 ≤ length (now line)) × (endsHold (now ends) (length (now text)) ≡ true) × (walked kind 1 (typeOf kind) (between (now text) (now ends)) ≡ Fine) ⌝ }
+    ensures { λ r. ⌜ (r ≡ ofFields kind (between (now (text .entry)) (now (ends .entry))) (length (now (out .entry))) fill) × (now (out .exit) ≡ lineTo r kind (between (now (text .entry)) (now (ends .entry))) (now (out .entry)) fill) ⌝ }
+{
+    let long = put::put_line(line, kind, text, ends);
+    if line::lacks_field(kind, &line[..long - 2]) {
+        return WriteAnswer::NotWritten {
+            why: Refusal::FeatureLacks,
+            place: 0,
+        };
+    }
+    if out.len() < fill {
+        return WriteAnswer::NotWritten {
+            why: Refusal::OutputTooShort,
+            place: 0,
+        };
+    }
+    if out.len() - fill < long {
+        return WriteAnswer::NotWritten {
+            why: Refusal::OutputTooShort,
+            place: 0,
+        };
+    }
+    text::place(out, fill, &line[..long]);
+    WriteAnswer::Written(long)
+}
