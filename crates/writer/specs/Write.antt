@@ -32,7 +32,7 @@ use Rattle.grammar.specs.Grammar.{render, plain, fieldNo, LineOk}
 use Rattle.writer.specs.declared.write.WriteAnswer.{WriteAnswer}
 use Rattle.writer.specs.declared.write.WriteAnswer.the-variants.{Written, NotWritten}
 
--- "Record type as a number (10 for 010, up to 60)"
+-- "Record type as a number (10 for 010, up to 60)"; any other is of no record
 unfoldable pub recordNumbered : ℕ → Named
 recordNumbered n =
     if eqb n 10 then Known Header
@@ -82,6 +82,7 @@ ofFields kind fs size fill =
     else if leb (fill + length (render kind fs)) size then Written (length (render kind fs))
     else NotWritten OutputTooShort 0
 
+-- the fields are in order, or one is not
 abbrev pub afterWalk : Walk → Record → List (List ℕ) → ℕ → ℕ → WriteAnswer
 afterWalk (Stopped why place) kind fs size fill = NotWritten why place
 afterWalk Fine kind fs size fill = ofFields kind fs size fill
@@ -103,6 +104,7 @@ abbrev pub lineTo : WriteAnswer → Record → List (List ℕ) → List ℕ → 
 lineTo (NotWritten why place) kind fs out fill = out
 lineTo (Written n) kind fs out fill = written out fill (render kind fs)
 
+-- the output after an answer; under an unknown record nothing is written
 unfoldable pub writtenTo : WriteAnswer → Named → List (List ℕ) → List ℕ → ℕ → List ℕ
 writtenTo answer Unknown fs out fill = out
 writtenTo answer (Known kind) fs out fill = lineTo answer kind fs out fill
@@ -117,11 +119,12 @@ abbrev pub writeVerdict : WriteAnswer → Verdict
 writeVerdict (Written n) = Verdict.passes
 writeVerdict (NotWritten why place) = Verdict.refused (numberOf why) place
 
--- what a caller hands over for fields: "one text with all fields joined, a list of field ends"
+-- what a caller hands over for fields: "one text with all fields joined", and "a list of field ends"
 abbrev pub inOne : List (List ℕ) → List ℕ
 inOne [] = []
 inOne (f ∷ fs) = f ++ inOne fs
 
+-- where each of these fields ends, the first from the place start on
 abbrev pub endsFrom : ℕ → List (List ℕ) → List ℕ
 endsFrom start [] = []
 endsFrom start (f ∷ fs) = (start + length f) ∷ endsFrom (start + length f) fs
