@@ -21,6 +21,9 @@ use Rattle.line.specs.Find.{fieldAnswer}
 use Rattle.line.specs.declared.read.LineAnswer.{LineAnswer}
 use Rattle.line.specs.declared.find.FieldAnswer.{FieldAnswer}
 use Rattle.file.specs.File.{Judges}
+use Rattle.writer.specs.Write.{Writes}
+use Rattle.writer.specs.declared.write.WriteAnswer.{WriteAnswer}
+use Rattle.writer.proofs.Back.{one-outcome}
 use Rattle.file.specs.declared.whole.FileAnswer.{FileAnswer}
 
 -- A contract `answer ≡ definition of the inputs` leaves one answer. That is the contract of every public function but those that
@@ -54,3 +57,8 @@ judge-unique s words a b x y p q = (p .0 ∙ sym (q .0), p .1 ∙ sym (q .1))
 -- a run placed in an output
 pub place-unique : (out : List ℕ) (at : ℕ) (src x y : List ℕ) → x ≡ placed out at src → y ≡ placed out at src → x ≡ y
 place-unique out at = one-answer (placed out at)
+
+pub write-line-unique :
+    (number : ℕ) (text ends out : List ℕ) (fill : ℕ) (a b : WriteAnswer) (x y : List ℕ) →
+    Writes number text ends out fill a x → Writes number text ends out fill b y → (a ≡ b) × (x ≡ y)
+write-line-unique = one-outcome

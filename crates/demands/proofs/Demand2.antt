@@ -1,6 +1,7 @@
 -- Demand 2: "A file is accepted exactly when our profile of the pre-advice manual allows it. Line list, parcel count and cash total
--- are those of the file's own lines. .. DPD numbers and IBANs pass exactly by ISO 7064."
-use Prim.Native.Nat.{ℕ, _≤_}
+-- are those of the file's own lines. A written line reads back to its fields, and an accepted line written again gives its own bytes.
+-- DPD numbers and IBANs pass exactly by ISO 7064."
+use Prim.Native.Nat.{ℕ, _+_, _-_, _≤_}
 use mathlib.Core.Path.{_≡_, refl, sym, ap, _∙_}
 use mathlib.Core.List.{List, _++_}
 use mathlib.Core.Logic.{_↔_}
@@ -25,6 +26,13 @@ use Rattle.file.specs.File.{Judged, judged, listOf, Judges}
 use Rattle.file.specs.declared.whole.Totals.{Totals}
 use Rattle.file.specs.declared.whole.FileAnswer.{FileAnswer}
 use Rattle.file.specs.declared.whole.FileAnswer.the-variants.{Accepted as AcceptedFile}
+use Rattle.fields.specs.declared.record.Record.{Record}
+use Rattle.fields.specs.declared.record.Named.the-variants.{Known}
+use Rattle.text.specs.Placed.{written}
+use Rattle.writer.specs.Write.{recordNumbered, between, writeAnswer, Writes, inOne, endsFrom, Writable, ReadsBack}
+use Rattle.writer.specs.declared.write.WriteAnswer.{WriteAnswer}
+use Rattle.writer.specs.declared.write.WriteAnswer.the-variants.{Written}
+use Rattle.writer.proofs.Back as writing
 use Rattle.allowed.specs.Allowed.{FileLine, AllowedFile, totalsOf, lineStarts}
 use Rattle.allowed.proofs.Files.{accepted-allowed, allowed-accepted, one-division}
 use Rattle.slips.specs.Exactly.{SoundNumber, SoundIban, bodyOf}
@@ -64,6 +72,26 @@ line-exactly s at line = lines.line-exactly Any s at line
 -- Of an accepted line each field is found where it stands, and no other.
 pub field-exactly : (s : List ℕ) (at : ℕ) (line : Line) (fs : List (List ℕ)) (n start long : ℕ) → Reads Any s at line fs → (fieldAnswer s at n ≡ Found start long) ↔ Finds (line .kind) fs s at n start long
 field-exactly s at line fs n start long g = finding.field-exactly g n start long
+
+-- "A written line reads back to its fields": the bytes that were written, by themselves, are accepted as the line of that record and
+-- of those fields, and each field is found again.
+pub written-reads-back :
+    (number : ℕ) (text ends out : List ℕ) (fill n : ℕ) (after : List ℕ) → Writes number text ends out fill (Written n) after →
+    (kind : Record) × ((recordNumbered number ≡ Known kind) × ((length (take n (drop fill after)) ≡ n) × ReadsBack kind (between text ends) (take n (drop fill after))))
+written-reads-back = writing.reads-back
+
+-- "an accepted line written again gives its own bytes", wherever there is room for it
+pub accepted-writes-again :
+    (s : List ℕ) (at : ℕ) (line : Line) (fs : List (List ℕ)) → Reads Any s at line fs →
+    (number : ℕ) (out : List ℕ) (fill : ℕ) → recordNumbered number ≡ Known (line .kind) → fill + (line .next - at) ≤ length out →
+    (answer : WriteAnswer) (after : List ℕ) → Writes number (inOne fs) (endsFrom 0 fs) out fill answer after →
+    (answer ≡ Written (line .next - at)) × (after ≡ written out fill (take (line .next - at) (drop at s)))
+accepted-writes-again s at line fs g = writing.writes-again g
+
+-- a line is written exactly when its record is known, its ends hold, it is allowed and there is room; so a writer that writes nothing
+-- is shut out
+pub written-exactly : (number : ℕ) (text ends : List ℕ) (size fill n : ℕ) → (writeAnswer number text ends size fill ≡ Written n) ↔ Writable number text ends size fill n
+written-exactly = writing.written-exactly
 
 -- a tracking number or label code is accepted exactly when it has its kind's length and shape and its check closes the carry
 pub number-exactly : (k : Kind) (s : List ℕ) → (checkedNumber s ≡ Accepted k) ↔ SoundNumber k s
