@@ -1,7 +1,5 @@
 // Runs vectors: each line of the input is a letter, a space and a text, and each gives a line with the text and its answer.
 // N: a DPD number is checked. B: one is issued from this body. C: the check character is given. I: an IBAN is checked.
-ghost use Prim.Native.Nat.{_≤_};
-ghost use lib.ListN.{length};
 use check_characters::IbanAnswer;
 use check_characters::IssueAnswer;
 use check_characters::Kind;
@@ -17,25 +15,13 @@ fn main() {
 fn run(s: &[u8]) {
     let mut start: usize = 0;
     while start < s.len() {
-        let end = line_end(s, start);
+        let end = feed::line_end(s, start);
+        if end < start {
+            return;
+        }
         say(&s[start..end]);
         start = end + 1;
     }
-}
-
-// The end of the line that starts here: the next line feed, or the end of the input.
-fn line_end(s: &[u8], start: usize) -> usize
-    requires { ⌜ start ≤ length (now s) ⌝ }
-    ensures { λ r. ⌜ (start ≤ r) × (r ≤ length (now (s .entry))) ⌝ }
-{
-    let mut i = start;
-    while i < s.len() {
-        if s[i] == b'\n' {
-            return i;
-        }
-        i += 1;
-    }
-    i
 }
 
 fn say(line: &[u8]) {

