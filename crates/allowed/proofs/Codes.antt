@@ -18,31 +18,38 @@ use Rattle.file.specs.Identcode.{identcodeAt, sameParcel, onEarlier, repeats}
 use Rattle.allowed.specs.Allowed.{codeOf, oneOfCodes}
 
 -- what stands at a place where a line is rendered
-type-there : (s : List ℕ) (at : ℕ) (kind : Record) (fs : List (List ℕ)) (rest : List ℕ) → drop at s ≡ render kind fs ++ rest → take 3 (drop at s) ≡ typeOf kind
+type-there : (s : List ℕ) (at : ℕ) (kind : Record) (fs : List (List ℕ)) (rest : List ℕ) → drop at s ≡ render kind fs ++ rest →
+    take 3 (drop at s) ≡ typeOf kind
 type-there s at kind fs rest there =
-    ap (take 3) (there ∙ ap (λ (l : List ℕ). l ++ rest) (append-assoc (typeOf kind) (joined fs) (bytes "\r\n")) ∙ append-assoc (typeOf kind) (joined fs ++ bytes "\r\n") rest)
+    ap (take 3) (there ∙ ap (λ (l : List ℕ). l ++ rest) (append-assoc (typeOf kind) (joined fs) (bytes "\r\n"))
+    ∙ append-assoc (typeOf kind) (joined fs ++ bytes "\r\n") rest)
     ∙ take-at (typeOf kind) (joined fs ++ bytes "\r\n" ++ rest) 3 (type-long kind)
 
-code-there : (s : List ℕ) (at : ℕ) (fs : List (List ℕ)) (rest : List ℕ) → drop at s ≡ render Parcel fs ++ rest → LineOk Parcel fs → identcodeAt s at ≡ fieldNo fs 1
+code-there : (s : List ℕ) (at : ℕ) (fs : List (List ℕ)) (rest : List ℕ) → drop at s ≡ render Parcel fs ++ rest → LineOk Parcel fs →
+    identcodeAt s at ≡ fieldNo fs 1
 code-there s at [] rest there ok = absurd (false≢true (ok .counted))
 code-there s at (f ∷ fs) rest there ok =
-    ap (take 22) (sym (drop-drop 4 at s) ∙ ap (drop 4) there ∙ regroup) ∙ take-at f (joined fs ++ bytes "\r\n" ++ rest) 22 (identcode Parcel (f ∷ fs) refl ok .1)
+    ap (take 22) (sym (drop-drop 4 at s) ∙ ap (drop 4) there ∙ regroup)
+    ∙ take-at f (joined fs ++ bytes "\r\n" ++ rest) 22 (identcode Parcel (f ∷ fs) refl ok .1)
   where
     regroup : ((f ++ joined fs) ++ bytes "\r\n") ++ rest ≡ f ++ (joined fs ++ bytes "\r\n" ++ rest)
     regroup = simp append-assoc
 
 -- the line that starts here has one of the codes of a line
 module _ (s : List ℕ) (earlier : ℕ) (fs : List (List ℕ)) (rest : List ℕ) (at : ℕ) where
-  other-type : (kind : Record) → drop earlier s ≡ render kind fs ++ rest → same (typeOf kind) (bytes "040") ≡ false → sameParcel s earlier at ≡ false
+  other-type : (kind : Record) → drop earlier s ≡ render kind fs ++ rest → same (typeOf kind) (bytes "040") ≡ false →
+      sameParcel s earlier at ≡ false
   unfolding sameParcel
   other-type kind there e = rw (type-there s earlier kind fs rest there, e)
 
-  pub same-code : (kind : Record) → drop earlier s ≡ render kind fs ++ rest → LineOk kind fs → sameParcel s earlier at ≡ oneOfCodes (identcodeAt s at) (codeOf kind fs)
+  pub same-code : (kind : Record) → drop earlier s ≡ render kind fs ++ rest → LineOk kind fs →
+      sameParcel s earlier at ≡ oneOfCodes (identcodeAt s at) (codeOf kind fs)
   unfolding sameParcel
   same-code Header there ok = other-type Header there refl
   same-code Sender there ok = other-type Sender there refl
   same-code Shipment there ok = other-type Shipment there refl
-  same-code Parcel there ok = rw (type-there s earlier Parcel fs rest there, code-there s earlier fs rest there ok) (sym (or-false (same (fieldNo fs 1) (identcodeAt s at))))
+  same-code Parcel there ok = rw (type-there s earlier Parcel fs rest there, code-there s earlier fs rest there ok)
+      (sym (or-false (same (fieldNo fs 1) (identcodeAt s at))))
   same-code Product there ok = other-type Product there refl
   same-code Feature there ok = other-type Feature there refl
 
@@ -52,17 +59,21 @@ Seen s starts codes = (at : ℕ) → onEarlier s starts at ≡ oneOfCodes (ident
 
 earlier-append : (s xs ys : List ℕ) (at : ℕ) → onEarlier s (xs ++ ys) at ≡ (onEarlier s xs at || onEarlier s ys at)
 earlier-append s [] ys at = refl
-earlier-append s (x ∷ xs) ys at = rw (earlier-append s xs ys at) (sym (or-assoc (sameParcel s x at) (onEarlier s xs at) (onEarlier s ys at)))
+earlier-append s (x ∷ xs) ys at = rw (earlier-append s xs ys at)
+    (sym (or-assoc (sameParcel s x at) (onEarlier s xs at) (onEarlier s ys at)))
 
 pub codes-append : (code : List ℕ) (xs ys : List (List ℕ)) → oneOfCodes code (xs ++ ys) ≡ (oneOfCodes code xs || oneOfCodes code ys)
 codes-append code [] ys = refl
 codes-append code (x ∷ xs) ys = rw (codes-append code xs ys) (sym (or-assoc (same x code) (oneOfCodes code xs) (oneOfCodes code ys)))
 
-pub seen-more : (s starts : List ℕ) (codes : List (List ℕ)) (earlier : ℕ) (kind : Record) (fs : List (List ℕ)) (rest : List ℕ) → Seen s starts codes → drop earlier s ≡ render kind fs ++ rest → LineOk kind fs → Seen s (starts ++ (earlier ∷ [])) (codes ++ codeOf kind fs)
+pub seen-more : (s starts : List ℕ) (codes : List (List ℕ)) (earlier : ℕ) (kind : Record) (fs : List (List ℕ)) (rest : List ℕ) →
+    Seen s starts codes → drop earlier s ≡ render kind fs ++ rest → LineOk kind fs →
+    Seen s (starts ++ (earlier ∷ [])) (codes ++ codeOf kind fs)
 seen-more s starts codes earlier kind fs rest seen there ok at =
     earlier-append s starts (earlier ∷ []) at
     ∙ ap (λ (t : Bool). t || (sameParcel s earlier at || false)) (seen at)
-    ∙ ap (λ (t : Bool). oneOfCodes (identcodeAt s at) codes || t) (or-false (sameParcel s earlier at) ∙ same-code s earlier fs rest at kind there ok)
+    ∙ ap (λ (t : Bool). oneOfCodes (identcodeAt s at) codes || t) (or-false (sameParcel s earlier at)
+    ∙ same-code s earlier fs rest at kind there ok)
     ∙ sym (codes-append (identcodeAt s at) codes (codeOf kind fs))
 
 -- none of the codes of a line is one of these
@@ -71,7 +82,8 @@ Fresh seen [] = Unit {0}
 Fresh seen (c ∷ cs) = (oneOfCodes c seen ≡ false) × Fresh seen cs
 
 module _ (s starts : List ℕ) (codes : List (List ℕ)) (at : ℕ) (fs : List (List ℕ)) (rest : List ℕ) (seen : Seen s starts codes) where
-  pub fresh-not : (kind : Record) → drop at s ≡ render kind fs ++ rest → LineOk kind fs → repeats kind s starts at ≡ false → Fresh codes (codeOf kind fs)
+  pub fresh-not : (kind : Record) → drop at s ≡ render kind fs ++ rest → LineOk kind fs → repeats kind s starts at ≡ false →
+      Fresh codes (codeOf kind fs)
   unfolding repeats
   fresh-not Header there ok e = tt
   fresh-not Sender there ok e = tt
@@ -80,7 +92,8 @@ module _ (s starts : List ℕ) (codes : List (List ℕ)) (at : ℕ) (fs : List (
   fresh-not Product there ok e = tt
   fresh-not Feature there ok e = tt
 
-  pub not-fresh : (kind : Record) → drop at s ≡ render kind fs ++ rest → LineOk kind fs → Fresh codes (codeOf kind fs) → repeats kind s starts at ≡ false
+  pub not-fresh : (kind : Record) → drop at s ≡ render kind fs ++ rest → LineOk kind fs → Fresh codes (codeOf kind fs) →
+      repeats kind s starts at ≡ false
   unfolding repeats
   not-fresh Header there ok f = refl
   not-fresh Sender there ok f = refl

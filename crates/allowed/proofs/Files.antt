@@ -32,7 +32,8 @@ record Whole (left : List ℕ) (codes : List (List ℕ)) (due : Due) (ls : List 
   order : InOrder due ls
   none : NoneTwice (codes ++ identcodes ls)
 
-whole : (ls : List FileLine) (left : List ℕ) (codes : List (List ℕ)) (due : Due) → NoneTwice codes → AllowedFrom left codes due ls → Whole left codes due ls
+whole : (ls : List FileLine) (left : List ℕ) (codes : List (List ℕ)) (due : Due) → NoneTwice codes → AllowedFrom left codes due ls →
+    Whole left codes due ls
 whole [] left codes due n a = record { bytes = a .0; lines = tt; order = a .1; none = rw (append-nil codes) n }
 whole (l ∷ ls) left codes due n a =
     let c = codeOf (l .kind) (l .fields) in
@@ -53,7 +54,13 @@ each (l ∷ ls) left codes due w =
       w .lines .0,
       w .order .0,
       fresh-before (l .kind) (l .fields) codes (identcodes ls) (w .none),
-      each ls (fileBytes ls) (codes ++ c) (After (l .kind)) (record { bytes = refl; lines = w .lines .1; order = w .order .1; none = rw append-assoc (w .none) }),
+      each ls (fileBytes ls) (codes ++ c) (After (l .kind)) (record {
+        bytes = refl;
+        lines = w .lines .1;
+        order = w .order .1;
+        none =
+            rw append-assoc (w .none);
+      }),
     )
 
 -- a line has bytes
@@ -84,7 +91,9 @@ module _ (s : List ℕ) (words : ℕ) (totals : Totals) (starts : List ℕ) wher
   pub accepted-allowed : judged s words ≡ record { answer = Accepted totals; starts = starts } → Accepts s words totals starts
   unfolding judged
   accepted-allowed e =
-      let a = came-else (ltb 65535 (length s)) (record { answer = Refused FileTooLong 65535; starts = [] }) (fileFrom (length s + 1) s words [] begin) (record { answer = Accepted totals; starts = starts }) (λ q. refused (ap (λ (j : Judged). j .answer) q)) e in
+      let a = came-else (ltb 65535 (length s)) (record { answer = Refused FileTooLong 65535; starts = [] })
+      (fileFrom (length s + 1) s words [] begin) (record { answer = Accepted totals; starts = starts })
+      (λ q. refused (ap (λ (j : Judged). j .answer) q)) e in
       let small = ltb-false 65535 (length s) (a .0) in
       let r = ran s words small totals starts (length s + 1) [] [] begin (omega arith) (omega arith) (omega arith) (λ at. refl) (a .1) in
       let w = whole (r .lines) s [] First tt (r .allowed) in
@@ -103,7 +112,8 @@ module _ (s : List ℕ) (words : ℕ) (totals : Totals) (starts : List ℕ) wher
       let ls = g .lines in
       let a = g .allowed in
       rw (le-ltb 65535 (length s) (a .small))
-      (runs s words (a .small) ls (length s + 1) [] [] begin (omega (arith, few-lines ls, ap length (a .bytes))) (omega arith) (omega (arith, g .room)) (λ at. refl)
+      (runs s words (a .small) ls (length s + 1) [] [] begin (omega (arith, few-lines ls, ap length (a .bytes))) (omega arith)
+      (omega (arith, g .room)) (λ at. refl)
       (each ls s [] First (record { bytes = a .bytes; lines = a .lines; order = a .order; none = a .codes }))
       ∙ from-begin ls
       ∙ ap (λ (t : Totals). record { answer = Accepted t; starts = lineStarts 0 ls }) (sym (g .counts))

@@ -42,12 +42,18 @@ use Rattle.allowed.proofs.Codes.{Seen, seen-more, Fresh, fresh-not, not
 abbrev pub AllowedFrom : List ℕ → List (List ℕ) → Due → List FileLine → Type 0
 AllowedFrom left codes due [] = (left ≡ []) × (mayEnd due ≡ true)
 AllowedFrom left codes due (l ∷ ls) =
-    (rest : List ℕ) × (left ≡ lineBytes l ++ rest) × LineOk (l .kind) (l .fields) × (mayCome due (l .kind) ≡ true) × Fresh codes (codeOf (l .kind) (l .fields)) ×
+    (rest : List ℕ) × (left ≡ lineBytes l ++ rest) × LineOk (l .kind) (l .fields) × (mayCome due (l .kind) ≡ true) ×
+    Fresh codes (codeOf (l .kind) (l .fields)) ×
     AllowedFrom rest (codes ++ codeOf (l .kind) (l .fields)) (After (l .kind)) ls
 
 -- what is then said of the file
 abbrev pub totalsWith : State → List FileLine → Totals
-totalsWith state ls = record { lines = state .lines + length ls; parcels = state .parcels + parcelCount ls; cents = state .cents + cashTotal ls }
+totalsWith state ls = record {
+  lines = state .lines + length ls;
+  parcels = state .parcels + parcelCount ls;
+  cents =
+      state .cents + cashTotal ls;
+}
 
 abbrev pub judgedWith : List ℕ → State → List FileLine → Judged
 judgedWith starts state ls = record { answer = Accepted (totalsWith state ls); starts = starts ++ lineStarts (state .at) ls }
@@ -56,7 +62,12 @@ refused : {why : Refusal} {place : ℕ} {t : Totals} → Refused why place ≡ A
 refused e = let z : _≡_ {A = ℕ} 0 1 = cc in omega arith
 
 -- no lines more
-judged-none : (starts : List ℕ) (state : State) → record { answer = Accepted (record { lines = state .lines; parcels = state .parcels; cents = state .cents }); starts = starts } ≡ judgedWith starts state []
+judged-none : (starts : List ℕ) (state : State) → record {
+  answer =
+      Accepted (record { lines = state .lines; parcels = state .parcels; cents = state .cents });
+  starts =
+      starts;
+} ≡ judgedWith starts state []
 judged-none starts state = rw (add-zero (state .lines), add-zero (state .parcels), add-zero (state .cents), append-nil starts)
 
 -- the same numbers and the same starts say the same
@@ -68,8 +79,10 @@ said-same {a} {b} {p} {q} {c} {d} {x} {y} e f g h =
     ap (λ (n : ℕ). said n p c x) e ∙ ap (λ (n : ℕ). said b n c x) f ∙ ap (λ (n : ℕ). said b q n x) g ∙ ap (said b q d) h
 
 -- one line more
-module _ (s starts : List ℕ) (state : State) (line : Line) (fs : List (List ℕ)) (g : Reads (state .due) s (state .at) line fs) (ls : List FileLine) where
-  judged-more : judgedWith (starts ++ (state .at ∷ [])) (behind s state line) ls ≡ judgedWith starts state (record { kind = line .kind; fields = fs } ∷ ls)
+module _ (s starts : List ℕ) (state : State) (line : Line) (fs : List (List ℕ)) (g : Reads (state .due) s (state .at) line fs)
+    (ls : List FileLine) where
+  judged-more : judgedWith (starts ++ (state .at ∷ [])) (behind s state line) ls ≡ judgedWith starts state
+      (record { kind = line .kind; fields = fs } ∷ ls)
   unfolding said
   judged-more =
       said-same (omega arith) (omega arith)
@@ -87,9 +100,15 @@ module _ (s : List ℕ) (m : ℕ) (small : length s ≤ 65535) (totals : Totals)
   abbrev pub result : Judged
   result = record { answer = Accepted totals; starts = list }
 
-  ran-none : (starts : List ℕ) (codes : List (List ℕ)) (state : State) → length s ≤ state .at → state .lines ≤ m → ended s starts state ≡ result → Ran s m starts codes state result
+  ran-none : (starts : List ℕ) (codes : List (List ℕ)) (state : State) → length s ≤ state .at → state .lines ≤ m →
+      ended s starts state ≡ result → Ran s m starts codes state result
   ran-none starts codes state h room e =
-      let a = came-then (mayEnd (state .due)) (record { answer = Accepted (record { lines = state .lines; parcels = state .parcels; cents = state .cents }); starts = starts }) (record { answer = Refused FileEnds (length s); starts = [] }) result (λ q. refused (ap (λ (j : Judged). j .answer) q)) e in
+      let a = came-then (mayEnd (state .due)) (record {
+        answer =
+            Accepted (record { lines = state .lines; parcels = state .parcels; cents = state .cents });
+        starts = starts;
+      })
+      (record { answer = Refused FileEnds (length s); starts = [] }) result (λ q. refused (ap (λ (j : Judged). j .answer) q)) e in
       record {
         lines = [];
         allowed = (drop-of-length-le s {i = state .at} h, a .0);
@@ -99,11 +118,14 @@ module _ (s : List ℕ) (m : ℕ) (small : length s ≤ 65535) (totals : Totals)
 
   abbrev pub Rans : ℕ → Type 0
   Rans turns =
-      (starts : List ℕ) (codes : List (List ℕ)) (state : State) → length s < turns + state .at → state .at ≤ length s → state .lines ≤ m → Seen s starts codes → fileFrom turns s m starts state ≡ result → Ran s m starts codes state result
+      (starts : List ℕ) (codes : List (List ℕ)) (state : State) → length s < turns + state .at → state .at ≤ length s → state .lines ≤ m →
+      Seen s starts codes → fileFrom turns s m starts state ≡ result → Ran s m starts codes state result
 
   ran-step :
-      (turns : ℕ) → Rans turns → (starts : List ℕ) (codes : List (List ℕ)) (state : State) → length s < suc turns + state .at → Seen s starts codes →
-      (step : Step) → stepAnswer s m starts state ≡ step → onStep step (λ next. fileFrom turns s m (starts ++ (state .at ∷ [])) next) ≡ result → Ran s m starts codes state result
+      (turns : ℕ) → Rans turns → (starts : List ℕ) (codes : List (List ℕ)) (state : State) → length s < suc turns + state .at →
+      Seen s starts codes →
+      (step : Step) → stepAnswer s m starts state ≡ step → onStep step
+      (λ next. fileFrom turns s m (starts ++ (state .at ∷ [])) next) ≡ result → Ran s m starts codes state result
   ran-step turns more starts codes state h seen (Stopped why place) es e = absurd (refused (ap (λ (j : Judged). j .answer) e))
   ran-step turns more starts codes state h seen (Next next) es e =
       let w = went s m starts state next es in
@@ -111,10 +133,21 @@ module _ (s : List ℕ) (m : ℕ) (small : length s ≤ 65535) (totals : Totals)
       let fs = fieldsOf (textAt s (state .at)) in
       let g = accepted-reads (state .due) s (state .at) line (w .accepted) in
       let codes′ = codes ++ codeOf (line .kind) fs in
-      let r = more (starts ++ (state .at ∷ [])) codes′ (behind s state line) (omega (arith, next-far g)) (next-inside g) (omega (arith, w .room)) (seen-more s starts codes (state .at) (line .kind) fs (g .rest) seen (g .stands) (g .allowed)) (rw (← w .there) at e) in
+      let r = more (starts ++ (state .at ∷ [])) codes′ (behind s state line) (omega (arith, next-far g)) (next-inside g)
+      (omega (arith, w .room)) (seen-more s starts codes (state .at) (line .kind) fs (g .rest) seen (g .stands) (g .allowed)) (rw
+      (← w .there) at e) in
       record {
         lines = record { kind = line .kind; fields = fs } ∷ r .lines;
-        allowed = (g .rest, g .stands, g .allowed, g .comes, fresh-not s starts codes (state .at) fs (g .rest) seen (line .kind) (g .stands) (g .allowed) (w .fresh), subst (λ (left : List ℕ). AllowedFrom left codes′ (After (line .kind)) (r .lines)) (sym (rest-is g)) (r .allowed));
+        allowed = (
+          g .rest,
+          g .stands,
+          g .allowed,
+          g .comes,
+          fresh-not s starts codes (state .at) fs (g .rest) seen
+              (line .kind) (g .stands) (g .allowed) (w .fresh),
+          subst
+              (λ (left : List ℕ). AllowedFrom left codes′ (After (line .kind)) (r .lines)) (sym (rest-is g)) (r .allowed),
+        );
         room = omega (arith, r .room);
         same = r .same ∙ judged-more s starts state line fs g (r .lines);
       }
@@ -123,31 +156,52 @@ module _ (s : List ℕ) (m : ℕ) (small : length s ≤ 65535) (totals : Totals)
   ran zero starts codes state h inside room seen e = absurd (omega arith)
   ran (suc turns) starts codes state h inside room seen e =
       ⊎-elim
-      (λ (t : ltb (state .at) (length s) ≡ true). ran-step turns (ran turns) starts codes state h seen (stepAnswer s m starts state) refl (rw t at e))
+      (λ (t : ltb (state .at) (length s) ≡ true). ran-step turns (ran turns) starts codes state h seen (stepAnswer s m starts state) refl
+      (rw t at e))
       (λ (f : ltb (state .at) (length s) ≡ false). ran-none starts codes state (ltb-false (state .at) (length s) f) room (rw f at e))
       (true-or-false (ltb (state .at) (length s)))
 
 -- what is allowed is accepted
 module _ (s : List ℕ) (m : ℕ) (small : length s ≤ 65535) where
-  end-there : (turns : ℕ) (starts : List ℕ) (state : State) → length s ≤ state .at → mayEnd (state .due) ≡ true → fileFrom turns s m starts state ≡ judgedWith starts state []
+  end-there : (turns : ℕ) (starts : List ℕ) (state : State) → length s ≤ state .at → mayEnd (state .due) ≡ true →
+      fileFrom turns s m starts state ≡ judgedWith starts state []
   end-there zero starts state h e = rw e (judged-none starts state)
   end-there (suc turns) starts state h e = rw (le-ltb (state .at) (length s) h, e) (judged-none starts state)
 
   step-there :
-      (starts : List ℕ) (codes : List (List ℕ)) (state : State) (line : Line) (fs : List (List ℕ)) (g : Reads (state .due) s (state .at) line fs) → Seen s starts codes → Fresh codes (codeOf (line .kind) fs) → state .lines < m →
+      (starts : List ℕ) (codes : List (List ℕ)) (state : State) (line : Line) (fs : List (List ℕ))
+      (g : Reads (state .due) s (state .at) line fs) → Seen s starts codes → Fresh codes (codeOf (line .kind) fs) → state .lines < m →
       stepAnswer s m starts state ≡ Next (behind s state line)
   unfolding stepAnswer onLine
   step-there starts codes state line fs g seen fresh room =
-      rw (reads-accepted g, not-fresh s starts codes (state .at) fs (g .rest) seen (line .kind) (g .stands) (g .allowed) fresh, lt-leb m (state .lines) room)
+      rw (
+        reads-accepted g,
+        not-fresh s starts codes (state .at) fs (g .rest) seen (line .kind) (g .stands) (g .allowed) fresh,
+        lt-leb m (state .lines) room,
+      )
 
-  pub runs : (ls : List FileLine) (turns : ℕ) (starts : List ℕ) (codes : List (List ℕ)) (state : State) → length ls ≤ turns → state .at ≤ length s → state .lines + length ls ≤ m → Seen s starts codes → AllowedFrom (drop (state .at) s) codes (state .due) ls → fileFrom turns s m starts state ≡ judgedWith starts state ls
-  runs [] turns starts codes state few inside room seen a = end-there turns starts state (omega (arith, length-drop (state .at) s, ap length (a .0))) (a .1)
+  pub runs : (ls : List FileLine) (turns : ℕ) (starts : List ℕ) (codes : List (List ℕ)) (state : State) → length ls ≤ turns →
+      state .at ≤ length s → state .lines + length ls ≤ m → Seen s starts codes → AllowedFrom (drop (state .at) s) codes (state .due) ls →
+      fileFrom turns s m starts state ≡ judgedWith starts state ls
+  runs [] turns starts codes state few inside room seen a = end-there turns starts state
+      (omega (arith, length-drop (state .at) s, ap length (a .0))) (a .1)
   runs (l ∷ ls) zero starts codes state few inside room seen a = absurd (omega arith)
   runs (l ∷ ls) (suc turns) starts codes state few inside room seen a =
       let line : Line = record { kind = l .kind; count = length (l .fields); next = state .at + length (lineBytes l) } in
-      let g : Reads (state .due) s (state .at) (record { kind = l .kind; count = length (l .fields); next = state .at + length (lineBytes l) }) (l .fields) =
+      let g : Reads (state .due) s (state .at) (record {
+        kind = l .kind;
+        count = length (l .fields);
+        next =
+            state .at + length (lineBytes l);
+      }) (l .fields) =
       record { small = small; comes = a .3; allowed = a .2; rest = a .0; stands = a .1; count = refl; next = refl } in
       let far = next-far g in
       let in-file = next-inside g in
-      let on = runs ls turns (starts ++ (state .at ∷ [])) (codes ++ codeOf (l .kind) (l .fields)) (behind s state line) (omega arith) in-file (omega arith) (seen-more s starts codes (state .at) (l .kind) (l .fields) (a .0) seen (a .1) (a .2)) (rw (← rest-is g) (a .5)) in
-      rw (lt-ltb (state .at) (length s) (omega (arith, far, in-file)), step-there starts codes state line (l .fields) g seen (a .4) (omega arith)) (on ∙ judged-more s starts state line (l .fields) g ls)
+      let on = runs ls turns (starts ++ (state .at ∷ [])) (codes ++ codeOf (l .kind) (l .fields)) (behind s state line)
+      (omega arith) in-file (omega arith) (seen-more s starts codes (state .at) (l .kind) (l .fields) (a .0) seen (a .1) (a .2)) (rw
+      (← rest-is g) (a .5)) in
+      rw (
+        lt-ltb (state .at) (length s) (omega (arith, far, in-file)),
+        step-there starts codes state line (l .fields) g seen (a .4) (omega arith),
+      ) (on
+      ∙ judged-more s starts state line (l .fields) g ls)

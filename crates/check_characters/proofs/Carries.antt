@@ -52,7 +52,8 @@ step-high c d v e = rw e (step-carry c v .high)
 
 -- the loop at the place i: each premise is a fact that the loop has
 module _ (s : List ℕ) (i c z : ℕ) where
-  pub carry-on : (d v : ℕ) → i < length s → v ≡ valueOf (getD s i 0) → d ≡ step c v → carryFrom c (drop i s) ≡ z → carryFrom d (drop (i + 1) s) ≡ z
+  pub carry-on : (d v : ℕ) → i < length s → v ≡ valueOf (getD s i 0) → d ≡ step c v → carryFrom c (drop i s) ≡ z →
+      carryFrom d (drop (i + 1) s) ≡ z
   carry-on d v h ev ed f =
       let w : carryFrom c (drop i s) ≡ carryFrom (step c (valueOf (getD s i 0))) (drop (i + 1) s) = rw (add-one, drop-cons s i 0) in
       rw (ed, ev) (sym w ∙ f)

@@ -36,7 +36,8 @@ module _ (b : ℕ) (t : Bool) (et : t ≡ capital b) where
 
 -- the loop over the symbols at the place i: what is spread, and what is still to be spread, are the whole
 module _ (s : List ℕ) (i : ℕ) (x z : List ℕ) where
-  pub spread-on : (y : List ℕ) → i < length s → y ≡ x ++ digitsOf (getD s i 0) → x ++ spread (drop i s) ≡ z → y ++ spread (drop (i + 1) s) ≡ z
+  pub spread-on : (y : List ℕ) → i < length s → y ≡ x ++ digitsOf (getD s i 0) → x ++ spread (drop i s) ≡ z →
+      y ++ spread (drop (i + 1) s) ≡ z
   spread-on y h e f =
       rw (add-one, e)
       (append-assoc x (digitsOf (getD s i 0)) (spread (drop (suc i) s)) ∙ ap (λ (w : List ℕ). x ++ spread w) (sym (drop-cons s i 0 h)) ∙ f)
@@ -61,7 +62,8 @@ decimal-mod a b (d ∷ s) e =
 
 -- the loop over the digits at the place i
 module _ (s : List ℕ) (r i z : ℕ) where
-  pub remainder-on : (d : ℕ) → i < length s → d ≡ getD s i 0 → decimalFrom r (drop i s) % 97 ≡ z → decimalFrom ((10 * r + d) % 97) (drop (i + 1) s) % 97 ≡ z
+  pub remainder-on : (d : ℕ) → i < length s → d ≡ getD s i 0 → decimalFrom r (drop i s) % 97 ≡ z →
+      decimalFrom ((10 * r + d) % 97) (drop (i + 1) s) % 97 ≡ z
   remainder-on d h e f =
       let w : decimalFrom r (drop i s) % 97 ≡ decimalFrom ((10 * r + getD s i 0) % 97) (drop (i + 1) s) % 97 =
       rw (add-one, drop-cons s i 0) (decimal-mod (10 * r + getD s i 0) ((10 * r + getD s i 0) % 97) (drop (suc i) s) (omega arith)) in
@@ -71,7 +73,9 @@ module _ (s : List ℕ) (r i z : ℕ) where
   remainder-ends l h f = sym (rw (drop-of-length-le s) (mod-eq-of-lt l)) ∙ f
 
 -- the account part and then the first four, spread into one array
-pub of-whole : (s account whole : List ℕ) (r : ℕ) → account ≡ spread (take (length s - 4) (drop 4 s)) → whole ≡ account ++ spread (take 4 s) → r ≡ decimal whole % 97 → r ≡ ibanNumber s % 97
+pub of-whole : (s account whole : List ℕ) (r : ℕ) → account ≡ spread (take (length s - 4) (drop 4 s)) →
+    whole ≡ account ++ spread (take 4 s) → r ≡ decimal whole % 97 → r ≡ ibanNumber s % 97
 of-whole s account whole r ea ew er =
     let tail : take (length s - 4) (drop 4 s) ≡ drop 4 s = take-all (length s - 4) (drop 4 s) (simp length-drop (omega arith)) in
-    er ∙ ap (λ (w : List ℕ). decimal w % 97) (ew ∙ ap (λ (w : List ℕ). w ++ spread (take 4 s)) (ea ∙ ap spread tail) ∙ sym (spread-append (drop 4 s) (take 4 s)))
+    er ∙ ap (λ (w : List ℕ). decimal w % 97) (ew ∙ ap (λ (w : List ℕ). w ++ spread (take 4 s)) (ea ∙ ap spread tail)
+    ∙ sym (spread-append (drop 4 s) (take 4 s)))

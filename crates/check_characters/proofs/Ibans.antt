@@ -39,7 +39,8 @@ module _ (d : ℕ) where
   unfolding barred
   barred-99 n m = simp (ne-eqb d 0, ne-eqb d 1)
 
-module _ (s : List ℕ) (tens ones : ℕ) (et : tens ≡ valueOf (getD s 2 0)) (eo : ones ≡ valueOf (getD s 3 0)) (bar : Bool) (eb : bar ≡ barred (10 * tens + ones)) where
+module _ (s : List ℕ) (tens ones : ℕ) (et : tens ≡ valueOf (getD s 2 0)) (eo : ones ≡ valueOf (getD s 3 0)) (bar : Bool)
+    (eb : bar ≡ barred (10 * tens + ones)) where
   pub sound-barred : bar ≡ true → false ≡ soundOf s
   unfolding soundOf
   sound-barred e = simp (← et, ← eo, ← eb, e)

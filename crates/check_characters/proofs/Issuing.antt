@@ -44,7 +44,8 @@ module _ (body : List ℕ) (room : ℕ) where
   issue-length n m = simp (ne-eqb (length body) 14, ne-eqb (length body) 27)
 
 -- the body placed at the start, and the check behind it
-pub issue-written : (body out placedOut : List ℕ) (check : ℕ) → length body + 1 ≤ length out → placedOut ≡ placed out 0 body → check ≡ checkOf body → set placedOut (length body) check ≡ issuedTo (Issued (length body + 1)) body out
+pub issue-written : (body out placedOut : List ℕ) (check : ℕ) → length body + 1 ≤ length out → placedOut ≡ placed out 0 body →
+    check ≡ checkOf body → set placedOut (length body) check ≡ issuedTo (Issued (length body + 1)) body out
 unfolding placed issuedTo
 issue-written body out placedOut check h ep ec =
     let front : placedOut ≡ body ++ drop (length body) out = ep ∙ simp (zero-add, le-leb (length body) (length out) (omega arith)) in

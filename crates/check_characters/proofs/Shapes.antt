@@ -45,7 +45,8 @@ module _ (k : Kind) (i b : ℕ) (t : Bool) where
   label-digit ek l h et =
       let e : i ≡ i - 7 + 7 = omega arith in
       let there : getD (replicate 7 symbol ++ (replicate 20 digit ++ (symbol ∷ []))) (i - 7 + 7) (λ _. false) ≡ digit =
-      run-past 7 (i - 7) symbol (replicate 20 digit ++ (symbol ∷ [])) (λ _. false) ∙ run-at 20 (i - 7) digit (symbol ∷ []) (λ _. false) (omega arith) in
+      run-past 7 (i - 7) symbol (replicate 20 digit ++ (symbol ∷ [])) (λ _. false)
+      ∙ run-at 20 (i - 7) digit (symbol ∷ []) (λ _. false) (omega arith) in
       stands digit (rw ek (ap (λ j. getD (shapeOf Label) j (λ _. false)) e ∙ there)) et
 
   pub label-check : k ≡ Label → 27 ≤ i → i < lengthOf k → t ≡ symbol b → t ≡ allowed k i b

@@ -33,7 +33,8 @@ module _ (b : ℕ) (t : Bool) (et : t ≡ digit b) where
 pub value-le : (b : ℕ) → valueOf b ≤ 35
 value-le b =
     ⊎-elim (λ d. omega (arith, digit-range b d, value-digit b (digit b) refl d))
-    (λ n. ⊎-elim (λ c. omega (arith, capital-range b c, value-capital b (digit b) refl (capital b) refl n c)) (λ c. omega (arith, value-other b (digit b) refl (capital b) refl n c)) (true-or-false (capital b)))
+    (λ n. ⊎-elim (λ c. omega (arith, capital-range b c, value-capital b (digit b) refl (capital b) refl n c))
+    (λ c. omega (arith, value-other b (digit b) refl (capital b) refl n c)) (true-or-false (capital b)))
     (true-or-false (digit b))
 
 pub value-below : (v b : ℕ) → v ≡ valueOf b → v < 36

@@ -34,7 +34,8 @@ one-answer definition input a b p q = p ∙ sym q
 pub check-number-unique : (s : List ℕ) (a b : NumberAnswer) → a ≡ checkedNumber s → b ≡ checkedNumber s → a ≡ b
 check-number-unique s = one-answer checkedNumber s
 
-pub issue-number-unique : (body out : List ℕ) (a b : IssueAnswer) (x y : List ℕ) → Issues body out a x → Issues body out b y → (a ≡ b) × (x ≡ y)
+pub issue-number-unique : (body out : List ℕ) (a b : IssueAnswer) (x y : List ℕ) → Issues body out a x → Issues body out b y →
+    (a ≡ b) × (x ≡ y)
 issue-number-unique body out a b x y p q =
     let same = one-answer (issueAnswer body) (length out) a b (p .0) (q .0) in
     (same, p .1 ∙ ap (λ (r : IssueAnswer). issuedTo r body out) same ∙ sym (q .1))
@@ -48,7 +49,8 @@ read-line-unique s = one-answer (lineAnswer Any s)
 pub find-field-unique : (s : List ℕ) (at n : ℕ) (a b : FieldAnswer) → a ≡ fieldAnswer s at n → b ≡ fieldAnswer s at n → a ≡ b
 find-field-unique s at = one-answer (fieldAnswer s at)
 
-pub test-field-unique : (kind : Record) (n : ℕ) (beside f : List ℕ) (a b : Tested) → a ≡ tested kind n beside f → b ≡ tested kind n beside f → a ≡ b
+pub test-field-unique : (kind : Record) (n : ℕ) (beside f : List ℕ) (a b : Tested) → a ≡ tested kind n beside f →
+    b ≡ tested kind n beside f → a ≡ b
 test-field-unique kind n beside = one-answer (tested kind n beside)
 
 pub judge-unique : (s : List ℕ) (words : ℕ) (a b : FileAnswer) (x y : List ℕ) → Judges s words a x → Judges s words b y → (a ≡ b) × (x ≡ y)

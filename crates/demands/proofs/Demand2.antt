@@ -46,18 +46,29 @@ said answer starts = record { answer = answer; starts = starts }
 -- A file is accepted, with these totals and this list, exactly when it is allowed, the list has a word for each of its lines, the
 -- totals are those of its lines, and each word is where that line starts, every other 0. So a judge that refuses everything, one
 -- with a constant answer and invented counts are shut out.
-pub file-exactly : (s : List ℕ) (words : ℕ) (totals : Totals) (list : List ℕ) → Judges s words (AcceptedFile totals) list ↔ ((ls : List FileLine) × AllowedFile s ls × (length ls ≤ words) × (totals ≡ totalsOf ls) × (list ≡ listOf words (lineStarts 0 ls)))
+pub file-exactly : (s : List ℕ) (words : ℕ) (totals : Totals) (list : List ℕ) → Judges s words (AcceptedFile totals) list ↔
+    ((ls : List FileLine) × AllowedFile s ls × (length ls ≤ words) × (totals ≡ totalsOf ls) × (list ≡ listOf words (lineStarts 0 ls)))
 unfolding said
 file-exactly s words totals list = (forth, back)
   where
-    forth : Judges s words (AcceptedFile totals) list → (ls : List FileLine) × AllowedFile s ls × (length ls ≤ words) × (totals ≡ totalsOf ls) × (list ≡ listOf words (lineStarts 0 ls))
+    forth : Judges s words (AcceptedFile totals) list → (ls : List FileLine) ×
+        AllowedFile s ls × (length ls ≤ words) × (totals ≡ totalsOf ls) × (list ≡ listOf words (lineStarts 0 ls))
     forth j =
-        let g = accepted-allowed s words totals (judged s words .starts) (ap (λ (a : FileAnswer). said a (judged s words .starts)) (sym (j .0))) in
+        let g = accepted-allowed s words totals (judged s words .starts) (ap
+        (λ (a : FileAnswer). said a (judged s words .starts)) (sym (j .0))) in
         (g .lines, g .allowed, g .room, g .counts, j .1 ∙ ap (listOf words) (g .list))
 
-    back : (ls : List FileLine) × AllowedFile s ls × (length ls ≤ words) × (totals ≡ totalsOf ls) × (list ≡ listOf words (lineStarts 0 ls)) → Judges s words (AcceptedFile totals) list
+    back : (ls : List FileLine) × AllowedFile s ls × (length ls ≤ words) × (totals ≡ totalsOf ls) ×
+        (list ≡ listOf words (lineStarts 0 ls)) → Judges s words (AcceptedFile totals) list
     back g =
-        let e = allowed-accepted s words totals (lineStarts 0 (g .0)) (record { lines = g .0; allowed = g .1; room = g .2; counts = g .3; list = refl }) in
+        let e = allowed-accepted s words totals (lineStarts 0 (g .0)) (record {
+          lines = g .0;
+          allowed = g .1;
+          room = g .2;
+          counts =
+              g .3;
+          list = refl;
+        }) in
         (sym (ap (λ (j : Judged). j .answer) e), g .4 ∙ sym (ap (λ (j : Judged). listOf words (j .starts)) e))
 
 -- No other division of the bytes into lines exists: the lines of an allowed file are its own.
@@ -66,18 +77,21 @@ one-division-into-lines s ls ks a b = one-division ls ks (a .lines) (b .lines) (
 
 -- A line alone is accepted exactly when the bytes from the offset on are the rendering of an allowed line; the answer names its
 -- record, its count and where the next line starts.
-pub line-exactly : (s : List ℕ) (at : ℕ) (line : Line) → (lineAnswer Any s at ≡ AcceptedLine line) ↔ ((fs : List (List ℕ)) × Reads Any s at line fs)
+pub line-exactly : (s : List ℕ) (at : ℕ) (line : Line) → (lineAnswer Any s at ≡ AcceptedLine line) ↔
+    ((fs : List (List ℕ)) × Reads Any s at line fs)
 line-exactly s at line = lines.line-exactly Any s at line
 
 -- Of an accepted line each field is found where it stands, and no other.
-pub field-exactly : (s : List ℕ) (at : ℕ) (line : Line) (fs : List (List ℕ)) (n start long : ℕ) → Reads Any s at line fs → (fieldAnswer s at n ≡ Found start long) ↔ Finds (line .kind) fs s at n start long
+pub field-exactly : (s : List ℕ) (at : ℕ) (line : Line) (fs : List (List ℕ)) (n start long : ℕ) → Reads Any s at line fs →
+    (fieldAnswer s at n ≡ Found start long) ↔ Finds (line .kind) fs s at n start long
 field-exactly s at line fs n start long g = finding.field-exactly g n start long
 
 -- "A written line reads back to its fields": the bytes that were written, by themselves, are accepted as the line of that record and
 -- of those fields, and each field is found again.
 pub written-reads-back :
     (number : ℕ) (text ends out : List ℕ) (fill n : ℕ) (after : List ℕ) → Writes number text ends out fill (Written n) after →
-    (kind : Record) × ((recordNumbered number ≡ Known kind) × ((length (take n (drop fill after)) ≡ n) × ReadsBack kind (between text ends) (take n (drop fill after))))
+    (kind : Record) × ((recordNumbered number ≡ Known kind) × ((length (take n (drop fill after)) ≡ n) ×
+    ReadsBack kind (between text ends) (take n (drop fill after))))
 written-reads-back = writing.reads-back
 
 -- "an accepted line written again gives its own bytes", wherever there is room for it
@@ -90,7 +104,8 @@ accepted-writes-again s at line fs g = writing.writes-again g
 
 -- a line is written exactly when its record is known, its ends hold, it is allowed and there is room; so a writer that writes nothing
 -- is shut out
-pub written-exactly : (number : ℕ) (text ends : List ℕ) (size fill n : ℕ) → (writeAnswer number text ends size fill ≡ Written n) ↔ Writable number text ends size fill n
+pub written-exactly : (number : ℕ) (text ends : List ℕ) (size fill n : ℕ) → (writeAnswer number text ends size fill ≡ Written n) ↔
+    Writable number text ends size fill n
 written-exactly = writing.written-exactly
 
 -- a tracking number or label code is accepted exactly when it has its kind's length and shape and its check closes the carry
@@ -102,10 +117,13 @@ pub iban-exactly : (s : List ℕ) → (checkedIban s ≡ AcceptedIban) ↔ Sound
 iban-exactly s = (ibans.accepted-sound s, ibans.sound-accepted s)
 
 -- what issuing writes is accepted
-pub issued-is-accepted : (body out after : List ℕ) (n : ℕ) → Issues body out (Issued n) after → (k : Kind) × (checkedNumber (take n after) ≡ Accepted k)
-issued-is-accepted body out after n h = let g = issued-sound body out after n h in (g .0, numbers.sound-accepted (g .0) (take n after) (g .1))
+pub issued-is-accepted : (body out after : List ℕ) (n : ℕ) → Issues body out (Issued n) after →
+    (k : Kind) × (checkedNumber (take n after) ≡ Accepted k)
+issued-is-accepted body out after n h = let g = issued-sound body out after n h in
+    (g .0, numbers.sound-accepted (g .0) (take n after) (g .1))
 
 -- an accepted number is what issuing its body writes, wherever there is room for it: its check is the only one
-pub accepted-is-issued : (k : Kind) (s out after : List ℕ) (answer : IssueAnswer) → checkedNumber s ≡ Accepted k → length s ≤ length out → Issues (bodyOf s) out answer after
+pub accepted-is-issued : (k : Kind) (s out after : List ℕ) (answer : IssueAnswer) → checkedNumber s ≡ Accepted k → length s ≤ length out →
+    Issues (bodyOf s) out answer after
     → (answer ≡ Issued (length s)) × (after ≡ s ++ drop (length s) out)
 accepted-is-issued k s out after answer e room h = sound-issued k s out after answer (numbers.accepted-sound k s e) room h

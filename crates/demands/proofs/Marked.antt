@@ -10,5 +10,30 @@ use Rattle.forms.specs.Date.{standsFor, like, leap, daysIn, calendar, goodDay, 
 use Rattle.demands.specs.Marked.{AllHold, marked}
 
 pub marked-hold : AllHold marked
-unfolding valueOf step passes shapeOf allowedInNumber checkedAs checkedNumber digitsOf barred soundOf allowedInIban checkedIban amount decimal leadingZero cents digits allDigits dateTime like standsFor goodDay goodTime calendar daysIn leap
-marked-hold = (refl, (refl, (refl, (refl, (refl, (refl, (refl, (refl, (refl, (refl, (refl, (refl, (refl, (refl, (refl, (refl, tt))))))))))))))))
+unfolding valueOf step passes shapeOf allowedInNumber checkedAs checkedNumber digitsOf barred soundOf allowedInIban checkedIban amount
+    decimal leadingZero cents digits allDigits dateTime like standsFor goodDay goodTime calendar daysIn leap
+marked-hold = (
+  refl,
+  (
+    refl,
+    (
+      refl,
+      (
+        refl,
+        (
+          refl,
+          (
+            refl,
+            (
+              refl,
+              (
+                refl,
+                (refl, (refl, (refl, (refl, (refl, (refl, (refl, (refl, tt)))))))),
+              ),
+            ),
+          ),
+        ),
+      ),
+    ),
+  ),
+)

@@ -63,7 +63,8 @@ module _ (next : ℕ) (kind : Record) (en : next ≡ rowOf kind) where
       go Product = refl
       go Feature = refl
 
-  pub next-rows : (t : Bool) → t ≡ (eqb next 5 || (eqb next 2 || (eqb next 1 || false))) → t ≡ (eqb (rowOf kind) 5 || (eqb (rowOf kind) 2 || (eqb (rowOf kind) 1 || false)))
+  pub next-rows : (t : Bool) → t ≡ (eqb next 5 || (eqb next 2 || (eqb next 1 || false))) →
+      t ≡ (eqb (rowOf kind) 5 || (eqb (rowOf kind) 2 || (eqb (rowOf kind) 1 || false)))
   next-rows t e = e ∙ rw en
 
   pub last-rows : leb 4 next ≡ (eqb (rowOf kind) 4 || (eqb (rowOf kind) 5 || false))

@@ -56,7 +56,8 @@ spansEnd (to last wide width ∷ spans) = leb last 40 && spansEnd spans
 past-spans : (spans : List Span) (n : ℕ) → spansEnd spans ≡ true → 40 < n → widthIn spans n ≡ 0
 past-spans [] n e h = refl
 past-spans (to last wide width ∷ spans) n e h =
-    rw (lt-leb n last (omega (arith, leb-true last 40 (and-left (leb last 40) (spansEnd spans) e)))) (past-spans spans n (and-right (leb last 40) (spansEnd spans) e) h)
+    rw (lt-leb n last (omega (arith, leb-true last 40 (and-left (leb last 40) (spansEnd spans) e))))
+    (past-spans spans n (and-right (leb last 40) (spansEnd spans) e) h)
 
 abbrev numbersEnd : List ℕ → Bool
 numbersEnd [] = true
@@ -65,7 +66,8 @@ numbersEnd (m ∷ ms) = leb m 40 && numbersEnd ms
 past-numbers : (ms : List ℕ) (n : ℕ) → numbersEnd ms ≡ true → 40 < n → among n ms ≡ false
 past-numbers [] n e h = refl
 past-numbers (m ∷ ms) n e h =
-    rw (ne-eqb n m (λ q. omega (arith, leb-true m 40 (and-left (leb m 40) (numbersEnd ms) e)))) (past-numbers ms n (and-right (leb m 40) (numbersEnd ms) e) h)
+    rw (ne-eqb n m (λ q. omega (arith, leb-true m 40 (and-left (leb m 40) (numbersEnd ms) e))))
+    (past-numbers ms n (and-right (leb m 40) (numbersEnd ms) e) h)
 
 pub no-width : (kind : Record) (n : ℕ) → 40 < n → widthInTable kind n ≡ 0
 unfolding widthInTable widths

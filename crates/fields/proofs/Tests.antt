@@ -24,10 +24,12 @@ other-number Parcel n beside h = refl
 other-number Product n beside h = refl
 other-number Feature n beside h = rw (ne-eqb n 2 h)
 
-pub reference-as : (kind case : Record) (n : ℕ) (beside : List ℕ) (t : Bool) → kind ≡ case → t ≡ isCashReference case n beside → t ≡ isCashReference kind n beside
+pub reference-as : (kind case : Record) (n : ℕ) (beside : List ℕ) (t : Bool) → kind ≡ case → t ≡ isCashReference case n beside →
+    t ≡ isCashReference kind n beside
 reference-as kind case n beside t e f = rw e f
 
-pub reference-here : (kind : Record) (n : ℕ) (beside : List ℕ) (t : Bool) → kind ≡ Feature → n ≡ 2 → t ≡ isCash beside → t ≡ isCashReference kind n beside
+pub reference-here : (kind : Record) (n : ℕ) (beside : List ℕ) (t : Bool) → kind ≡ Feature → n ≡ 2 → t ≡ isCash beside →
+    t ≡ isCashReference kind n beside
 unfolding isCashReference
 reference-here kind n beside t ek en e = rw (ek, eq-eqb n 2 en) e
 

@@ -21,12 +21,14 @@ module _ (s : List ℕ) (earlier at : ℕ) (a : List ℕ) (ea : a ≡ take 3 (dr
   unfolding sameParcel
   no-parcel e = rw (← is-type, not-true t e)
 
-  pub parcel-same : not t ≡ false → (b c : List ℕ) → b ≡ take 22 (drop (earlier + 4) s) → c ≡ take 22 (drop (at + 4) s) → (u : Bool) → u ≡ same b c → u ≡ sameParcel s earlier at
+  pub parcel-same : not t ≡ false → (b c : List ℕ) → b ≡ take 22 (drop (earlier + 4) s) → c ≡ take 22 (drop (at + 4) s) → (u : Bool) →
+      u ≡ same b c → u ≡ sameParcel s earlier at
   unfolding sameParcel
   parcel-same e b c eb ec u eu = rw (← is-type, not-false t e, ← eb, ← ec) eu
 
 -- the loop over the earlier lines: each premise is a fact that the loop has
-module _ (s words : List ℕ) (lines at i : ℕ) (z : Bool) (fits : lines ≤ length words) (left : onEarlier s (drop i (take lines words)) at ≡ z) where
+module _ (s words : List ℕ) (lines at i : ℕ) (z : Bool) (fits : lines ≤ length words)
+    (left : onEarlier s (drop i (take lines words)) at ≡ z) where
   here : i < lines → drop i (take lines words) ≡ getD words i 0 ∷ drop (suc i) (take lines words)
   here h =
       drop-cons (take lines words) i 0 (omega (arith, length-take lines words))
@@ -43,7 +45,9 @@ module _ (s words : List ℕ) (lines at i : ℕ) (z : Bool) (fits : lines ≤ le
     earlier-on e = rw add-one (rw e at turn)
 
   pub earlier-none : lines ≤ i → false ≡ z
-  earlier-none h = sym (ap (λ (l : List ℕ). onEarlier s l at) (drop-of-length-le (take lines words) {i = i} (omega (arith, length-take lines words)))) ∙ left
+  earlier-none h = sym (ap (λ (l : List ℕ). onEarlier s l at) (drop-of-length-le (take lines words) {i =
+      i} (omega (arith, length-take lines words)))) ∙ left
 
-pub repeats-as : (kind case : Record) (s starts : List ℕ) (at : ℕ) (t : Bool) → kind ≡ case → t ≡ repeats case s starts at → t ≡ repeats kind s starts at
+pub repeats-as : (kind case : Record) (s starts : List ℕ) (at : ℕ) (t : Bool) → kind ≡ case → t ≡ repeats case s starts at →
+    t ≡ repeats kind s starts at
 repeats-as kind case s starts at t e f = rw e f

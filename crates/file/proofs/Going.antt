@@ -70,7 +70,8 @@ parcels-le Product = omega arith
 parcels-le Feature = omega arith
 
 -- where no line is listed all words are 0
-no-lines : (s : List ℕ) (m : ℕ) (words : List ℕ) → length words ≡ m → (j : Judged) → j .starts ≡ [] → replicate (length words) 0 ≡ listOf m (j .starts)
+no-lines : (s : List ℕ) (m : ℕ) (words : List ℕ) → length words ≡ m → (j : Judged) → j .starts ≡ [] →
+    replicate (length words) 0 ≡ listOf m (j .starts)
 no-lines s m words long j e = let k : length words ≡ m - 0 = omega arith in ap (λ (n : ℕ). replicate n 0) k ∙ sym (ap (listOf m) e)
 
 module _ (s : List ℕ) (m : ℕ) (h : 65535 < length s) where
@@ -81,12 +82,14 @@ module _ (s : List ℕ) (m : ℕ) (h : 65535 < length s) where
   pub long-answer : Refused FileTooLong 65535 ≡ judged s m .answer
   long-answer = sym (ap (λ (j : Judged). j .answer) long-is)
 
-  pub long-list : (words : List ℕ) → length words ≡ m → (list : List ℕ) → list ≡ replicate (length words) 0 → list ≡ listOf m (judged s m .starts)
+  pub long-list : (words : List ℕ) → length words ≡ m → (list : List ℕ) → list ≡ replicate (length words) 0 →
+      list ≡ listOf m (judged s m .starts)
   long-list words long list e = e ∙ no-lines s m words long (judged s m) (ap (λ (j : Judged). j .starts) long-is)
 
 module _ (s : List ℕ) (m : ℕ) (words : List ℕ) (state : State) (g : Going s m words state) where
   -- the turn that is due
-  turn : state .at < length s → onStep (stepAnswer s m (take (state .lines) words) state) (λ next. fileFrom (length s - state .lines) s m (take (state .lines) words ++ (state .at ∷ [])) next) ≡ judged s m
+  turn : state .at < length s → onStep (stepAnswer s m (take (state .lines) words) state)
+      (λ next. fileFrom (length s - state .lines) s m (take (state .lines) words ++ (state .at ∷ [])) next) ≡ judged s m
   turn h =
       let k : length s + 1 - state .lines ≡ suc (length s - state .lines) = omega (arith, g .lines) in
       sym (ap (λ (n : ℕ). fileFrom n s m (take (state .lines) words) state) k ∙ rw (lt-ltb (state .at) (length s) h)) ∙ g .going
@@ -115,7 +118,8 @@ module _ (s : List ℕ) (m : ℕ) (words : List ℕ) (state : State) (g : Going 
         let now = behind s state line in
         let after = next-after (state .due) s (state .at) (lineAnswer (state .due) s (state .at)) refl line (w .accepted) in
         let fewer : length s + 1 - (state .lines + 1) ≡ length s - state .lines = omega arith in
-        let on : fileFrom (length s - state .lines) s m (take (state .lines) words ++ (state .at ∷ [])) now ≡ judged s m = rw (sym es ∙ e, ← w .there) at (turn h) in
+        let on : fileFrom (length s - state .lines) s m (take (state .lines) words ++ (state .at ∷ [])) now ≡ judged s m =
+        rw (sym es ∙ e, ← w .there) at (turn h) in
         let more : Going s m (set words (state .lines) (state .at)) now =
         record {
           small = g .small;
@@ -126,7 +130,8 @@ module _ (s : List ℕ) (m : ℕ) (words : List ℕ) (state : State) (g : Going 
           cents = omega (arith, g .cents, cash-below (line .kind) (split (textAt s (state .at))));
           cleared = fill-back words (state .lines) m (state .at) (g .long) (w .room) (g .cleared);
           going = ap (λ (n : ℕ). fileFrom n s m (take (state .lines + 1) (set words (state .lines) (state .at))) now) fewer
-              ∙ ap (λ (l : List ℕ). fileFrom (length s - state .lines) s m l now) (fill-front words (state .lines) m (state .at) (g .long) (w .room) (g .cleared))
+              ∙ ap (λ (l : List ℕ). fileFrom (length s - state .lines) s m l now)
+              (fill-front words (state .lines) m (state .at) (g .long) (w .room) (g .cleared))
               ∙ on;
         } in
         rw (w .there) at more
@@ -160,14 +165,24 @@ module _ (s : List ℕ) (m : ℕ) (words : List ℕ) (state : State) (g : Going 
       pub due-list : not t ≡ true → (list : List ℕ) → list ≡ replicate (length words) 0 → list ≡ listOf m (judged s m .starts)
       due-list e list el = el ∙ no-lines s m words (g .long) (judged s m) (ap (λ (j : Judged). j .starts) (due-left e))
 
-      all-read : not t ≡ false → judged s m ≡ record { answer = Accepted (record { lines = state .lines; parcels = state .parcels; cents = state .cents }); starts = take (state .lines) words }
+      all-read : not t ≡ false → judged s m ≡ record {
+        answer = Accepted
+            (record { lines = state .lines; parcels = state .parcels; cents = state .cents });
+        starts = take (state .lines) words;
+      }
       all-read e = at-end ∙ rw (← et, not-false t e)
 
-      pub end-answer : not t ≡ false → Accepted (record { lines = state .lines; parcels = state .parcels; cents = state .cents }) ≡ judged s m .answer
+      pub end-answer : not t ≡ false → Accepted (record {
+        lines = state .lines;
+        parcels = state .parcels;
+        cents =
+            state .cents;
+      }) ≡ judged s m .answer
       end-answer e = sym (ap (λ (j : Judged). j .answer) (all-read e))
 
       pub end-list : not t ≡ false → words ≡ listOf m (judged s m .starts)
-      end-list e = list-whole words (state .lines) m (g .long) (g .room) (g .cleared) ∙ sym (ap (λ (j : Judged). listOf m (j .starts)) (all-read e))
+      end-list e = list-whole words (state .lines) m (g .long) (g .room) (g .cleared) ∙ sym
+          (ap (λ (j : Judged). listOf m (j .starts)) (all-read e))
 
 pub handed-as : (step case : Step) (r : FileAnswer) → step ≡ case → r ≡ handed case → r ≡ handed step
 handed-as step case r e f = rw e f
@@ -180,5 +195,6 @@ module _ (s : List ℕ) (m n : ℕ) (e : m ≡ n) where
   pub same-list : (list : List ℕ) → list ≡ listOf m (judged s m .starts) → list ≡ listOf n (judged s n .starts)
   same-list list el = el ∙ ap (λ (k : ℕ). listOf k (judged s k .starts)) e
 
-pub clear-now : (words words₀ : List ℕ) → length words ≡ length words₀ → words ≡ replicate (length words₀) 0 → words ≡ replicate (length words) 0
+pub clear-now : (words words₀ : List ℕ) → length words ≡ length words₀ → words ≡ replicate (length words₀) 0 →
+    words ≡ replicate (length words) 0
 clear-now words words₀ long e = e ∙ ap (λ (k : ℕ). replicate k 0) (sym long)

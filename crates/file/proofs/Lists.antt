@@ -20,7 +20,8 @@ module _ (words₀ words : List ℕ) (i : ℕ) (e : words ≡ replicate i 0 ++ d
   pub clear-done : i ≤ length words₀ → length words ≤ i → words ≡ replicate (length words₀) 0
   clear-done l h =
       let n : i ≡ length words₀ = omega arith in
-      e ∙ ap (λ (w : List ℕ). replicate i 0 ++ w) (drop-of-length-le words₀ {i = i} (omega arith)) ∙ append-nil (replicate i 0) ∙ ap (λ (k : ℕ). replicate k 0) n
+      e ∙ ap (λ (w : List ℕ). replicate i 0 ++ w) (drop-of-length-le words₀ {i = i} (omega arith)) ∙ append-nil (replicate i 0)
+      ∙ ap (λ (k : ℕ). replicate k 0) n
 
 -- one word more of the list is filled
 module _ (words : List ℕ) (n m v : ℕ) (long : length words ≡ m) (room : n < m) (zeros : drop n words ≡ replicate (m - n) 0) where
@@ -30,11 +31,13 @@ module _ (words : List ℕ) (n m v : ℕ) (long : length words ≡ m) (room : n 
   pub fill-back : drop (n + 1) (set words n v) ≡ replicate (m - (n + 1)) 0
   fill-back =
       let k : m - n ≡ suc (m - (n + 1)) = omega arith in
-      let both : getD words n 0 ∷ drop (suc n) words ≡ replicate (suc (m - (n + 1))) 0 = sym (drop-cons words n 0 (omega arith)) ∙ zeros ∙ ap (λ (j : ℕ). replicate j 0) k in
+      let both : getD words n 0 ∷ drop (suc n) words ≡ replicate (suc (m - (n + 1))) 0 = sym (drop-cons words n 0 (omega arith)) ∙ zeros
+      ∙ ap (λ (j : ℕ). replicate j 0) k in
       drop-set-lt (n + 1) words n v (omega arith) ∙ ap (λ (j : ℕ). drop j words) (add-one n) ∙ ap (drop 1) both
 
 -- a list whose words behind the first n are 0
-pub list-whole : (words : List ℕ) (n m : ℕ) → length words ≡ m → n ≤ m → drop n words ≡ replicate (m - n) 0 → words ≡ take n words ++ replicate (m - length (take n words)) 0
+pub list-whole : (words : List ℕ) (n m : ℕ) → length words ≡ m → n ≤ m → drop n words ≡ replicate (m - n) 0 →
+    words ≡ take n words ++ replicate (m - length (take n words)) 0
 list-whole words n m long h zeros =
     let k : length (take n words) ≡ n = omega (arith, length-take n words) in
     sym (take-append-drop n words) ∙ ap (λ (w : List ℕ). take n words ++ w) (zeros ∙ ap (λ (j : ℕ). replicate (m - j) 0) (sym k))

@@ -50,11 +50,20 @@ module _ (s : List ℕ) (words : ℕ) (starts : List ℕ) (state : State) (a : L
       list-stops h = stepped (Stopped ListFull (state .at)) (rw (el, ← et, fresh, le-leb words (state .lines) h))
 
       pub line-next :
-          state .lines < words → (p c : ℕ) → p ≡ parcelsIn (line .kind) → c ≡ cashOf (line .kind) (split (take (line .next - 2 - state .at) (drop (state .at) s))) →
-          Next (record { at = line .next; lines = state .lines + 1; parcels = state .parcels + p; cents = state .cents + c; due = After (line .kind) }) ≡ stepAnswer s words starts state
+          state .lines < words → (p c : ℕ) → p ≡ parcelsIn (line .kind) →
+          c ≡ cashOf (line .kind) (split (take (line .next - 2 - state .at) (drop (state .at) s))) →
+          Next (record {
+            at = line .next;
+            lines = state .lines + 1;
+            parcels = state .parcels + p;
+            cents = state .cents + c;
+            due =
+                After (line .kind);
+          }) ≡ stepAnswer s words starts state
       unfolding onLine
       line-next h p c ep ec =
-          let cash : c ≡ cashOf (line .kind) (split (textAt s (state .at))) = ec ∙ ap (λ (x : List ℕ). cashOf (line .kind) (split x)) (text-is (state .due) s (state .at) a ea line el) in
+          let cash : c ≡ cashOf (line .kind) (split (textAt s (state .at))) = ec
+          ∙ ap (λ (x : List ℕ). cashOf (line .kind) (split x)) (text-is (state .due) s (state .at) a ea line el) in
           stepped (Next _) (rw (el, ← et, fresh, lt-leb words (state .lines) h, ep, cash))
 
 -- a step that goes on went over an accepted line, with a word for it
@@ -68,14 +77,17 @@ pub record Went (s : List ℕ) (words : ℕ) (starts : List ℕ) (state next : S
 pub stopped : {why : Refusal} {place : ℕ} {next : State} → Stopped why place ≡ Next next → ⊥
 stopped e = let z : _≡_ {A = ℕ} 0 1 = cc in omega arith
 
-pub went : (s : List ℕ) (words : ℕ) (starts : List ℕ) (state next : State) → stepAnswer s words starts state ≡ Next next → Went s words starts state next
+pub went : (s : List ℕ) (words : ℕ) (starts : List ℕ) (state next : State) → stepAnswer s words starts state ≡ Next next →
+    Went s words starts state next
 unfolding stepAnswer onLine
 went s words starts state next e = go (lineAnswer (state .due) s (state .at)) refl e
   where
-    go : (a : LineAnswer) → lineAnswer (state .due) s (state .at) ≡ a → onLine a s words starts state ≡ Next next → Went s words starts state next
+    go : (a : LineAnswer) → lineAnswer (state .due) s (state .at) ≡ a → onLine a s words starts state ≡ Next next →
+        Went s words starts state next
     go (Refused why place) ea e = absurd (stopped e)
     go (Accepted line) ea e =
         let full = leb words (state .lines) in
-        let a = came-else (repeats (line .kind) s starts (state .at)) (Stopped IdentcodeRepeated (state .at + 4)) (if full then Stopped ListFull (state .at) else Next (behind s state line)) (Next next) stopped e in
+        let a = came-else (repeats (line .kind) s starts (state .at)) (Stopped IdentcodeRepeated (state .at + 4))
+        (if full then Stopped ListFull (state .at) else Next (behind s state line)) (Next next) stopped e in
         let b = came-else full (Stopped ListFull (state .at)) (Next (behind s state line)) (Next next) stopped (a .1) in
         record { line = line; accepted = ea; fresh = a .0; room = leb-false words (state .lines) (b .0); there = cc }

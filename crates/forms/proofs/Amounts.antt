@@ -85,8 +85,12 @@ module _ (s : List ℕ) where
       let e₂ = and-right (leb n 6) d e₁ in
       let e₃ = and-right (allDigits (whole s)) p e₂ in
       let least = leb-true 1 n (and-left (leb 1 n) (leb n 6 && d) e) in
-      let most = leb-true n 6 (and-left (leb n 6) d e₁) in
-      (omega (arith, least, whole-long), omega (arith, most, whole-long), and-left (allDigits (whole s)) p e₂, and-right (eqb (getD s (length s - 3) 0) 46) (digits 2 (hundredths s)) e₃)
+      let most = leb-true n 6 (and-left (leb n 6) d e₁) in (
+        omega (arith, least, whole-long),
+        omega (arith, most, whole-long),
+        and-left (allDigits (whole s)) p e₂,
+        and-right (eqb (getD s (length s - 3) 0) 46) (digits 2 (hundredths s)) e₃,
+      )
 
   pub decimal-least : decimal s ≡ true → 4 ≤ length s
   decimal-least e = decimal-parts e .0

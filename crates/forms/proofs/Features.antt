@@ -31,7 +31,8 @@ thirty = refl
 -- the codes from the place i on settle it, and the one there is x
 module _ (code i x : ℕ) (z : Bool) where
   pub code-on :
-      i < 30 → x ≡ getD featureCodes i 0 → (code ≡ x → ⊥) → among code (drop i featureCodes) ≡ z → among code (drop (i + 1) featureCodes) ≡ z
+      i < 30 → x ≡ getD featureCodes i 0 → (code ≡ x → ⊥) → among code (drop i featureCodes) ≡ z →
+      among code (drop (i + 1) featureCodes) ≡ z
   code-on h e n f = among-on code featureCodes i z (omega (arith, thirty)) (rw (← e) n) f
 
   pub code-here : i < 30 → x ≡ getD featureCodes i 0 → code ≡ x → among code (drop i featureCodes) ≡ z → true ≡ z

@@ -28,19 +28,25 @@ run ok i (b ∷ s) = go (ok b) refl (run ok (suc i) s)
     go true e r = record { long = suc (r .long); ends = rw e (omega (arith, r .ends)); passes = rw e (r .passes) }
     go false e r = record { long = 0; ends = rw e (sym (add-zero i)); passes = refl }
 
-pub run-past : (ok : ℕ → Bool) (i : ℕ) (f : List ℕ) (x : ℕ) (rest : List ℕ) → all ok f ≡ true → ok x ≡ false → firstFailing (λ _ b. ok b) i (f ++ x ∷ rest) ≡ i + length f
+pub run-past : (ok : ℕ → Bool) (i : ℕ) (f : List ℕ) (x : ℕ) (rest : List ℕ) → all ok f ≡ true → ok x ≡ false →
+    firstFailing (λ _ b. ok b) i (f ++ x ∷ rest) ≡ i + length f
 run-past ok i [] x rest e d = rw d (sym (add-zero i))
 run-past ok i (b ∷ f) x rest e d =
     let h : ok b ≡ true = and-left (ok b) (all ok f) e in
     rw h (omega (arith, run-past ok (suc i) f x rest (and-right (ok b) (all ok f) e) d))
 
 -- two texts, each in front of a byte that fails the test, are one
-pub run-once : (ok : ℕ → Bool) (f g : List ℕ) (x y : ℕ) (r q : List ℕ) → all ok f ≡ true → all ok g ≡ true → ok x ≡ false → ok y ≡ false → f ++ x ∷ r ≡ g ++ y ∷ q → (f ≡ g) × (x ∷ r ≡ y ∷ q)
+pub run-once : (ok : ℕ → Bool) (f g : List ℕ) (x y : ℕ) (r q : List ℕ) → all ok f ≡ true → all ok g ≡ true → ok x ≡ false → ok y ≡ false →
+    f ++ x ∷ r ≡ g ++ y ∷ q → (f ≡ g) × (x ∷ r ≡ y ∷ q)
 run-once ok f g x y r q e d c b h =
     let n : length f ≡ length g =
     omega (arith, sym (run-past ok 0 f x r e c) ∙ ap (λ (l : List ℕ). firstFailing (λ _ b. ok b) 0 l) h ∙ run-past ok 0 g y q d b)
-    in
-    (sym (take-append-seam f (x ∷ r)) ∙ ap (λ (l : List ℕ). take (length f) l) h ∙ rw n (take-append-seam g (y ∷ q)), sym (drop-append-seam f (x ∷ r)) ∙ ap (λ (l : List ℕ). drop (length f) l) h ∙ rw n (drop-append-seam g (y ∷ q)))
+    in (
+      sym (take-append-seam f (x ∷ r)) ∙ ap (λ (l : List ℕ). take (length f) l) h
+          ∙ rw n (take-append-seam g (y ∷ q)),
+      sym (drop-append-seam f (x ∷ r)) ∙ ap (λ (l : List ℕ). drop (length f) l) h
+          ∙ rw n (drop-append-seam g (y ∷ q)),
+    )
 
 -- the line at an offset, where it ends well
 pub record Ended (s : List ℕ) (at : ℕ) : Type 0 where
@@ -61,7 +67,8 @@ ended s at e =
       rest = drop 2 past;
       whole =
           sym (take-append-drop (r .long) (drop at s))
-          ∙ ap (λ (l : List ℕ). take (r .long) (drop at s) ++ l) (sym p ∙ sym (take-append-drop 2 past) ∙ ap (λ (l : List ℕ). l ++ drop 2 past) two)
+          ∙ ap (λ (l : List ℕ). take (r .long) (drop at s) ++ l) (sym p ∙ sym (take-append-drop 2 past)
+          ∙ ap (λ (l : List ℕ). l ++ drop 2 past) two)
           ∙ sym (append-assoc (take (r .long) (drop at s)) (bytes "\r\n") (drop 2 past))
           ∙ ap (λ (i : ℕ). take i (drop at s) ++ bytes "\r\n" ++ drop 2 past) (sym n);
     }

@@ -54,7 +54,9 @@ module _ (kind : Record) (n : ℕ) (beside f : List ℕ) where
   pub field-good : FieldOk kind n beside f → tested kind n beside f ≡ Good
   field-good g =
       ⊎-elim
-      (λ (z : length f ≡ 0). ⊎-elim (λ (r : isRequired kind n ≡ true). absurd (g .filled r z)) (λ r. sym (empty-good kind n beside f (widthOf kind n beside) refl (g .fits) z (isRequired kind n) refl r)) (true-or-false (isRequired kind n)))
+      (λ (z : length f ≡ 0). ⊎-elim (λ (r : isRequired kind n ≡ true). absurd (g .filled r z))
+      (λ r. sym (empty-good kind n beside f (widthOf kind n beside) refl (g .fits) z (isRequired kind n) refl r))
+      (true-or-false (isRequired kind n)))
       (λ z. sym (form-good kind n beside f (widthOf kind n beside) refl (g .fits) z (hasForm kind n beside f) refl (g .formed z)))
       (eq-or-ne (length f) 0)
 
@@ -62,26 +64,35 @@ pub on-fine : (t : Tested) (place : ℕ) (rest : Walk) → onTest t place rest �
 on-fine Good place rest e = (refl, e)
 on-fine (Bad why) place rest e = absurd (stopped e)
 
-pub fine-fields : (kind : Record) (n place : ℕ) (beside : List ℕ) (fs : List (List ℕ)) → allIn plain fs ≡ true → walk kind n place beside fs ≡ Fine → FieldsOk kind n beside fs
+pub fine-fields : (kind : Record) (n place : ℕ) (beside : List ℕ) (fs : List (List ℕ)) → allIn plain fs ≡ true →
+    walk kind n place beside fs ≡ Fine → FieldsOk kind n beside fs
 fine-fields kind n place beside [] p e = tt
 fine-fields kind n place beside (f ∷ fs) p e =
-    let a = on-fine (tested kind n beside f) place (walk kind (suc n) (place + length f + 1) f fs) e in
-    (good-field kind n beside f (and-left (all plain f) (allIn plain fs) p) (a .0), fine-fields kind (suc n) (place + length f + 1) f fs (and-right (all plain f) (allIn plain fs) p) (a .1))
+    let a = on-fine (tested kind n beside f) place (walk kind (suc n) (place + length f + 1) f fs) e in (
+      good-field kind n beside f (and-left (all plain f) (allIn plain fs) p) (a .0),
+      fine-fields kind (suc n) (place + length f + 1) f fs
+          (and-right (all plain f) (allIn plain fs) p) (a .1),
+    )
 
-pub fields-fine : (kind : Record) (n place : ℕ) (beside : List ℕ) (fs : List (List ℕ)) → FieldsOk kind n beside fs → walk kind n place beside fs ≡ Fine
+pub fields-fine : (kind : Record) (n place : ℕ) (beside : List ℕ) (fs : List (List ℕ)) → FieldsOk kind n beside fs →
+    walk kind n place beside fs ≡ Fine
 fields-fine kind n place beside [] g = refl
-fields-fine kind n place beside (f ∷ fs) g = rw (field-good kind n beside f (g .0)) (fields-fine kind (suc n) (place + length f + 1) f fs (g .1))
+fields-fine kind n place beside (f ∷ fs) g = rw (field-good kind n beside f (g .0)) (fields-fine kind (suc n) (place + length f + 1) f fs
+    (g .1))
 
 -- the field with a number, and the part in front of it
-fields-at : (kind : Record) (n : ℕ) (beside : List ℕ) (fs : List (List ℕ)) → FieldsOk kind n beside fs → (m : ℕ) → m < length fs → FieldOk kind (n + m) (getD (beside ∷ fs) m []) (getD fs m [])
+fields-at : (kind : Record) (n : ℕ) (beside : List ℕ) (fs : List (List ℕ)) → FieldsOk kind n beside fs → (m : ℕ) → m < length fs →
+    FieldOk kind (n + m) (getD (beside ∷ fs) m []) (getD fs m [])
 fields-at kind n beside [] g m h = absurd (not-suc-le-zero h)
 fields-at kind n beside (f ∷ fs) g zero h = rw add-zero (g .0)
 fields-at kind n beside (f ∷ fs) g (suc m) h = rw (add-suc n m, ← suc-add n m) (fields-at kind (suc n) f fs (g .1) m (le-of-suc-le-suc h))
 
-pub field-at : (kind : Record) (fs : List (List ℕ)) → LineOk kind fs → (n : ℕ) → 1 ≤ n → n ≤ length fs → FieldOk kind n (getD (typeOf kind ∷ fs) (n - 1) []) (fieldNo fs n)
+pub field-at : (kind : Record) (fs : List (List ℕ)) → LineOk kind fs → (n : ℕ) → 1 ≤ n → n ≤ length fs →
+    FieldOk kind n (getD (typeOf kind ∷ fs) (n - 1) []) (fieldNo fs n)
 field-at kind fs g n h l =
     let e : 1 + (n - 1) ≡ n = omega arith in
-    let f : FieldOk kind (1 + (n - 1)) (getD (typeOf kind ∷ fs) (n - 1) []) (fieldNo fs n) = fields-at kind 1 (typeOf kind) fs (g .fields) (n - 1) (omega arith) in
+    let f : FieldOk kind (1 + (n - 1)) (getD (typeOf kind ∷ fs) (n - 1) []) (fieldNo fs n) =
+    fields-at kind 1 (typeOf kind) fs (g .fields) (n - 1) (omega arith) in
     rw e at f
 
 -- the bytes of the fields
@@ -96,7 +107,8 @@ module _ (p q : ℕ → Bool) (w : (b : ℕ) → p b ≡ true → q b ≡ true) 
 
   pub all-in-also : (fs : List (List ℕ)) → allIn p fs ≡ true → allIn q fs ≡ true
   all-in-also [] e = refl
-  all-in-also (f ∷ fs) e = and-both (all q f) (allIn q fs) (all-also f (and-left (all p f) (allIn p fs) e)) (all-in-also fs (and-right (all p f) (allIn p fs) e))
+  all-in-also (f ∷ fs) e = and-both (all q f) (allIn q fs) (all-also f (and-left (all p f) (allIn p fs) e))
+      (all-in-also fs (and-right (all p f) (allIn p fs) e))
 
 pub plain-text : (b : ℕ) → plain b ≡ true → textByte b ≡ true
 plain-text b e = and-left (textByte b) (inField b) e
@@ -106,22 +118,26 @@ plain-in-field b e = and-right (textByte b) (inField b) e
 
 pub all-append : (ok : ℕ → Bool) (f g : List ℕ) → all ok f ≡ true → all ok g ≡ true → all ok (f ++ g) ≡ true
 all-append ok [] g e d = d
-all-append ok (b ∷ f) g e d = and-both (ok b) (all ok (f ++ g)) (and-left (ok b) (all ok f) e) (all-append ok f g (and-right (ok b) (all ok f) e) d)
+all-append ok (b ∷ f) g e d = and-both (ok b) (all ok (f ++ g)) (and-left (ok b) (all ok f) e)
+    (all-append ok f g (and-right (ok b) (all ok f) e) d)
 
 pub joined-text : (fs : List (List ℕ)) → allIn textByte fs ≡ true → all textByte (joined fs) ≡ true
 joined-text [] e = refl
-joined-text (f ∷ fs) e = all-append textByte f (joined fs) (and-left (all textByte f) (allIn textByte fs) e) (joined-text fs (and-right (all textByte f) (allIn textByte fs) e))
+joined-text (f ∷ fs) e = all-append textByte f (joined fs) (and-left (all textByte f) (allIn textByte fs) e)
+    (joined-text fs (and-right (all textByte f) (allIn textByte fs) e))
 
 -- a text that is split has only plain bytes in its parts
 into-plain : (b : ℕ) (parts : List (List ℕ)) → plain b ≡ true → allIn plain parts ≡ true → allIn plain (intoFirst b parts) ≡ true
 into-plain b [] e d = simp e
 into-plain b (part ∷ parts) e d =
-    and-both (all plain (b ∷ part)) (allIn plain parts) (and-both (plain b) (all plain part) e (and-left (all plain part) (allIn plain parts) d)) (and-right (all plain part) (allIn plain parts) d)
+    and-both (all plain (b ∷ part)) (allIn plain parts) (and-both (plain b) (all plain part) e
+    (and-left (all plain part) (allIn plain parts) d)) (and-right (all plain part) (allIn plain parts) d)
 
 pub split-plain : (line : List ℕ) → all textByte line ≡ true → allIn plain (split line) ≡ true
 split-plain [] e = refl
 split-plain (b ∷ line) e = go (semicolon b) refl (split-plain line (and-right (textByte b) (all textByte line) e))
   where
-    go : (t : Bool) → semicolon b ≡ t → allIn plain (split line) ≡ true → allIn plain (if t then [] ∷ split line else intoFirst b (split line)) ≡ true
+    go : (t : Bool) → semicolon b ≡ t → allIn plain (split line) ≡ true →
+        allIn plain (if t then [] ∷ split line else intoFirst b (split line)) ≡ true
     go true d h = h
     go false d h = into-plain b (split line) (and-both (textByte b) (inField b) (and-left (textByte b) (all textByte line) e) (rw d)) h

@@ -35,14 +35,16 @@ start-joined [] (suc m) = refl
 start-joined (f ∷ fs) (suc m) = omega (arith, start-joined fs m, length-append f (joined (take m fs)))
 
 -- the field with the number m + 1 between those in front of it and those behind it
-joined-at : (fs : List (List ℕ)) (m : ℕ) → m < length fs → joined fs ≡ joined (take m fs) ++ bytes ";" ++ (getD fs m [] ++ joined (drop (suc m) fs))
+joined-at : (fs : List (List ℕ)) (m : ℕ) → m < length fs → joined fs ≡ joined (take m fs) ++
+    bytes ";" ++ (getD fs m [] ++ joined (drop (suc m) fs))
 joined-at [] m h = absurd (not-suc-le-zero h)
 joined-at (f ∷ fs) zero h = refl
 joined-at (f ∷ fs) (suc m) h =
     let front = joined (take m fs) in
     let back = getD fs m [] ++ joined (drop (suc m) fs) in
     ap (λ (l : List ℕ). 59 ∷ l)
-    (ap (λ (l : List ℕ). f ++ l) (joined-at fs m (le-of-suc-le-suc h)) ∙ sym (append-assoc f (front ++ bytes ";") back) ∙ ap (λ (l : List ℕ). l ++ back) (sym (append-assoc f front (bytes ";"))))
+    (ap (λ (l : List ℕ). f ++ l) (joined-at fs m (le-of-suc-le-suc h)) ∙ sym (append-assoc f (front ++ bytes ";") back)
+    ∙ ap (λ (l : List ℕ). l ++ back) (sym (append-assoc f front (bytes ";"))))
 
 module _ {due : Due} {s : List ℕ} {at : ℕ} {line : Line} {fs : List (List ℕ)} (g : Reads due s at line fs) where
   -- what stands in front of the field with the number m + 1
@@ -52,7 +54,12 @@ module _ {due : Due} {s : List ℕ} {at : ℕ} {line : Line} {fs : List (List �
   start-is : (n m : ℕ) → n ≡ suc m → startOf (textAt s at) n ≡ length (front m)
   start-is n m e =
       rw (e, read-parts g)
-      (omega (arith, start-joined fs m, length-append (typeOf (line .kind)) (joined (take m fs)), length-append (textOf (line .kind) (take m fs)) (bytes ";")))
+      (omega (
+        arith,
+        start-joined fs m,
+        length-append (typeOf (line .kind)) (joined (take m fs)),
+        length-append (textOf (line .kind) (take m fs)) (bytes ";"),
+      ))
 
   accepted : lineAnswer Any s at ≡ Accepted line
   accepted = reads-accepted (reads-alone g)
@@ -67,14 +74,22 @@ module _ {due : Due} {s : List ℕ} {at : ℕ} {line : Line} {fs : List (List �
     pub found : 1 ≤ n → n ≤ length fs → fieldAnswer s at n ≡ Found (at + length (front (n - 1))) (length (fieldNo fs n))
     unfolding fieldAnswer inLine
     found h l =
-        rw (accepted, ne-eqb n 0 (λ z. omega arith), le-ltb (line .count) n (omega (arith, g .count)), start-is n (n - 1) (omega arith), read-field g n h)
+        rw (
+          accepted,
+          ne-eqb n 0 (λ z. omega arith),
+          le-ltb (line .count) n (omega (arith, g .count)),
+          start-is n (n - 1) (omega arith),
+          read-field g n h,
+        )
 
     -- a number that no field has is 15 at 0
     pub field-not-there : (1 ≤ n → n ≤ length fs → ⊥) → fieldAnswer s at n ≡ NotFound NotThere 0
     unfolding fieldAnswer inLine
     field-not-there h =
         ⊎-elim
-        (λ (l : 1 ≤ n). ⊎-elim (λ (m : n ≤ length fs). absurd (h l m)) (λ m. simp (accepted, ne-eqb n 0 (λ z. omega arith), lt-ltb (line .count) n (omega (arith, g .count)))) (le-or-lt n (length fs)))
+        (λ (l : 1 ≤ n). ⊎-elim (λ (m : n ≤ length fs). absurd (h l m))
+        (λ m. simp (accepted, ne-eqb n 0 (λ z. omega arith), lt-ltb (line .count) n (omega (arith, g .count)))) (le-or-lt n
+        (length fs)))
         (λ l. simp (accepted, eq-eqb n 0 (omega arith)))
         (le-or-lt 1 n)
 
@@ -82,11 +97,13 @@ module _ {due : Due} {s : List ℕ} {at : ℕ} {line : Line} {fs : List (List �
       found-finds : fieldAnswer s at n ≡ Found start long → Finds (line .kind) fs s at n start long
       found-finds e =
           ⊎-elim
-          (λ (l : 1 ≤ n). ⊎-elim (λ (m : n ≤ length fs). go l m (sym (found l m) ∙ e)) (λ m. absurd (not-found (sym (field-not-there (λ x y. omega arith)) ∙ e))) (le-or-lt n (length fs)))
+          (λ (l : 1 ≤ n). ⊎-elim (λ (m : n ≤ length fs). go l m (sym (found l m) ∙ e))
+          (λ m. absurd (not-found (sym (field-not-there (λ x y. omega arith)) ∙ e))) (le-or-lt n (length fs)))
           (λ l. absurd (not-found (sym (field-not-there (λ x y. omega arith)) ∙ e)))
           (le-or-lt 1 n)
         where
-          go : 1 ≤ n → n ≤ length fs → Found (at + length (front (n - 1))) (length (fieldNo fs n)) ≡ Found start long → Finds (line .kind) fs s at n start long
+          go : 1 ≤ n → n ≤ length fs → Found (at + length (front (n - 1))) (length (fieldNo fs n)) ≡ Found start long →
+              Finds (line .kind) fs s at n start long
           go l m e =
               let a : start ≡ at + length (front (n - 1)) = cc in
               let b : long ≡ length (fieldNo fs n) = cc in
@@ -100,15 +117,18 @@ module _ {due : Due} {s : List ℕ} {at : ℕ} {line : Line} {fs : List (List �
       field-exactly = (found-finds, finds-found)
 
 -- "hands its refusal on"
-pub field-refused : (s : List ℕ) (at n : ℕ) (why : Refusal) (place : ℕ) → lineAnswer Any s at ≡ Refused why place → fieldAnswer s at n ≡ NotFound why place
+pub field-refused : (s : List ℕ) (at n : ℕ) (why : Refusal) (place : ℕ) → lineAnswer Any s at ≡ Refused why place →
+    fieldAnswer s at n ≡ NotFound why place
 unfolding fieldAnswer inLine
 field-refused s at n why place e = rw e
 
 -- a field is found exactly when an allowed line stands at the offset and the field stands in it
 pub found-exactly :
-    (s : List ℕ) (at n start long : ℕ) → (fieldAnswer s at n ≡ Found start long) ↔ ((line : Line) × ((fs : List (List ℕ)) × (Reads Any s at line fs × Finds (line .kind) fs s at n start long)))
+    (s : List ℕ) (at n start long : ℕ) → (fieldAnswer s at n ≡ Found start long) ↔
+    ((line : Line) × ((fs : List (List ℕ)) × (Reads Any s at line fs × Finds (line .kind) fs s at n start long)))
 found-exactly s at n start long = (λ e. go (lineAnswer Any s at) refl e, λ g. finds-found (g .1 .1 .0) n start long (g .1 .1 .1))
   where
-    go : (a : LineAnswer) → lineAnswer Any s at ≡ a → fieldAnswer s at n ≡ Found start long → (line : Line) × ((fs : List (List ℕ)) × (Reads Any s at line fs × Finds (line .kind) fs s at n start long))
+    go : (a : LineAnswer) → lineAnswer Any s at ≡ a → fieldAnswer s at n ≡ Found start long →
+        (line : Line) × ((fs : List (List ℕ)) × (Reads Any s at line fs × Finds (line .kind) fs s at n start long))
     go (Refused why place) q e = absurd (not-found (sym (field-refused s at n why place q) ∙ e))
     go (Accepted line) q e = let g = accepted-reads Any s at line q in (line, (fieldsOf (textAt s at), (g, found-finds g n start long e)))

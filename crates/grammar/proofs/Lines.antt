@@ -35,7 +35,8 @@ pub render-long : (kind : Record) (fs : List (List ℕ)) → length (render kind
 render-long kind fs = length-append (textOf kind fs) (bytes "\r\n")
 
 -- an accepted line stands there
-pub accepted-reads : (due : Due) (s : List ℕ) (at : ℕ) (line : Line) → lineAnswer due s at ≡ Accepted line → Reads due s at line (fieldsOf (textAt s at))
+pub accepted-reads : (due : Due) (s : List ℕ) (at : ℕ) (line : Line) → lineAnswer due s at ≡ Accepted line →
+    Reads due s at line (fieldsOf (textAt s at))
 unfolding lineAnswer
 accepted-reads due s at line e =
     let text = textAt s at in
@@ -60,7 +61,8 @@ accepted-reads due s at line e =
 -- what a line that stands there tells
 module _ {due : Due} {s : List ℕ} {at : ℕ} {line : Line} {fs : List (List ℕ)} (g : Reads due s at line fs) where
   long : length s - at ≡ length (textOf (line .kind) fs) + 2 + length (g .rest)
-  long = sym (length-drop at s) ∙ ap length (g .stands) ∙ length-append (render (line .kind) fs) (g .rest) ∙ rw (render-long (line .kind) fs)
+  long = sym (length-drop at s) ∙ ap length (g .stands) ∙ length-append (render (line .kind) fs) (g .rest) ∙ rw
+      (render-long (line .kind) fs)
 
   text-long : 3 ≤ length (textOf (line .kind) fs)
   text-long = omega (arith, length-append (typeOf (line .kind)) (joined fs), type-long (line .kind))
@@ -75,7 +77,11 @@ module _ {due : Due} {s : List ℕ} {at : ℕ} {line : Line} {fs : List (List �
   next-far = omega (arith, text-long, g .next, render-long (line .kind) fs)
 
   pub rest-is : g .rest ≡ drop (line .next) s
-  rest-is = sym (rw (g .next, ← drop-drop (length (render (line .kind) fs)) at s, g .stands) (drop-append-seam (render (line .kind) fs) (g .rest)))
+  rest-is = sym (rw (
+    g .next,
+    ← drop-drop (length (render (line .kind) fs)) at s,
+    g .stands,
+  ) (drop-append-seam (render (line .kind) fs) (g .rest)))
 
   bytes-of : all textByte (textOf (line .kind) fs) ≡ true
   bytes-of = text-bytes (line .kind) fs (g .allowed)
@@ -117,32 +123,46 @@ module _ {due : Due} {s : List ℕ} {at : ℕ} {line : Line} {fs : List (List �
       (text-accepted (line .kind) fs (g .allowed) due at (g .comes) ∙ rw (n, ← g .count))
 
 -- a line is accepted exactly when an allowed line stands at the offset
-pub line-exactly : (due : Due) (s : List ℕ) (at : ℕ) (line : Line) → (lineAnswer due s at ≡ Accepted line) ↔ ((fs : List (List ℕ)) × Reads due s at line fs)
+pub line-exactly : (due : Due) (s : List ℕ) (at : ℕ) (line : Line) → (lineAnswer due s at ≡ Accepted line) ↔
+    ((fs : List (List ℕ)) × Reads due s at line fs)
 line-exactly due s at line = (λ e. (fieldsOf (textAt s at), accepted-reads due s at line e), λ g. reads-accepted (g .1))
 
 -- the same bytes are no other line, and no other fields
-pub one-line : (kind other : Record) (fs gs : List (List ℕ)) (rest more : List ℕ) → LineOk kind fs → LineOk other gs → render kind fs ++ rest ≡ render other gs ++ more → (kind ≡ other) × ((fs ≡ gs) × (rest ≡ more))
+pub one-line : (kind other : Record) (fs gs : List (List ℕ)) (rest more : List ℕ) → LineOk kind fs → LineOk other gs →
+    render kind fs ++ rest ≡ render other gs ++ more → (kind ≡ other) × ((fs ≡ gs) × (rest ≡ more))
 one-line kind other fs gs rest more g h e =
     let cut : textOf kind fs ++ 13 ∷ 10 ∷ rest ≡ textOf other gs ++ 13 ∷ 10 ∷ more =
     sym (append-assoc (textOf kind fs) (bytes "\r\n") rest) ∙ e ∙ append-assoc (textOf other gs) (bytes "\r\n") more
     in
-    let a = run-once textByte (textOf kind fs) (textOf other gs) 13 13 (10 ∷ rest) (10 ∷ more) (text-bytes kind fs g) (text-bytes other gs h) refl refl cut in
+    let a = run-once textByte (textOf kind fs) (textOf other gs) 13 13 (10 ∷ rest) (10 ∷
+    more) (text-bytes kind fs g) (text-bytes other gs h) refl refl cut in
     let parts : typeOf kind ∷ fs ≡ typeOf other ∷ gs = sym (text-split kind fs g) ∙ ap split (a .0) ∙ text-split other gs h in
     (type-tells kind other (ap (λ (l : List (List ℕ)). getD l 0 []) parts), (ap (drop 1) parts, ap (drop 2) (a .1)))
 
 -- a line that stands where a record is due stands there alone too
 pub reads-alone : {due : Due} {s : List ℕ} {at : ℕ} {line : Line} {fs : List (List ℕ)} → Reads due s at line fs → Reads Any s at line fs
 unfolding mayCome
-reads-alone g = record { small = g .small; comes = refl; allowed = g .allowed; rest = g .rest; stands = g .stands; count = g .count; next = g .next }
+reads-alone g = record {
+  small = g .small;
+  comes = refl;
+  allowed = g .allowed;
+  rest = g .rest;
+  stands = g .stands;
+  count =
+      g .count;
+  next = g .next;
+}
 
 -- at one offset stands one line with one list of fields, whatever is due
-pub one-reading : {due late : Due} {s : List ℕ} {at : ℕ} {line other : Line} {fs gs : List (List ℕ)} → Reads due s at line fs → Reads late s at other gs → (line ≡ other) × (fs ≡ gs)
+pub one-reading : {due late : Due} {s : List ℕ} {at : ℕ} {line other : Line} {fs gs : List (List ℕ)} → Reads due s at line fs →
+    Reads late s at other gs → (line ≡ other) × (fs ≡ gs)
 one-reading g h =
     let e = sym (reads-accepted (reads-alone g)) ∙ reads-accepted (reads-alone h) in
     (cc, sym (read-fields g) ∙ read-fields h)
 
 -- "040: 1 R 22 digits"
-pub identcode : (kind : Record) (fs : List (List ℕ)) → kind ≡ Parcel → LineOk kind fs → (digits 22 (fieldNo fs 1) ≡ true) × (length (fieldNo fs 1) ≡ 22)
+pub identcode : (kind : Record) (fs : List (List ℕ)) → kind ≡ Parcel → LineOk kind fs →
+    (digits 22 (fieldNo fs 1) ≡ true) × (length (fieldNo fs 1) ≡ 22)
 unfolding isRequired required hasForm formsOf digits
 identcode kind fs e g = go fs (rw e at g)
   where

@@ -29,7 +29,8 @@ within (to last wide width ∷ spans) = leb width 100 && within spans
 
 width-in-le : (spans : List Span) (n : ℕ) → within spans ≡ true → widthIn spans n ≤ 100
 width-in-le [] n e = zero-le
-width-in-le (to last wide width ∷ spans) n e = go (leb n last) (leb-true width 100 (and-left (leb width 100) (within spans) e)) (width-in-le spans n (and-right (leb width 100) (within spans) e))
+width-in-le (to last wide width ∷ spans) n e = go (leb n last) (leb-true width 100 (and-left (leb width 100) (within spans) e))
+    (width-in-le spans n (and-right (leb width 100) (within spans) e))
   where
     go : (t : Bool) → width ≤ 100 → widthIn spans n ≤ 100 → (if t then width else widthIn spans n) ≤ 100
     go true h k = h
@@ -61,16 +62,31 @@ count-le Parcel n e = omega (arith, leb-true n 24 (and-right (leb 3 n) (leb n 24
 count-le Product n e = omega (arith, leb-true n 24 (and-right (leb 1 n) (leb n 24) e))
 count-le Feature n e = omega (arith, eqb-true n 10 e)
 
-pub fields-le : (kind : Record) (n : ℕ) (beside : List ℕ) (fs : List (List ℕ)) → FieldsOk kind n beside fs → length (joined fs) ≤ 101 * length fs
+pub fields-le : (kind : Record) (n : ℕ) (beside : List ℕ) (fs : List (List ℕ)) → FieldsOk kind n beside fs →
+    length (joined fs) ≤ 101 * length fs
 fields-le kind n beside [] g = zero-le
-fields-le kind n beside (f ∷ fs) g = omega (arith, fields-le kind (suc n) f fs (g .1), g .0 .fits, width-le kind n beside, length-append f (joined fs))
+fields-le kind n beside (f ∷ fs) g = omega (
+  arith,
+  fields-le kind (suc n) f fs (g .1),
+  g .0 .fits,
+  width-le kind n beside,
+  length-append f (joined fs),
+)
 
 pub render-le : (kind : Record) (fs : List (List ℕ)) → LineOk kind fs → length (render kind fs) ≤ 4045
 render-le kind fs g =
-    omega (arith, fields-le kind 1 (typeOf kind) fs (g .fields), count-le kind (length fs) (g .counted), render-long kind fs, length-append (typeOf kind) (joined fs), type-long kind)
+    omega (
+      arith,
+      fields-le kind 1 (typeOf kind) fs (g .fields),
+      count-le kind (length fs) (g .counted),
+      render-long kind fs,
+      length-append (typeOf kind) (joined fs),
+      type-long kind,
+    )
 
 -- the bytes of an allowed line, as a file of their own
-pub render-reads : (kind : Record) (fs : List (List ℕ)) → LineOk kind fs → Reads Any (render kind fs) 0 (record { kind = kind; count = length fs; next = length (render kind fs) }) fs
+pub render-reads : (kind : Record) (fs : List (List ℕ)) → LineOk kind fs →
+    Reads Any (render kind fs) 0 (record { kind = kind; count = length fs; next = length (render kind fs) }) fs
 unfolding mayCome
 render-reads kind fs g =
     record {
@@ -83,5 +99,6 @@ render-reads kind fs g =
       next = omega arith;
     }
 
-pub render-accepted : (kind : Record) (fs : List (List ℕ)) → LineOk kind fs → lineAnswer Any (render kind fs) 0 ≡ Accepted (record { kind = kind; count = length fs; next = length (render kind fs) })
+pub render-accepted : (kind : Record) (fs : List (List ℕ)) → LineOk kind fs →
+    lineAnswer Any (render kind fs) 0 ≡ Accepted (record { kind = kind; count = length fs; next = length (render kind fs) })
 render-accepted kind fs g = reads-accepted (render-reads kind fs g)

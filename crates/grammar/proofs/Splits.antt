@@ -18,7 +18,8 @@ split-some [] = refl
 split-some (b ∷ line) = go (semicolon b) (split-some line)
   where
     go : (t : Bool) → split line ≡ nameOf line ∷ fieldsOf line →
-        (if t then [] ∷ split line else intoFirst b (split line)) ≡ getD (if t then [] ∷ split line else intoFirst b (split line)) 0 [] ∷ drop 1 (if t then [] ∷ split line else intoFirst b (split line))
+        (if t then [] ∷ split line else intoFirst b (split line)) ≡ getD (if t then [] ∷ split line else intoFirst b (split line)) 0 [] ∷
+        drop 1 (if t then [] ∷ split line else intoFirst b (split line))
     go true h = refl
     go false h = rw h
 
@@ -45,7 +46,8 @@ whole-split : (line : List ℕ) → whole (split line) ≡ line
 whole-split [] = refl
 whole-split (b ∷ line) = go (semicolon b) refl (whole-split line) (split-some line)
   where
-    go : (t : Bool) → semicolon b ≡ t → whole (split line) ≡ line → split line ≡ nameOf line ∷ fieldsOf line → whole (if t then [] ∷ split line else intoFirst b (split line)) ≡ b ∷ line
+    go : (t : Bool) → semicolon b ≡ t → whole (split line) ≡ line → split line ≡ nameOf line ∷ fieldsOf line →
+        whole (if t then [] ∷ split line else intoFirst b (split line)) ≡ b ∷ line
     go true e h k = rw (k, eqb-true b 59 e) (ap (λ (l : List ℕ). 59 ∷ l) (ap whole (sym k) ∙ h))
     go false e h k = whole-into b (split line) ∙ ap (λ (l : List ℕ). b ∷ l) h
 

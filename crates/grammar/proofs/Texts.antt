@@ -66,7 +66,8 @@ known kind other e = cc
 pub type-tells : (kind other : Record) → typeOf kind ≡ typeOf other → kind ≡ other
 type-tells kind other e = known kind other (sym (type-named kind) ∙ ap named e ∙ type-named other)
 
-one-name : (name : List ℕ) (tried kind : Record) (rest : Named) → (rest ≡ Known kind → name ≡ typeOf kind) → (if same name (typeOf tried) then Known tried else rest) ≡ Known kind → name ≡ typeOf kind
+one-name : (name : List ℕ) (tried kind : Record) (rest : Named) → (rest ≡ Known kind → name ≡ typeOf kind) →
+    (if same name (typeOf tried) then Known tried else rest) ≡ Known kind → name ≡ typeOf kind
 one-name name tried kind rest on e = go (same name (typeOf tried)) refl e
   where
     go : (t : Bool) → same name (typeOf tried) ≡ t → (if t then Known tried else rest) ≡ Known kind → name ≡ typeOf kind
@@ -76,12 +77,15 @@ one-name name tried kind rest on e = go (same name (typeOf tried)) refl e
 pub named-type : (name : List ℕ) (kind : Record) → named name ≡ Known kind → name ≡ typeOf kind
 unfolding named
 named-type name kind e =
-    one-name name Header kind _ (one-name name Sender kind _ (one-name name Shipment kind _ (one-name name Parcel kind _ (one-name name Product kind _ (one-name name Feature kind Unknown (λ u. let z : _≡_ {A = ℕ} 0 1 = cc in absurd (omega arith))))))) e
+    one-name name Header kind _ (one-name name Sender kind _ (one-name name Shipment kind _
+    (one-name name Parcel kind _ (one-name name Product kind _
+    (one-name name Feature kind Unknown (λ u. let z : _≡_ {A = ℕ} 0 1 = cc in absurd (omega arith))))))) e
 
 -- a text with good fields falls into them again
 pub fields-split : (kind : Record) (fs : List (List ℕ)) → FieldsOk kind 1 (typeOf kind) fs → split (textOf kind fs) ≡ typeOf kind ∷ fs
 fields-split kind fs g =
-    split-joined (typeOf kind) fs (all-also plain inField plain-in-field (typeOf kind) (type-plain kind)) (all-in-also plain inField plain-in-field fs (fields-plain kind 1 (typeOf kind) fs g))
+    split-joined (typeOf kind) fs (all-also plain inField plain-in-field (typeOf kind) (type-plain kind))
+    (all-in-also plain inField plain-in-field fs (fields-plain kind 1 (typeOf kind) fs g))
 
 -- the text of an allowed line
 module _ (kind : Record) (fs : List (List ℕ)) (g : LineOk kind fs) where
@@ -93,12 +97,22 @@ module _ (kind : Record) (fs : List (List ℕ)) (g : LineOk kind fs) where
 
   pub text-bytes : all textByte (textOf kind fs) ≡ true
   text-bytes =
-      all-append textByte (typeOf kind) (joined fs) (all-also plain textByte plain-text (typeOf kind) (type-plain kind)) (joined-text fs (all-in-also plain textByte plain-text fs clean))
+      all-append textByte (typeOf kind) (joined fs) (all-also plain textByte plain-text (typeOf kind) (type-plain kind))
+      (joined-text fs (all-in-also plain textByte plain-text fs clean))
 
-  pub text-accepted : (due : Due) (at : ℕ) → mayCome due kind ≡ true → ofText due at (textOf kind fs) ≡ Accepted (record { kind = kind; count = length fs; next = at + length (textOf kind fs) + 2 })
+  pub text-accepted : (due : Due) (at : ℕ) → mayCome due kind ≡ true →
+      ofText due at (textOf kind fs) ≡ Accepted (record { kind = kind; count = length fs; next = at + length (textOf kind fs) + 2 })
   unfolding ofText ofNamed ofKind afterWalk
   text-accepted due at m =
-      simp (text-split, type-named kind, m, g .counted, fields-fine kind 1 (at + length (typeOf kind) + 1) (typeOf kind) fs (g .fields), g .served)
+      simp (
+        text-split,
+        type-named kind,
+        m,
+        g .counted,
+        fields-fine kind 1 (at + length (typeOf kind) + 1) (typeOf kind) fs
+            (g .fields),
+        g .served,
+      )
 
 -- what an accepted answer tells of the text
 pub record OfText (due : Due) (at : ℕ) (text : List ℕ) (line : Line) : Type 0 where
@@ -109,28 +123,39 @@ pub record OfText (due : Due) (at : ℕ) (text : List ℕ) (line : Line) : Type 
   pub next : line .next ≡ at + length text + 2
 
 module _ (at : ℕ) (text : List ℕ) (line : Line) where
-  after-fine : (w : Walk) (kind : Record) → afterWalk w kind at text ≡ Accepted line → (w ≡ Fine) × ((lacks kind (split text) ≡ false) × (record { kind = kind; count = length (fieldsOf text); next = at + length text + 2 } ≡ line))
+  after-fine : (w : Walk) (kind : Record) → afterWalk w kind at text ≡ Accepted line →
+      (w ≡ Fine) × ((lacks kind (split text) ≡ false) × (record {
+        kind = kind;
+        count = length (fieldsOf text);
+        next =
+            at + length text + 2;
+      } ≡ line))
   unfolding afterWalk
   after-fine (Stopped why place) kind e = absurd (refused e)
   after-fine Fine kind e =
-      let a = came-else (lacks kind (split text)) (Refused FeatureLacks at) (Accepted (record { kind = kind; count = length (fieldsOf text); next = at + length text + 2 })) (Accepted line) refused e in
+      let a = came-else (lacks kind (split text)) (Refused FeatureLacks at)
+      (Accepted (record { kind = kind; count = length (fieldsOf text); next = at + length text + 2 })) (Accepted line) refused e in
       (refl, (a .0, cc))
 
-  of-known : (due : Due) (m : Named) → ofNamed m due at text ≡ Accepted line → (kind : Record) × ((m ≡ Known kind) × ((mayCome due kind ≡ true) × (ofKind kind at text ≡ Accepted line)))
+  of-known : (due : Due) (m : Named) → ofNamed m due at text ≡ Accepted line →
+      (kind : Record) × ((m ≡ Known kind) × ((mayCome due kind ≡ true) × (ofKind kind at text ≡ Accepted line)))
   unfolding ofNamed
   of-known due Unknown e = absurd (refused e)
   of-known due (Known kind) e =
       let a = came-else (not (mayCome due kind)) (Refused OutOfOrder at) (ofKind kind at text) (Accepted line) refused e in
       (kind, (refl, (not-false (mayCome due kind) (a .0), a .1)))
 
-  of-kind : (due : Due) (kind : Record) → all textByte text ≡ true → nameOf text ≡ typeOf kind → mayCome due kind ≡ true → ofKind kind at text ≡ Accepted line → OfText due at text line
+  of-kind : (due : Due) (kind : Record) → all textByte text ≡ true → nameOf text ≡ typeOf kind → mayCome due kind ≡ true →
+      ofKind kind at text ≡ Accepted line → OfText due at text line
   unfolding ofKind
   of-kind due kind p name m e =
       let walked = walk kind 1 (at + length (nameOf text) + 1) (nameOf text) (fieldsOf text) in
-      let a = came-else (not (countFits kind (length (fieldsOf text)))) (Refused FieldCount at) (afterWalk walked kind at text) (Accepted line) refused e in
+      let a = came-else (not (countFits kind (length (fieldsOf text)))) (Refused FieldCount at) (afterWalk walked kind at text)
+      (Accepted line) refused e in
       let w = after-fine walked kind (a .1) in
       let clean : allIn plain (nameOf text ∷ fieldsOf text) ≡ true = ap (allIn plain) (sym (split-some text)) ∙ split-plain text p in
-      let fine = fine-fields kind 1 (at + length (nameOf text) + 1) (nameOf text) (fieldsOf text) (and-right (all plain (nameOf text)) (allIn plain (fieldsOf text)) clean) (w .0) in
+      let fine = fine-fields kind 1 (at + length (nameOf text) + 1) (nameOf text) (fieldsOf text)
+      (and-right (all plain (nameOf text)) (allIn plain (fieldsOf text)) clean) (w .0) in
       let g : OfText due at text (record { kind = kind; count = length (fieldsOf text); next = at + length text + 2 }) =
       record {
         written = sym (join-split text) ∙ ap (λ (n : List ℕ). n ++ joined (fieldsOf text)) name;

@@ -49,7 +49,8 @@ pub record LineAt (due : Due) (s : List ℕ) (at : ℕ) (l : Line) : Type 0 wher
   pub text : TextOk due at (textAt s at) l
 
 module _ (due : Due) (at : ℕ) (line : List ℕ) (l : Line) where
-  kind-ok : (kind : Record) → named (nameOf line) ≡ Known kind → mayCome due kind ≡ true → ofKind kind at line ≡ Accepted l → TextOk due at line l
+  kind-ok : (kind : Record) → named (nameOf line) ≡ Known kind → mayCome due kind ≡ true → ofKind kind at line ≡ Accepted l →
+      TextOk due at line l
   unfolding ofKind afterWalk
   kind-ok kind en ec e =
       let fits = countFits kind (length (fieldsOf line)) in
@@ -58,11 +59,13 @@ module _ (due : Due) (at : ℕ) (line : List ℕ) (l : Line) where
       after w refl (not-false fits (a .0)) (a .1)
     where
       after :
-          (w : Walk) → walk kind 1 (at + length (nameOf line) + 1) (nameOf line) (fieldsOf line) ≡ w → countFits kind (length (fieldsOf line)) ≡ true →
+          (w : Walk) → walk kind 1 (at + length (nameOf line) + 1) (nameOf line) (fieldsOf line) ≡ w →
+          countFits kind (length (fieldsOf line)) ≡ true →
           afterWalk w kind at line ≡ Accepted l → TextOk due at line l
       after (Stopped why place) ew ef ea = absurd (refused ea)
       after Fine ew ef ea =
-          let b = came-else (lacks kind (split line)) (Refused FeatureLacks at) (Accepted (record { kind = kind; count = length (fieldsOf line); next = at + length line + 2 })) (Accepted l) refused ea in
+          let b = came-else (lacks kind (split line)) (Refused FeatureLacks at)
+          (Accepted (record { kind = kind; count = length (fieldsOf line); next = at + length line + 2 })) (Accepted l) refused ea in
           let same : record { kind = kind; count = length (fieldsOf line); next = at + length line + 2 } ≡ l = cc in
           let k : kind ≡ l .kind = ap (λ (x : Line). x .kind) same in
           record {
@@ -92,7 +95,8 @@ line-ok due s at l e =
     let text = ofText due at (textAt s at) in
     let well = endsWell s (lineEnd s at) in
     let end = if not well then Refused NoLineEnd (lineEnd s at) else text in
-    let a = came-else (ltb 65535 (length s)) (Refused FileTooLong 65535) (if ltb (length s) at then Refused NoLineEnd (length s) else end) (Accepted l) refused e in
+    let a = came-else (ltb 65535 (length s)) (Refused FileTooLong 65535) (if ltb (length s) at then Refused NoLineEnd (length s) else end)
+    (Accepted l) refused e in
     let b = came-else (ltb (length s) at) (Refused NoLineEnd (length s)) end (Accepted l) refused (a .1) in
     let c = came-else (not well) (Refused NoLineEnd (lineEnd s at)) text (Accepted l) refused (b .1) in
     record {

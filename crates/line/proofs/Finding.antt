@@ -22,7 +22,8 @@ use Rattle.line.specs.declared.find.FieldAnswer.the-variants.{Found, Not
 pub handed-as : (a case : LineAnswer) (r : FieldAnswer) → a ≡ case → r ≡ handedOn case → r ≡ handedOn a
 handed-as a case r e f = rw e f
 
-pub found-is : (at n start : ℕ) (line f : List ℕ) → start ≡ startOf line n → f ≡ partAt line n → Found (at + start) (length f) ≡ Found (at + startOf line n) (length (partAt line n))
+pub found-is : (at n start : ℕ) (line f : List ℕ) → start ≡ startOf line n → f ≡ partAt line n →
+    Found (at + start) (length f) ≡ Found (at + startOf line n) (length (partAt line n))
 found-is at n start line f es ef = rw (es, ef)
 
 module _ (s : List ℕ) (at n : ℕ) (a : LineAnswer) (ea : a ≡ lineAnswer Any s at) where
@@ -39,7 +40,9 @@ module _ (s : List ℕ) (at n : ℕ) (a : LineAnswer) (ea : a ≡ lineAnswer Any
     unfolding fieldAnswer inLine
     above-count m h = rw (← ea, el, ne-eqb n 0 m, lt-ltb (line .count) n h)
 
-    pub field-there : (n ≡ 0 → ⊥) → n ≤ line .count → (r : FieldAnswer) → r ≡ Found (at + startOf (take (line .next - 2 - at) (drop at s)) n) (length (partAt (take (line .next - 2 - at) (drop at s)) n)) → r ≡ fieldAnswer s at n
+    pub field-there : (n ≡ 0 → ⊥) → n ≤ line .count → (r : FieldAnswer) →
+        r ≡ Found (at + startOf (take (line .next - 2 - at) (drop at s)) n) (length (partAt (take (line .next - 2 - at) (drop at s)) n)) →
+        r ≡ fieldAnswer s at n
     unfolding fieldAnswer inLine
     field-there m h r e =
         rw (← ea, el, ne-eqb n 0 m, le-ltb (line .count) n h)

@@ -62,7 +62,8 @@ module _ (kind : Record) (at : ℕ) (line : List ℕ) (n : ℕ) (en : n ≡ coun
 
       pub has-all : u ≡ false → Accepted (record { kind = kind; count = n; next = at + length line + 2 }) ≡ ofKind kind at line
       unfolding afterWalk
-      has-all e = walked (Accepted (record { kind = kind; count = n; next = at + length line + 2 })) (rw (fine, ← eu, e, ← count-fields n line en))
+      has-all e = walked (Accepted (record { kind = kind; count = n; next = at + length line + 2 }))
+          (rw (fine, ← eu, e, ← count-fields n line en))
 
 -- the record type, then the order
 module _ (due : Due) (at : ℕ) (line name : List ℕ) (en : name ≡ nameOf line) (nd : Named) (ed : nd ≡ named name) where

@@ -16,7 +16,8 @@ unfolding isFilled
 filled-is parts n f e = rw e
 
 -- an arm of a match is a case of the rule
-module _ (parts : List (List ℕ)) (f : List ℕ) (code : ℕ) (need : Need) (ef : f ≡ getD parts 1 []) (ec : code ≡ codeOf f) (en : need ≡ needOf code) (t : Bool) where
+module _ (parts : List (List ℕ)) (f : List ℕ) (code : ℕ) (need : Need) (ef : f ≡ getD parts 1 []) (ec : code ≡ codeOf f)
+    (en : need ≡ needOf code) (t : Bool) where
   pub served-as : (case : Need) → need ≡ case → t ≡ serves case parts → t ≡ isServed parts
   unfolding isServed
   served-as case e et = et ∙ ap (λ (n : Need). serves n parts) (sym e ∙ en ∙ ap needOf (ec ∙ ap codeOf ef))

@@ -28,7 +28,8 @@ module _ (ok : ℕ → Bool) where
   first-shift i (b ∷ s) = go (ok b) (first-shift (suc i) s) (first-shift 1 s)
     where
       go :
-          (t : Bool) → firstFailing (λ _ b. ok b) (suc i) s ≡ suc i + firstFailing (λ _ b. ok b) 0 s → firstFailing (λ _ b. ok b) 1 s ≡ 1 + firstFailing (λ _ b. ok b) 0 s →
+          (t : Bool) → firstFailing (λ _ b. ok b) (suc i) s ≡ suc i + firstFailing (λ _ b. ok b) 0 s →
+          firstFailing (λ _ b. ok b) 1 s ≡ 1 + firstFailing (λ _ b. ok b) 0 s →
           (if t then firstFailing (λ _ b. ok b) (suc i) s else i) ≡ i + (if t then firstFailing (λ _ b. ok b) 1 s else 0)
       go true e f = omega arith
       go false e f = sym (add-zero i)
@@ -40,7 +41,8 @@ module _ (ok : ℕ → Bool) where
   first-most i [] = omega arith
   first-most i (b ∷ s) = go (ok b) (first-most (suc i) s)
     where
-      go : (t : Bool) → firstFailing (λ _ b. ok b) (suc i) s ≤ suc i + length s → (if t then firstFailing (λ _ b. ok b) (suc i) s else i) ≤ i + suc (length s)
+      go : (t : Bool) → firstFailing (λ _ b. ok b) (suc i) s ≤ suc i + length s →
+          (if t then firstFailing (λ _ b. ok b) (suc i) s else i) ≤ i + suc (length s)
       go true h = omega arith
       go false h = omega arith
 
@@ -57,7 +59,8 @@ split-first [] = refl
 split-first (b ∷ s) = go (semicolon b) refl (split-first s) (first-shift inField 1 s)
   where
     go :
-        (t : Bool) → semicolon b ≡ t → split s ≡ take (firstLong s) s ∷ behind s (firstLong s) → firstFailing (λ _ b. inField b) 1 s ≡ 1 + firstLong s →
+        (t : Bool) → semicolon b ≡ t → split s ≡ take (firstLong s) s ∷ behind s (firstLong s) →
+        firstFailing (λ _ b. inField b) 1 s ≡ 1 + firstLong s →
         split (b ∷ s) ≡ take (firstLong (b ∷ s)) (b ∷ s) ∷ behind (b ∷ s) (firstLong (b ∷ s))
     go true e h f = rw (e, lt-ltb 0 (length (b ∷ s)) (omega arith))
     go false e h f =
@@ -92,7 +95,12 @@ module _ (line : List ℕ) (start : ℕ) (inside : start ≤ length line) where
       more : start + n + 1 ≤ length line → behind (drop start line) n ≡ rest line (start + n + 1)
       more h =
           let e : start + suc n ≡ start + n + 1 = omega arith in
-          rw (lt-ltb n (length (drop start line)) (simp length-drop (omega arith)), le-leb (start + n + 1) (length line) h, drop-drop (suc n) start line, e)
+          rw (
+            lt-ltb n (length (drop start line)) (simp length-drop (omega arith)),
+            le-leb (start + n + 1) (length line) h,
+            drop-drop (suc n) start line,
+            e,
+          )
 
       none : length line < start + n + 1 → behind (drop start line) n ≡ rest line (start + n + 1)
       none h = rw (le-ltb n (length (drop start line)) (simp length-drop (omega arith)), lt-leb (start + n + 1) (length line) h)
@@ -115,11 +123,13 @@ rest-at : (line : List ℕ) (n start : ℕ) → rest line (start + startIn (rest
 rest-at line zero start = rw (add-zero start)
 rest-at line (suc n) start = ⊎-elim (inside (rest-at line n)) past (le-or-lt start (length line))
   where
-    inside : ((next : ℕ) → rest line (next + startIn (rest line next) n) ≡ drop n (rest line next)) → start ≤ length line → rest line (start + startIn (rest line start) (suc n)) ≡ drop (suc n) (rest line start)
+    inside : ((next : ℕ) → rest line (next + startIn (rest line next) n) ≡ drop n (rest line next)) → start ≤ length line →
+        rest line (start + startIn (rest line start) (suc n)) ≡ drop (suc n) (rest line start)
     inside more h =
         let e = fieldEnd line start in
         let k = startIn (rest line (e + 1)) n in
-        let there : start + (length (take (e - start) (drop start line)) + 1 + k) ≡ e + 1 + k = omega (arith, part-long line start h, end-least line start h) in
+        let there : start + (length (take (e - start) (drop start line)) + 1 + k) ≡ e + 1 + k =
+        omega (arith, part-long line start h, end-least line start h) in
         ap (λ (l : List (List ℕ)). rest line (start + startIn l (suc n))) (rest-step line start h)
         ∙ ap (rest line) there
         ∙ more (e + 1)
@@ -130,38 +140,47 @@ rest-at line (suc n) start = ⊎-elim (inside (rest-at line n)) past (le-or-lt s
 
 module _ (line : List ℕ) (n start : ℕ) (es : start ≡ startOf line n) where
   at-start : rest line start ≡ drop n (split line)
-  at-start = ap (rest line) (es ∙ ap (λ (l : List (List ℕ)). startIn l n) (sym (rest-all line)) ∙ sym (zero-add _)) ∙ rest-at line n 0 ∙ ap (drop n) (rest-all line)
+  at-start = ap (rest line) (es ∙ ap (λ (l : List (List ℕ)). startIn l n) (sym (rest-all line)) ∙ sym (zero-add _)) ∙ rest-at line n 0
+      ∙ ap (drop n) (rest-all line)
 
   first-left : partAt line n ≡ getD (rest line start) 0 []
-  first-left = sym (getD-drop n (split line) 0 [] ∙ ap (λ (m : ℕ). getD (split line) m []) (add-zero n)) ∙ ap (λ (l : List (List ℕ)). getD l 0 []) (sym at-start)
+  first-left = sym (getD-drop n (split line) 0 [] ∙ ap (λ (m : ℕ). getD (split line) m []) (add-zero n))
+      ∙ ap (λ (l : List (List ℕ)). getD l 0 []) (sym at-start)
 
   pub part-missing : length line < start → [] ≡ partAt line n
   part-missing h = sym (first-left ∙ ap (λ (l : List (List ℕ)). getD l 0 []) (rest-none line start h))
 
   pub part-there : (end : ℕ) → start ≤ length line → end ≡ fieldEnd line start → take (end - start) (drop start line) ≡ partAt line n
-  part-there end h e = sym (first-left ∙ ap (λ (l : List (List ℕ)). getD l 0 []) (rest-step line start h) ∙ ap (λ (m : ℕ). take (m - start) (drop start line)) (sym e))
+  part-there end h e = sym (first-left ∙ ap (λ (l : List (List ℕ)). getD l 0 []) (rest-step line start h)
+      ∙ ap (λ (m : ℕ). take (m - start) (drop start line)) (sym e))
 
 none-in : (n : ℕ) → startIn [] n ≡ 0
 none-in zero = refl
 none-in (suc n) = refl
 
 pub start-starts : (line : List ℕ) (number : ℕ) → 0 + startIn (rest line 0) (number - 0) ≡ startOf line number
-start-starts line number = let e : number - 0 ≡ number = omega arith in zero-add _ ∙ ap (λ (m : ℕ). startIn (rest line 0) m) e ∙ ap (λ (l : List (List ℕ)). startIn l number) (rest-all line)
+start-starts line number = let e : number - 0 ≡ number = omega arith in zero-add _ ∙ ap (λ (m : ℕ). startIn (rest line 0) m) e
+    ∙ ap (λ (l : List (List ℕ)). startIn l number) (rest-all line)
 
 -- the loop that passes over parts: each premise is a fact that the loop has
 module _ (line : List ℕ) (number i start z : ℕ) (left : start + startIn (rest line start) (number - i) ≡ z) where
-  pub start-on : (end : ℕ) → i < number → start ≤ length line → end ≡ fieldEnd line start → end + 1 + startIn (rest line (end + 1)) (number - (i + 1)) ≡ z
+  pub start-on : (end : ℕ) → i < number → start ≤ length line → end ≡ fieldEnd line start →
+      end + 1 + startIn (rest line (end + 1)) (number - (i + 1)) ≡ z
   start-on end l h e =
       let k : number - i ≡ suc (number - (i + 1)) = omega arith in
-      let step : start + startIn (rest line start) (number - i) ≡ start + (length (take (fieldEnd line start - start) (drop start line)) + 1 + startIn (rest line (fieldEnd line start + 1)) (number - (i + 1))) =
-      ap (λ (m : ℕ). start + startIn (rest line start) m) k ∙ ap (λ (p : List (List ℕ)). start + startIn p (suc (number - (i + 1)))) (rest-step line start h) in
+      let step : start + startIn (rest line start) (number - i) ≡ start + (length
+      (take (fieldEnd line start - start) (drop start line)) + 1 + startIn (rest line (fieldEnd line start + 1)) (number - (i + 1))) =
+      ap (λ (m : ℕ). start + startIn (rest line start) m) k ∙ ap (λ (p : List (List ℕ)). start + startIn p (suc (number - (i + 1))))
+      (rest-step line start h) in
       rw e (omega (arith, step, left, part-long line start h, end-least line start h))
 
   pub start-past : length line < start → start ≡ z
-  start-past h = sym (add-zero start) ∙ ap (λ (m : ℕ). start + m) (sym (none-in (number - i))) ∙ ap (λ (l : List (List ℕ)). start + startIn l (number - i)) (sym (rest-none line start h)) ∙ left
+  start-past h = sym (add-zero start) ∙ ap (λ (m : ℕ). start + m) (sym (none-in (number - i)))
+      ∙ ap (λ (l : List (List ℕ)). start + startIn l (number - i)) (sym (rest-none line start h)) ∙ left
 
   pub start-done : number ≤ i → start ≡ z
-  start-done h = let k : number - i ≡ 0 = omega arith in sym (add-zero start) ∙ ap (λ (m : ℕ). start + startIn (rest line start) m) (sym k) ∙ left
+  start-done h = let k : number - i ≡ 0 = omega arith in sym (add-zero start)
+      ∙ ap (λ (m : ℕ). start + startIn (rest line start) m) (sym k) ∙ left
 
 -- a line has a field for each semicolon
 into-long : (b : ℕ) (parts : List (List ℕ)) → 0 < length parts → length (intoFirst b parts) ≡ length parts
@@ -172,7 +191,8 @@ split-long : (line : List ℕ) → length (split line) ≡ suc (count semicolon 
 split-long [] = refl
 split-long (b ∷ line) = go (semicolon b) (split-long line)
   where
-    go : (t : Bool) → length (split line) ≡ suc (count semicolon line) → length (if t then [] ∷ split line else intoFirst b (split line)) ≡ suc ((if t then 1 else 0) + count semicolon line)
+    go : (t : Bool) → length (split line) ≡ suc (count semicolon line) →
+        length (if t then [] ∷ split line else intoFirst b (split line)) ≡ suc ((if t then 1 else 0) + count semicolon line)
     go true e = rw e (omega arith)
     go false e = into-long b (split line) (omega arith) ∙ e ∙ omega arith
 
@@ -182,7 +202,12 @@ count-fields n line e = omega (arith, length-drop 1 (split line), split-long lin
 -- the record type and the fields, as the walk over the fields meets them
 module _ (line : List ℕ) (name : ℕ) (en : name ≡ length (nameOf line)) where
   type-end : fieldEnd line 0 ≡ name
-  type-end = omega (arith, part-long line 0 (omega arith), end-least line 0 (omega arith), ap length (part-there line 0 0 refl (fieldEnd line 0) (omega arith) refl))
+  type-end = omega (
+    arith,
+    part-long line 0 (omega arith),
+    end-least line 0 (omega arith),
+    ap length (part-there line 0 0 refl (fieldEnd line 0) (omega arith) refl),
+  )
 
   pub name-there : take (name + 1 - 1 - 0) (drop 0 line) ≡ nameOf line
   name-there =

@@ -18,7 +18,8 @@ use Rattle.line.proofs.Parts.{rest, rest-none, rest-step, part-long, en
 
 -- what is left of the walk at a place, with the part in front of it from the place beside on, is the whole
 abbrev pub Left : Record → List ℕ → ℕ → ℕ → ℕ → ℕ → Walk → Type 0
-Left kind line at number beside start whole = walk kind number (at + start) (take (start - 1 - beside) (drop beside line)) (rest line start) ≡ whole
+Left kind line at number beside start whole = walk kind number (at + start) (take (start - 1 - beside) (drop beside line))
+    (rest line start) ≡ whole
 
 module _ (kind : Record) (line : List ℕ) (at name : ℕ) (en : name ≡ length (nameOf line)) where
   pub walk-starts : Left kind line at 1 0 (name + 1) (walk kind 1 (at + length (nameOf line) + 1) (nameOf line) (fieldsOf line))
@@ -28,12 +29,15 @@ module _ (kind : Record) (line : List ℕ) (at name : ℕ) (en : name ≡ length
       ∙ ap (λ (b : List ℕ). walk kind 1 (at + length (nameOf line) + 1) b (rest line (name + 1))) (name-there line name en)
       ∙ ap (λ (fs : List (List ℕ)). walk kind 1 (at + length (nameOf line) + 1) (nameOf line) fs) (fields-there line name en)
 
-module _ (kind : Record) (line : List ℕ) (at number beside start : ℕ) (whole : Walk) (left : Left kind line at number beside start whole) where
+module _ (kind : Record) (line : List ℕ) (at number beside start : ℕ) (whole : Walk)
+    (left : Left kind line at number beside start whole) where
   pub walk-done : length line < start → Fine ≡ whole
   walk-done h = sym (ap (walk kind number (at + start) (take (start - 1 - beside) (drop beside line))) (rest-none line start h)) ∙ left
 
-  module _ (end : ℕ) (t : Tested) (h : start ≤ length line) (ee : end ≡ fieldEnd line start) (et : t ≡ tested kind number (take (start - 1 - beside) (drop beside line)) (take (end - start) (drop start line))) where
-    turn : onTest t (at + start) (walk kind (suc number) (at + start + length (take (end - start) (drop start line)) + 1) (take (end - start) (drop start line)) (rest line (end + 1))) ≡ whole
+  module _ (end : ℕ) (t : Tested) (h : start ≤ length line) (ee : end ≡ fieldEnd line start)
+      (et : t ≡ tested kind number (take (start - 1 - beside) (drop beside line)) (take (end - start) (drop start line))) where
+    turn : onTest t (at + start) (walk kind (suc number) (at + start + length (take (end - start) (drop start line)) + 1)
+        (take (end - start) (drop start line)) (rest line (end + 1))) ≡ whole
     turn =
         rw (et, ee)
         (sym (ap (walk kind number (at + start) (take (start - 1 - beside) (drop beside line))) (rest-step line start h)) ∙ left)
@@ -45,7 +49,8 @@ module _ (kind : Record) (line : List ℕ) (at number beside start : ℕ) (whole
     walk-on e =
         let f = take (end - start) (drop start line) in
         let long : length (take (end - start) (drop start line)) ≡ end - start = rw ee (part-long line start h) in
-        let place : at + (end + 1) ≡ at + start + length (take (end - start) (drop start line)) + 1 = omega (arith, long, ee, end-least line start h) in
+        let place : at + (end + 1) ≡ at + start + length (take (end - start) (drop start line)) + 1 =
+        omega (arith, long, ee, end-least line start h) in
         let same : end + 1 - 1 - start ≡ end - start = omega arith in
         let on : walk kind (suc number) (at + start + length f + 1) f (rest line (end + 1)) ≡ whole = rw e at turn in
         ap (λ (n : ℕ). walk kind n (at + (end + 1)) (take (end + 1 - 1 - start) (drop start line)) (rest line (end + 1))) (add-one number)

@@ -38,7 +38,8 @@ accepted-sound s e =
     let inside = leb 15 (length s) && leb (length s) 34 in
     let wrong = ltb (wrongSymbol s) (length s) in
     let tail = if soundOf s then Accepted else Refused WrongCheck 2 in
-    let a = came-else (not inside) (Refused WrongLength 0) (if wrong then Refused WrongSymbol (wrongSymbol s) else tail) Accepted refused e in
+    let a = came-else (not inside) (Refused WrongLength 0) (if wrong then Refused WrongSymbol
+    (wrongSymbol s) else tail) Accepted refused e in
     let b = came-else wrong (Refused WrongSymbol (wrongSymbol s)) tail Accepted refused (a .1) in
     let c = came-then (soundOf s) Accepted (Refused WrongCheck 2) Accepted refused (b .1) in
     let long = not-false inside (a .0) in
@@ -79,14 +80,28 @@ alike a b = ⊎-elim digits letters
     digits d =
         record {
           weights = light a (d .0) ∙ sym (light b (d .1));
-          one = λ e. omega (arith, digit-range a (d .0), digit-range b (d .1), value-digit a (digit a) refl (d .0), value-digit b (digit b) refl (d .1));
+          one = λ e. omega (
+            arith,
+            digit-range a (d .0),
+            digit-range b (d .1),
+            value-digit a (digit a) refl (d .0),
+            value-digit b
+                (digit b) refl (d .1),
+          );
         }
 
     letters : (capital a ≡ true) × (capital b ≡ true) → Alike a b
     letters c =
         record {
           weights = rw (c .0, c .1);
-          one = λ e. omega (arith, capital-range a (c .0), capital-range b (c .1), value-capital a (digit a) refl (capital a) refl (no-digit a (c .0)) (c .0), value-capital b (digit b) refl (capital b) refl (no-digit b (c .1)) (c .1));
+          one = λ e. omega (
+            arith,
+            capital-range a (c .0),
+            capital-range b (c .1),
+            value-capital a (digit a) refl (capital a) refl
+                (no-digit a (c .0)) (c .0),
+            value-capital b (digit b) refl (capital b) refl (no-digit b (c .1)) (c .1),
+          );
         }
 
 below : (b : ℕ) → valueOf b < 36
@@ -98,18 +113,21 @@ digit-below b d = omega (arith, digit-range b d, value-digit b (digit b) refl d)
 -- the walk goes back one to one
 remainder-back : (s : List ℕ) (r q : ℕ) → r < 97 → q < 97 → remainderFrom r s ≡ remainderFrom q s → r ≡ q
 remainder-back [] r q l m e = e
-remainder-back (b ∷ s) r q l m e = tell-remainders (weight b) (weight-tells b) (valueOf b) r q l m (remainder-back s (after r b) (after q b) (omega arith) (omega arith) e)
+remainder-back (b ∷ s) r q l m e = tell-remainders (weight b) (weight-tells b) (valueOf b) r q l m
+    (remainder-back s (after r b) (after q b) (omega arith) (omega arith) e)
 
 -- one symbol more, and two in either order
 after-one : (r a b : ℕ) → Alike a b → after r a ≡ after r b → a ≡ b
-after-one r a b k e = k .one (tell-value (weight a * r) (valueOf a) (valueOf b) (below a) (below b) (e ∙ sym (ap (λ (m : ℕ). (m * r + valueOf b) % 97) (k .weights))))
+after-one r a b k e = k .one (tell-value (weight a * r) (valueOf a) (valueOf b) (below a) (below b) (e
+    ∙ sym (ap (λ (m : ℕ). (m * r + valueOf b) % 97) (k .weights))))
 
 after-two : (r a b : ℕ) → Alike a b → after (after r a) b ≡ after (after r b) a → a ≡ b
 after-two r a b k e =
     let m = weight a in
     k .one
     (tell-order m (weight-tells a) r (valueOf a) (valueOf b) (below a) (below b)
-    (ap (λ (x : ℕ). (x * ((m * r + valueOf a) % 97) + valueOf b) % 97) (k .weights) ∙ e ∙ sym (ap (λ (x : ℕ). (m * ((x * r + valueOf b) % 97) + valueOf a) % 97) (k .weights))))
+    (ap (λ (x : ℕ). (x * ((m * r + valueOf a) % 97) + valueOf b) % 97) (k .weights) ∙ e
+    ∙ sym (ap (λ (x : ℕ). (m * ((x * r + valueOf b) % 97) + valueOf a) % 97) (k .weights))))
 
 -- the remainder of a sound IBAN, walked over its symbols once the first four are moved
 walked : (s t : List ℕ) → SoundIban s → moved s ≡ t → remainderFrom 0 t ≡ 1
@@ -123,10 +141,25 @@ record Stands (p q : List ℕ) : Type 0 where
 
 stands : (p q : List ℕ) → Stands p q
 stands [] q = record { front = drop 3 q; back = take 3 q; there = λ a. refl }
-stands (x ∷ []) q = record { front = drop 2 q ++ (x ∷ []); back = take 2 q; there = λ a. sym (append-assoc (drop 2 q) (x ∷ []) (a ∷ take 2 q)) }
-stands (x ∷ y ∷ []) q = record { front = drop 1 q ++ (x ∷ y ∷ []); back = take 1 q; there = λ a. sym (append-assoc (drop 1 q) (x ∷ y ∷ []) (a ∷ take 1 q)) }
+stands (x ∷ []) q = record {
+  front = drop 2 q ++ (x ∷ []);
+  back = take 2 q;
+  there =
+      λ a. sym (append-assoc (drop 2 q) (x ∷ []) (a ∷ take 2 q));
+}
+stands (x ∷ y ∷ []) q = record {
+  front = drop 1 q ++ (x ∷ y ∷ []);
+  back = take 1 q;
+  there =
+      λ a. sym (append-assoc (drop 1 q) (x ∷ y ∷ []) (a ∷ take 1 q));
+}
 stands (x ∷ y ∷ z ∷ []) q = record { front = q ++ (x ∷ y ∷ z ∷ []); back = []; there = λ a. sym (append-assoc q (x ∷ y ∷ z ∷ []) (a ∷ [])) }
-stands (x ∷ y ∷ z ∷ w ∷ p) q = record { front = p; back = q ++ (x ∷ y ∷ z ∷ w ∷ []); there = λ a. append-assoc p (a ∷ q) (x ∷ y ∷ z ∷ w ∷ []) }
+stands (x ∷ y ∷ z ∷ w ∷ p) q = record {
+  front = p;
+  back = q ++ (x ∷ y ∷ z ∷ w ∷ []);
+  there =
+      λ a. append-assoc p (a ∷ q) (x ∷ y ∷ z ∷ w ∷ []);
+}
 
 -- no two sound IBANs differ in one symbol of a class
 one-symbol : (p : List ℕ) (a b : ℕ) (q : List ℕ) → OneClass a b → SoundIban (p ++ a ∷ q) → SoundIban (p ++ b ∷ q) → a ≡ b
@@ -144,7 +177,8 @@ single-iban s t i gs gt g k =
     (λ l. one-symbol (take i s) (getD s i 0) (getD t i 0) (drop (suc i) s) k (rw (split-at s i 0 l) at gs) (rw (in-pieces i s t g l) at gt))
 
 -- two neighbours that stay neighbours once the first four are moved
-neighbours : (x : List ℕ) (a b : ℕ) (y : List ℕ) → OneClass a b → remainderFrom 0 (x ++ a ∷ b ∷ y) ≡ 1 → remainderFrom 0 (x ++ b ∷ a ∷ y) ≡ 1 → a ≡ b
+neighbours : (x : List ℕ) (a b : ℕ) (y : List ℕ) → OneClass a b → remainderFrom 0 (x ++ a ∷ b ∷ y) ≡ 1 →
+    remainderFrom 0 (x ++ b ∷ a ∷ y) ≡ 1 → a ≡ b
 neighbours x a b y k ha hb =
     let r = remainderFrom 0 x in
     after-two r a b (alike a b k)
@@ -187,15 +221,18 @@ power-tells n z v w l lv lw h =
   where
     even : (v w : ℕ) → (v * 10 ^ (n + 1) + w + 10 * z) % 97 ≡ (10 * (v * 10 ^ n + z) + w) % 97
     even v w =
-        let h : v * 10 ^ (n + 1) + w + 10 * z ≡ 10 * (v * 10 ^ n + z) + w = rw add-one (omega (arith, ap (λ (x : ℕ). v * x) (pow-succ' 10 n))) in
+        let h : v * 10 ^ (n + 1) + w + 10 * z ≡ 10 * (v * 10 ^ n + z) + w =
+        rw add-one (omega (arith, ap (λ (x : ℕ). v * x) (pow-succ' 10 n))) in
         ap (λ (n : ℕ). n % 97) h
 
 -- the number whose first digit is b and whose last is a
-ends-number : (a b : ℕ) (m : List ℕ) → digit a ≡ true → digit b ≡ true → decimal (spread ((b ∷ m) ++ (a ∷ []))) ≡ 10 * (valueOf b * 10 ^ length (spread m) + decimal (spread m)) + valueOf a
+ends-number : (a b : ℕ) (m : List ℕ) → digit a ≡ true → digit b ≡ true →
+    decimal (spread ((b ∷ m) ++ (a ∷ []))) ≡ 10 * (valueOf b * 10 ^ length (spread m) + decimal (spread m)) + valueOf a
 ends-number a b m da db =
     ap decimal (spread-append (b ∷ m) (a ∷ []))
     ∙ decimal-append 0 (spread (b ∷ m)) (spread (a ∷ []))
-    ∙ ap (λ (r : ℕ). decimalFrom r (spread (a ∷ []))) (decimal-append 0 (digitsOf b) (spread m) ∙ ap (λ (r : ℕ). decimalFrom r (spread m)) (ten 0 b db) ∙ decimal-linear (10 * 0 + valueOf b) (spread m))
+    ∙ ap (λ (r : ℕ). decimalFrom r (spread (a ∷ []))) (decimal-append 0 (digitsOf b) (spread m)
+    ∙ ap (λ (r : ℕ). decimalFrom r (spread m)) (ten 0 b db) ∙ decimal-linear (10 * 0 + valueOf b) (spread m))
     ∙ decimal-append _ (digitsOf a) []
     ∙ ten _ a da
     ∙ omega arith
@@ -203,7 +240,8 @@ ends-number a b m da db =
     ten : (r b : ℕ) → digit b ≡ true → decimalFrom r (digitsOf b) ≡ 10 * r + valueOf b
     ten r b d = weighed r b ∙ ap (λ (m : ℕ). m * r + valueOf b) (light b d)
 
-fourth-and-fifth : (x y z a b : ℕ) (q : List ℕ) → OneClass a b → SoundIban (x ∷ y ∷ z ∷ a ∷ b ∷ q) → SoundIban (x ∷ y ∷ z ∷ b ∷ a ∷ q) → a ≡ b
+fourth-and-fifth : (x y z a b : ℕ) (q : List ℕ) → OneClass a b → SoundIban (x ∷ y ∷ z ∷ a ∷ b ∷ q) → SoundIban (x ∷ y ∷ z ∷ b ∷ a ∷ q) →
+    a ≡ b
 unfolding allowed
 fourth-and-fifth x y z a b q k ga gb = ⊎-elim (λ d. digits (d .0) (d .1)) (λ c. clash (ga .shaped 3 (omega arith)) (no-digit a (c .0))) k
   where
@@ -224,12 +262,17 @@ fourth-and-fifth x y z a b q k ga gb = ⊎-elim (λ d. digits (d .0) (d .1)) (λ
 two-swapped : (p : List ℕ) (a b : ℕ) (q : List ℕ) → OneClass a b → SoundIban (p ++ a ∷ b ∷ q) → SoundIban (p ++ b ∷ a ∷ q) → a ≡ b
 two-swapped [] a b q k ga gb = neighbours (drop 2 q) a b (take 2 q) k (walked _ _ ga refl) (walked _ _ gb refl)
 two-swapped (x ∷ []) a b q k ga gb =
-    neighbours (drop 1 q ++ (x ∷ [])) a b (take 1 q) k (walked _ _ ga (sym (append-assoc (drop 1 q) (x ∷ []) (a ∷ b ∷ take 1 q)))) (walked _ _ gb (sym (append-assoc (drop 1 q) (x ∷ []) (b ∷ a ∷ take 1 q))))
+    neighbours (drop 1 q ++ (x ∷ [])) a b (take 1 q) k (walked _ _ ga (sym (append-assoc (drop 1 q) (x ∷ []) (a ∷ b ∷ take 1 q))))
+    (walked _ _ gb (sym (append-assoc (drop 1 q) (x ∷ []) (b ∷ a ∷ take 1 q))))
 two-swapped (x ∷ y ∷ []) a b q k ga gb =
-    neighbours (q ++ (x ∷ y ∷ [])) a b [] k (walked _ _ ga (sym (append-assoc q (x ∷ y ∷ []) (a ∷ b ∷ [])))) (walked _ _ gb (sym (append-assoc q (x ∷ y ∷ []) (b ∷ a ∷ []))))
+    neighbours (q ++ (x ∷ y ∷ [])) a b [] k (walked _ _ ga (sym (append-assoc q (x ∷ y ∷ []) (a ∷ b ∷ []))))
+    (walked _ _ gb (sym (append-assoc q (x ∷ y ∷ []) (b ∷ a ∷ []))))
 two-swapped (x ∷ y ∷ z ∷ []) a b q k ga gb = fourth-and-fifth x y z a b q k ga gb
 two-swapped (x ∷ y ∷ z ∷ w ∷ p) a b q k ga gb =
-    neighbours p a b (q ++ (x ∷ y ∷ z ∷ w ∷ [])) k (walked _ _ ga (append-assoc p (a ∷ b ∷ q) (x ∷ y ∷ z ∷ w ∷ []))) (walked _ _ gb (append-assoc p (b ∷ a ∷ q) (x ∷ y ∷ z ∷ w ∷ [])))
+    neighbours p a b (q ++ (x ∷ y ∷ z ∷ w ∷ [])) k (walked _ _ ga (append-assoc p (a ∷ b ∷ q) (x ∷ y ∷ z ∷ w ∷ [])))
+    (walked _ _ gb (append-assoc p (b ∷ a ∷ q) (x ∷ y ∷ z ∷ w ∷ [])))
 
-pub swap-iban : (s : List ℕ) (i : ℕ) → i + 1 < length s → OneClass (getD s i 0) (getD s (i + 1) 0) → SoundIban s → SoundIban (swapped i s) → swapped i s ≡ s
-swap-iban s i h k g gt = swap-alike i s h (two-swapped (take i s) (getD s i 0) (getD s (i + 1) 0) (drop (i + 2) s) k (rw (pair-at i s h) at g) gt)
+pub swap-iban : (s : List ℕ) (i : ℕ) → i + 1 < length s → OneClass (getD s i 0) (getD s (i + 1) 0) → SoundIban s →
+    SoundIban (swapped i s) → swapped i s ≡ s
+swap-iban s i h k g gt = swap-alike i s h (two-swapped (take i s) (getD s i 0) (getD s (i + 1) 0) (drop (i + 2) s) k
+    (rw (pair-at i s h) at g) gt)

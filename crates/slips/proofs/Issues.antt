@@ -43,14 +43,19 @@ pub record Body (k : Kind) (body : List ℕ) (n : ℕ) : Type 0 where
 body-as : (k : Kind) (body : List ℕ) (room n : ℕ) → length body + 1 ≡ lengthOf k → issueAs k body room ≡ Issued n → Body k body n
 unfolding issueAs
 body-as k body room n long e =
-    let w = came-else (ltb (wrongSymbol k body) (length body)) (NotIssued WrongSymbol (wrongSymbol k body)) (if ltb room (lengthOf k) then NotIssued OutputTooShort 0 else Issued (lengthOf k)) (Issued n) not-issued e in
+    let w = came-else (ltb (wrongSymbol k body) (length body)) (NotIssued WrongSymbol (wrongSymbol k body))
+    (if ltb room (lengthOf k) then NotIssued OutputTooShort 0 else Issued (lengthOf k)) (Issued n) not-issued e in
     let r = came-else (ltb room (lengthOf k)) (NotIssued OutputTooShort 0) (Issued (lengthOf k)) (Issued n) not-issued (w .1) in
     record { long = long; shaped = shaped-of k body (ltb-false (wrongSymbol k body) (length body) (w .0)); whole = cc }
 
 body-of : (body : List ℕ) (room n : ℕ) → issueAnswer body room ≡ Issued n → (k : Kind) × Body k body n
 unfolding issueAnswer
 body-of body room n e =
-    ⊎-elim (λ (t : eqb (length body) 14 ≡ true). (Tracking, body-as Tracking body room n (omega (arith, eqb-true (length body) 14 t)) (simp t at e)))
+    ⊎-elim (λ (t : eqb (length body) 14 ≡ true). (
+      Tracking,
+      body-as Tracking body room n (omega (arith, eqb-true (length body) 14 t))
+          (simp t at e),
+    ))
     (λ (f : eqb (length body) 14 ≡ false).
     let w = came-then (eqb (length body) 27) (issueAs Label body room) (NotIssued WrongLength 0) (Issued n) not-issued (simp f at e) in
     (Label, body-as Label body room n (omega (arith, eqb-true (length body) 27 (w .0))) (w .1)))
@@ -74,18 +79,22 @@ module _ (body : List ℕ) where
   check-symbol = ap symbol check-is ∙ symbol-symbol ((37 - carry body) % 36) (omega arith)
 
   check-closes : (carry body + valueOf (checkOf body)) % 36 ≡ 1
-  check-closes = let r = carry-of body in let v = ap valueOf check-is ∙ symbol-value ((37 - carry body) % 36) (omega arith) in rw v (omega (arith, r .low, r .high))
+  check-closes = let r = carry-of body in let v = ap valueOf check-is ∙ symbol-value ((37 - carry body) % 36) (omega arith) in
+      rw v (omega (arith, r .low, r .high))
 
 check-stands : (k : Kind) (i b : ℕ) → i + 1 ≡ lengthOf k → symbol b ≡ true → allowed k i b ≡ true
 check-stands Tracking i b e s = sym (tracking-check Tracking i b (symbol b) refl (omega arith) (omega arith) refl) ∙ s
 check-stands Label i b e s = sym (label-check Label i b (symbol b) refl (omega arith) (omega arith) refl) ∙ s
 
-with-check : (k : Kind) (body : List ℕ) → length body + 1 ≡ lengthOf k → Shaped (allowed k) body → SoundNumber k (body ++ (checkOf body ∷ []))
+with-check : (k : Kind) (body : List ℕ) → length body + 1 ≡ lengthOf k → Shaped (allowed k) body →
+    SoundNumber k (body ++ (checkOf body ∷ []))
 with-check k body long shaped =
     record {
       long = whole-long ∙ long;
-      shaped = λ i l. ⊎-elim (λ m. at-end i (omega (arith, whole-long))) (λ m. rw (List·getD-append body (checkOf body ∷ []) 0 i m) (shaped i m)) (le-or-lt (length body) i);
-      closed = two-passes (body ++ (checkOf body ∷ [])) (omega (arith, whole-long)) (carry-append 36 body (checkOf body ∷ []) ∙ two-of-one (carry body) (valueOf (checkOf body)) (check-closes body));
+      shaped = λ i l. ⊎-elim (λ m. at-end i (omega (arith, whole-long)))
+          (λ m. rw (List·getD-append body (checkOf body ∷ []) 0 i m) (shaped i m)) (le-or-lt (length body) i);
+      closed = two-passes (body ++ (checkOf body ∷ [])) (omega (arith, whole-long)) (carry-append 36 body (checkOf body ∷ [])
+          ∙ two-of-one (carry body) (valueOf (checkOf body)) (check-closes body));
     }
   where
     whole-long : length (body ++ (checkOf body ∷ [])) ≡ length body + 1
@@ -101,7 +110,8 @@ issued-sound body out after n h =
     let b = body-of body (length out) n (sym (h .0)) in
     let w = with-check (b .0) body (b .1 .long) (b .1 .shaped) in
     let front : take n after ≡ body ++ (checkOf body ∷ []) =
-    ap (take n) (h .1 ∙ sym (append-snoc body (checkOf body) (drop n out))) ∙ take-at (body ++ (checkOf body ∷ [])) (drop n out) n (w .long ∙ sym (b .1 .whole)) in
+    ap (take n) (h .1 ∙ sym (append-snoc body (checkOf body) (drop n out)))
+    ∙ take-at (body ++ (checkOf body ∷ [])) (drop n out) n (w .long ∙ sym (b .1 .whole)) in
     (b .0, rw front w)
 
 -- a sound number is what its body issues
@@ -114,7 +124,8 @@ issues-as : (k : Kind) (body : List ℕ) (room : ℕ) → length body + 1 ≡ le
 issues-as Tracking body room e = issue-tracking body room (omega arith)
 issues-as Label body room e = issue-label body room (λ q. omega arith) (omega arith)
 
-pub sound-issued : (k : Kind) (s out after : List ℕ) (answer : IssueAnswer) → SoundNumber k s → length s ≤ length out → Issues (bodyOf s) out answer after
+pub sound-issued : (k : Kind) (s out after : List ℕ) (answer : IssueAnswer) → SoundNumber k s → length s ≤ length out →
+    Issues (bodyOf s) out answer after
     → (answer ≡ Issued (length s)) × (after ≡ s ++ drop (length s) out)
 unfolding issuedTo
 sound-issued k s out after answer g room h = (answered, rw answered at (h .1) ∙ same)
@@ -132,12 +143,14 @@ sound-issued k s out after answer g room h = (answered, rw answered at (h .1) �
     answered =
         h .0
         ∙ issues-as k (bodyOf s) (length out) (whole ∙ g .long)
-        ∙ sym (issue-fits k (bodyOf s) (length out) (wrongSymbol k (bodyOf s)) refl (of-shaped k (bodyOf s) shaped) (whole ∙ g .long) (omega (arith, whole)))
+        ∙ sym (issue-fits k (bodyOf s) (length out) (wrongSymbol k (bodyOf s)) refl (of-shaped k (bodyOf s) shaped) (whole
+        ∙ g .long) (omega (arith, whole)))
         ∙ ap Issued whole
 
     last : checkOf (bodyOf s) ≡ getD s (length s - 1) 0
     last =
-        one-symbol k (bodyOf s) (checkOf (bodyOf s)) (getD s (length s - 1) 0) [] (with-check k (bodyOf s) (whole ∙ g .long) shaped) (rw (all-and-last s some) at g)
+        one-symbol k (bodyOf s) (checkOf (bodyOf s)) (getD s (length s - 1) 0) [] (with-check k (bodyOf s) (whole ∙ g .long) shaped)
+        (rw (all-and-last s some) at g)
 
     same : issuedTo (Issued (length s)) (bodyOf s) out ≡ s ++ drop (length s) out
     same =

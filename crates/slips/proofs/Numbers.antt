@@ -54,7 +54,8 @@ one-of-two c v e = step-sum c v 36 1 e
 sound-as : (j k : Kind) (s : List ℕ) → length s ≡ lengthOf j → checkedAs j s ≡ Accepted k → SoundNumber k s
 unfolding checkedAs
 sound-as j k s n e =
-    let w = came-else (ltb (wrongSymbol j s) (length s)) (Refused WrongSymbol (wrongSymbol j s)) (if passes s then Accepted j else Refused WrongCheck (length s - 1)) (Accepted k) refused e in
+    let w = came-else (ltb (wrongSymbol j s) (length s)) (Refused WrongSymbol (wrongSymbol j s))
+    (if passes s then Accepted j else Refused WrongCheck (length s - 1)) (Accepted k) refused e in
     let p = came-then (passes s) (Accepted j) (Refused WrongCheck (length s - 1)) (Accepted k) refused (w .1) in
     let q : j ≡ k = cc in
     let g : SoundNumber j s = record { long = n; shaped = shaped-of j s (ltb-false (wrongSymbol j s) (length s) (w .0)); closed = p .0 } in
@@ -109,10 +110,12 @@ digit-symbol b e = rw e
 
 symbol-of : (k : Kind) (i b : ℕ) → i < lengthOf k → allowed k i b ≡ true → symbol b ≡ true
 symbol-of Tracking i b h e =
-    ⊎-elim (λ l. tracking-check Tracking i b (symbol b) refl l h refl ∙ e) (λ l. digit-symbol b (tracking-digit Tracking i b (digit b) refl l refl ∙ e)) (le-or-lt 14 i)
+    ⊎-elim (λ l. tracking-check Tracking i b (symbol b) refl l h refl
+    ∙ e) (λ l. digit-symbol b (tracking-digit Tracking i b (digit b) refl l refl ∙ e)) (le-or-lt 14 i)
 symbol-of Label i b h e =
     ⊎-elim
-    (λ m. ⊎-elim (λ l. label-check Label i b (symbol b) refl l h refl ∙ e) (λ l. digit-symbol b (label-digit Label i b (digit b) refl m l refl ∙ e)) (le-or-lt 27 i))
+    (λ m. ⊎-elim (λ l. label-check Label i b (symbol b) refl l h refl
+    ∙ e) (λ l. digit-symbol b (label-digit Label i b (digit b) refl m l refl ∙ e)) (le-or-lt 27 i))
     (λ l. label-symbol Label i b (symbol b) refl l refl ∙ e)
     (le-or-lt 7 i)
 
@@ -131,13 +134,15 @@ valued b s =
 
 value-one : (a b : ℕ) → symbol a ≡ true → symbol b ≡ true → valueOf a ≡ valueOf b → a ≡ b
 value-one a b sa sb e =
-    ⊎-elim (λ x. ⊎-elim (λ y. omega arith) (λ y. omega arith) (valued b sb)) (λ x. ⊎-elim (λ y. omega arith) (λ y. omega arith) (valued b sb)) (valued a sa)
+    ⊎-elim (λ x. ⊎-elim (λ y. omega arith) (λ y. omega arith) (valued b sb))
+    (λ x. ⊎-elim (λ y. omega arith) (λ y. omega arith) (valued b sb)) (valued a sa)
 
 below : (b : ℕ) → valueOf b < 36
 below b = omega (arith, value-le b)
 
 -- a number in pieces: what stands in a shape is a symbol, and a sound number's carry ends at 2
-symbol-in : (k : Kind) (p : List ℕ) (a : ℕ) (q : List ℕ) → length (p ++ a ∷ q) ≡ lengthOf k → Shaped (allowed k) (p ++ a ∷ q) → symbol a ≡ true
+symbol-in : (k : Kind) (p : List ℕ) (a : ℕ) (q : List ℕ) → length (p ++ a ∷ q) ≡ lengthOf k → Shaped (allowed k) (p ++ a ∷ q) →
+    symbol a ≡ true
 symbol-in k p a q long shaped =
     let l : length p < length (p ++ a ∷ q) = simp length-append (omega arith) in
     symbol-of k (length p) a (rw long at l) (rw (getD-at p a q 0 (length p) refl) at (shaped (length p) l))
@@ -154,7 +159,8 @@ pub one-symbol : (k : Kind) (p : List ℕ) (a b : ℕ) (q : List ℕ) → SoundN
 one-symbol k p a b q ga gb =
     value-one a b (is-symbol k p a q ga) (is-symbol k p b q gb)
     (step-value (carry p) (valueOf a) (valueOf b) (below a) (below b)
-    (carry-back _ _ q (step-carry (carry p) (valueOf a)) (step-carry (carry p) (valueOf b)) (ends-at-two k p a q ga ∙ sym (ends-at-two k p b q gb))))
+    (carry-back _ _ q (step-carry (carry p) (valueOf a)) (step-carry (carry p) (valueOf b)) (ends-at-two k p a q ga
+    ∙ sym (ends-at-two k p b q gb))))
 
 pub single-number : (k : Kind) (s t : List ℕ) (i : ℕ) → SoundNumber k s → SoundNumber k t → AgreeBut i s t → s ≡ t
 single-number k s t i gs gt g =
@@ -173,7 +179,8 @@ module _ (k : Kind) (p : List ℕ) (a b : ℕ) (q : List ℕ) (n : a ≡ b → �
     swap-seen : SoundNumber k (p ++ b ∷ a ∷ q) → OneFollows (carry p) (valueOf a) (valueOf b)
     swap-seen gt =
         swap-follows (carry p) (valueOf a) (valueOf b) (carry-of p) (below a) (below b) unlike
-        (carry-back _ _ q (step-carry (step (carry p) (valueOf a)) (valueOf b)) (step-carry (step (carry p) (valueOf b)) (valueOf a)) (ends-at-two k p a (b ∷ q) g ∙ sym (ends-at-two k p b (a ∷ q) gt)))
+        (carry-back _ _ q (step-carry (step (carry p) (valueOf a)) (valueOf b)) (step-carry (step (carry p) (valueOf b)) (valueOf a))
+        (ends-at-two k p a (b ∷ q) g ∙ sym (ends-at-two k p b (a ∷ q) gt)))
 
     swap-unseen : OneFollows (carry p) (valueOf a) (valueOf b) → SoundNumber k (p ++ b ∷ a ∷ q)
     swap-unseen f =
@@ -183,11 +190,13 @@ module _ (k : Kind) (p : List ℕ) (a b : ℕ) (q : List ℕ) (n : a ≡ b → �
           closed =
               two-passes (p ++ b ∷ a ∷ q) (has-last k (length (p ++ b ∷ a ∷ q)) swapped-long)
               (carry-append 36 p (b ∷ a ∷ q)
-              ∙ ap (λ (c : ℕ). carryFrom c q) (sym (follows-swap (carry p) (valueOf a) (valueOf b) (carry-of p) (below a) (below b) unlike f))
+              ∙ ap (λ (c : ℕ). carryFrom c q) (sym (follows-swap (carry p) (valueOf a) (valueOf b) (carry-of p) (below a)
+              (below b) unlike f))
               ∙ ends-at-two k p a (b ∷ q) g);
         }
 
-pub swap-number : (k : Kind) (s : List ℕ) (i : ℕ) → i + 1 < length s → (getD s i 0 ≡ getD s (i + 1) 0 → ⊥) → SoundNumber k s → Shaped (allowed k) (swapped i s)
+pub swap-number : (k : Kind) (s : List ℕ) (i : ℕ) → i + 1 < length s → (getD s i 0 ≡ getD s (i + 1) 0 → ⊥) → SoundNumber k s →
+    Shaped (allowed k) (swapped i s)
     → SoundNumber k (swapped i s) ↔ OneFollows (carry (take i s)) (valueOf (getD s i 0)) (valueOf (getD s (i + 1) 0))
 swap-number k s i h n g shaped =
     let a = getD s i 0 in

@@ -14,7 +14,8 @@ module _ (i : ℕ) (s t : List ℕ) (g : AgreeBut i s t) where
   pub in-pieces : i < length s → t ≡ take i s ++ getD t i 0 ∷ drop (suc i) s
   in-pieces l =
       ext-getD 0 t (set s i (getD t i 0)) (simp length-set (sym (g .long)))
-      (λ j m. ⊎-elim (λ e. rw e (sym (getD-set-same s i (getD t i 0) 0 l))) (λ e. sym (g .away j e) ∙ sym (getD-set-other s i j (getD t i 0) 0 e)) (eq-or-ne j i))
+      (λ j m. ⊎-elim (λ e. rw e (sym (getD-set-same s i (getD t i 0) 0 l))) (λ e. sym (g .away j e)
+      ∙ sym (getD-set-other s i j (getD t i 0) 0 e)) (eq-or-ne j i))
       ∙ set-split s i (getD t i 0) l
 
   pub agree-there : (i < length s → getD s i 0 ≡ getD t i 0) → s ≡ t
@@ -27,4 +28,5 @@ module _ (i : ℕ) (s : List ℕ) (h : i + 1 < length s) where
       ∙ ap (λ (l : List ℕ). take i s ++ getD s i 0 ∷ l) (rw (add-two, add-one) (drop-cons s (suc i) 0 (rw add-one at h)))
 
   pub swap-alike : getD s i 0 ≡ getD s (i + 1) 0 → swapped i s ≡ s
-  swap-alike e = sym (pair-at ∙ ap (λ (x : ℕ). take i s ++ x ∷ getD s (i + 1) 0 ∷ drop (i + 2) s) e ∙ sym (ap (λ (x : ℕ). take i s ++ getD s (i + 1) 0 ∷ x ∷ drop (i + 2) s) e))
+  swap-alike e = sym (pair-at ∙ ap (λ (x : ℕ). take i s ++ x ∷ getD s (i + 1) 0 ∷ drop (i + 2) s) e
+      ∙ sym (ap (λ (x : ℕ). take i s ++ getD s (i + 1) 0 ∷ x ∷ drop (i + 2) s) e))

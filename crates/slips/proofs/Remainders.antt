@@ -24,7 +24,8 @@ pub weighed : (r b : ℕ) → decimalFrom r (digitsOf b) ≡ weight b * r + valu
 unfolding digitsOf
 weighed r b = go (capital b)
   where
-    go : (t : Bool) → decimalFrom r (if t then valueOf b / 10 ∷ valueOf b % 10 ∷ [] else valueOf b ∷ []) ≡ (if t then 100 else 10) * r + valueOf b
+    go : (t : Bool) → decimalFrom r (if t then valueOf b / 10 ∷ valueOf b % 10 ∷ [] else valueOf b ∷
+        []) ≡ (if t then 100 else 10) * r + valueOf b
     go true = omega arith
     go false = refl
 
@@ -70,7 +71,8 @@ module _ (m : ℕ) (h : Tells m) where
   pub tell-order : (r v w : ℕ) → v < 36 → w < 36 → (m * ((m * r + v) % 97) + w) % 97 ≡ (m * ((m * r + w) % 97) + v) % 97 → v ≡ w
   tell-order r v w l k e =
       told-apart 36 (λ v w. (m * v + w) % 97) (λ v w. (m * w + v) % 97) (h .order) v w l k
-      (cancel (m * (m * r)) (m * v + w) (m * w + v) (even v w ∙ mod-scale m (m * r + v) w ∙ e ∙ sym (mod-scale m (m * r + w) v) ∙ sym (even w v)))
+      (cancel (m * (m * r)) (m * v + w) (m * w + v) (even v w ∙ mod-scale m (m * r + v) w ∙ e ∙ sym (mod-scale m (m * r + w) v)
+      ∙ sym (even w v)))
     where
       even : (v w : ℕ) → (m * v + w + m * (m * r)) % 97 ≡ (m * (m * r + v) + w) % 97
       even v w = let q : m * v + w + m * (m * r) ≡ m * (m * r + v) + w = omega (arith, mul-add m (m * r) v) in ap (λ (n : ℕ). n % 97) q

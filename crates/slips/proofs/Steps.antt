@@ -28,7 +28,8 @@ always-at test t c x y h l m =
 -- the step is one to one in what the sum leaves modulo 36
 pub step-sum : (c v d w : ℕ) → step c v ≡ step d w → (c + v) % 36 ≡ (d + w) % 36
 unfolding step
-step-sum c v d w e = told-apart 36 (λ x y. 2 * thirtySixFor0 x % 37) (λ x y. 2 * thirtySixFor0 y % 37) refl ((c + v) % 36) ((d + w) % 36) (omega arith) (omega arith) e
+step-sum c v d w e = told-apart 36 (λ x y. 2 * thirtySixFor0 x % 37) (λ x y. 2 * thirtySixFor0 y % 37) refl ((c + v) % 36) ((d + w) % 36)
+    (omega arith) (omega arith) e
 
 pub step-value : (c v w : ℕ) → v < 36 → w < 36 → step c v ≡ step c w → v ≡ w
 step-value c v w l m e = omega (arith, step-sum c v c w e)
@@ -63,8 +64,10 @@ follows-true : (c x y : ℕ) → Follows c x y → follows c x y ≡ true
 follows-true c x y f = and-both (eqb y ((x + 1) % 36)) (eqb ((c + x) % 36) 18) (eq-eqb _ _ (f .0)) (eq-eqb _ _ (f .1))
 
 true-follows : (c x y : ℕ) → follows c x y ≡ true → Follows c x y
-true-follows c x y e =
-    (eqb-true y ((x + 1) % 36) (and-left (eqb y ((x + 1) % 36)) (eqb ((c + x) % 36) 18) e), eqb-true ((c + x) % 36) 18 (and-right (eqb y ((x + 1) % 36)) (eqb ((c + x) % 36) 18) e))
+true-follows c x y e = (
+  eqb-true y ((x + 1) % 36) (and-left (eqb y ((x + 1) % 36)) (eqb ((c + x) % 36) 18) e),
+  eqb-true ((c + x) % 36) 18 (and-right (eqb y ((x + 1) % 36)) (eqb ((c + x) % 36) 18) e),
+)
 
 module _ (c x y : ℕ) (h : Carry c) (l : x < 36) (m : y < 36) (n : x ≡ y → ⊥) where
   unlike : swaps c x y ≡ (follows c x y || follows c y x)
@@ -76,7 +79,8 @@ module _ (c x y : ℕ) (h : Carry c) (l : x < 36) (m : y < 36) (n : x ≡ y → 
       (or-cases (follows c x y) (follows c y x) (sym unlike ∙ eq-eqb (step (step c x) y) (step (step c y) x) e))
 
   pub follows-swap : OneFollows c x y → step (step c x) y ≡ step (step c y) x
-  follows-swap f = eqb-true (step (step c x) y) (step (step c y) x) (unlike ∙ ⊎-elim (λ f. rw (follows-true c x y f)) (λ f. second (follows c x y) (follows-true c y x f)) f)
+  follows-swap f = eqb-true (step (step c x) y) (step (step c y) x) (unlike
+      ∙ ⊎-elim (λ f. rw (follows-true c x y f)) (λ f. second (follows c x y) (follows-true c y x f)) f)
     where
       second : (t : Bool) → follows c y x ≡ true → (t || follows c y x) ≡ true
       second true e = refl

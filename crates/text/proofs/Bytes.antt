@@ -59,7 +59,8 @@ module _ (b : ℕ) where
       let k : symbol b ≡ true = sym d ∙ r in
       simp (g, k)
 
-  pub purpose-mark : (t u v : Bool) → t ≡ small b → t ≡ false → u ≡ symbol b → u ≡ false → v ≡ among b (bytes ".,:'+-/()? ") → v ≡ purposeByte b
+  pub purpose-mark : (t u v : Bool) → t ≡ small b → t ≡ false → u ≡ symbol b → u ≡ false → v ≡ among b (bytes ".,:'+-/()? ") →
+      v ≡ purposeByte b
   purpose-mark t u v e q d r m =
       let g : small b ≡ false = sym e ∙ q in
       let k : symbol b ≡ false = sym d ∙ r in

@@ -26,4 +26,5 @@ pub told-apart : (n : ℕ) (f g : ℕ → ℕ → ℕ) → tells n f g ≡ true 
 told-apart n f g t v w l m e =
     ⊎-elim (λ d. clash d (ap not (eq-eqb (f v w) (g v w) e))) (λ d. eqb-true v w d)
     (or-cases (not (eqb (f v w) (g v w))) (eqb v w)
-    (every-at n (λ w. not (eqb (f v w) (g v w)) || eqb v w) (every-at n (λ v. every n (λ w. not (eqb (f v w) (g v w)) || eqb v w)) t v l) w m))
+    (every-at n (λ w. not (eqb (f v w) (g v w)) || eqb v w) (every-at n
+    (λ v. every n (λ w. not (eqb (f v w) (g v w)) || eqb v w)) t v l) w m))

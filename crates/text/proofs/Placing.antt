@@ -15,7 +15,8 @@ use Rattle.text.specs.Placed.{written, placed}
 
 -- the first i bytes of src are in: each premise is a fact that the loop has
 module _ (out₀ : List ℕ) (at : ℕ) (src out : List ℕ) (i : ℕ) where
-  pub copy-again : at + length src ≤ length out₀ → i < length src → out ≡ paste out₀ at src i → set out (at + i) (getD src i 0) ≡ paste out₀ at src (i + 1)
+  pub copy-again : at + length src ≤ length out₀ → i < length src → out ≡ paste out₀ at src i →
+      set out (at + i) (getD src i 0) ≡ paste out₀ at src (i + 1)
   copy-again r l e = rw (add-one, e) (paste-suc out₀ at src i 0 (omega arith) l)
 
   pub copy-done : i ≤ length src → length src ≤ i → out ≡ paste out₀ at src i → out ≡ written out₀ at src
@@ -55,17 +56,26 @@ module _ (out : List ℕ) (at : ℕ) (a : List ℕ) where
       go : (t : Bool) → leb (at + length a) (length out) ≡ t → length (if t then written out at a else out) ≡ length out
       go true e =
           let h = leb-true (at + length a) (length out) e in
-          omega (arith, length-append (take at out ++ a) (drop (at + length a) out), length-append (take at out) a, length-take-le at out (omega arith), length-drop (at + length a) out)
+          omega (
+            arith,
+            length-append (take at out ++ a) (drop (at + length a) out),
+            length-append (take at out) a,
+            length-take-le at out (omega arith),
+            length-drop (at + length a) out,
+          )
       go false e = refl
 
 -- two pieces placed one behind the other are one
-pub placed-on : (out : List ℕ) (at : ℕ) (a b : List ℕ) → at + length a + length b ≤ length out → placed (placed out at a) (at + length a) b ≡ placed out at (a ++ b)
+pub placed-on : (out : List ℕ) (at : ℕ) (a b : List ℕ) → at + length a + length b ≤ length out →
+    placed (placed out at a) (at + length a) b ≡ placed out at (a ++ b)
 placed-on out at a b h =
     let p : length (take at out ++ a) ≡ at + length a = omega (arith, length-append (take at out) a, length-take-le at out (omega arith)) in
     let n : at + length (a ++ b) ≡ at + length a + length b = omega (arith, length-append a b) in
-    let t : take (at + length a) (take at out ++ a ++ drop (at + length a) out) ≡ take at out ++ a = take-at (take at out ++ a) (drop (at + length a) out) (at + length a) p in
+    let t : take (at + length a) (take at out ++ a ++ drop (at + length a) out) ≡ take at out ++ a =
+    take-at (take at out ++ a) (drop (at + length a) out) (at + length a) p in
     let d : drop (at + length a + length b) (take at out ++ a ++ drop (at + length a) out) ≡ drop (at + length a + length b) out =
-    sym (drop-drop (length b) (at + length a) (take at out ++ a ++ drop (at + length a) out)) ∙ rw (drop-at (take at out ++ a) (drop (at + length a) out) (at + length a) p) (drop-drop (length b) (at + length a) out)
+    sym (drop-drop (length b) (at + length a) (take at out ++ a ++ drop (at + length a) out))
+    ∙ rw (drop-at (take at out ++ a) (drop (at + length a) out) (at + length a) p) (drop-drop (length b) (at + length a) out)
     in
     placed-there (placed out at a) (at + length a) b (omega (arith, placed-long out at a))
     ∙ rw (placed-there out at a (omega arith), placed-there out at (a ++ b) (omega (arith, length-append a b)), t, d, n) (simp append-assoc)
@@ -76,7 +86,8 @@ module _ (s : List ℕ) (at n : ℕ) where
   clip-none h = sym (ap (take n) (drop-of-length-le s {i = at} (omega arith)) ∙ take-nil n)
 
   pub clip-less : at ≤ length s → length s - at < n → take (length s - at) (drop at s) ≡ take n (drop at s)
-  clip-less l h = take-all (length s - at) (drop at s) (simp length-drop (omega arith)) ∙ sym (take-all n (drop at s) (simp length-drop (omega arith)))
+  clip-less l h = take-all (length s - at) (drop at s) (simp length-drop (omega arith))
+      ∙ sym (take-all n (drop at s) (simp length-drop (omega arith)))
 
   pub clip-whole : take (at + n - at) (drop at s) ≡ take n (drop at s)
   clip-whole = let e : at + n - at ≡ n = omega arith in rw e

@@ -17,7 +17,8 @@ use Rattle.text.proofs.Choices.{and-left, and-right, and-both, true-or-
 
 -- a loop at the place i that has walked over what lies in front of it: each premise is a fact that the loop has
 module _ (ok : ℕ → ℕ → Bool) (s : List ℕ) (i z : ℕ) where
-  pub walk-on : (t : Bool) → i < length s → t ≡ ok i (getD s i 0) → not t ≡ false → firstFailing ok i (drop i s) ≡ z → firstFailing ok (i + 1) (drop (i + 1) s) ≡ z
+  pub walk-on : (t : Bool) → i < length s → t ≡ ok i (getD s i 0) → not t ≡ false → firstFailing ok i (drop i s) ≡ z →
+      firstFailing ok (i + 1) (drop (i + 1) s) ≡ z
   walk-on t h e q f = let g : ok i (getD s i 0) ≡ true = sym e ∙ not-false t q in rw add-one (sym (rw (drop-cons s i 0, g)) ∙ f)
 
   pub walk-stops : (t : Bool) → i < length s → t ≡ ok i (getD s i 0) → not t ≡ true → firstFailing ok i (drop i s) ≡ z → i ≡ z
@@ -93,7 +94,8 @@ module _ (a : ℕ) (s : List ℕ) (i : ℕ) (z : Bool) where
 -- two runs of one length side by side
 module _ (ok : ℕ → ℕ → Bool) (a b : List ℕ) (l : length a ≡ length b) (i : ℕ) (z : Bool) where
   pub pair-on :
-      (t : Bool) → i < length a → t ≡ ok (getD a i 0) (getD b i 0) → not t ≡ false → paired ok (drop i a) (drop i b) ≡ z → paired ok (drop (i + 1) a) (drop (i + 1) b) ≡ z
+      (t : Bool) → i < length a → t ≡ ok (getD a i 0) (getD b i 0) → not t ≡ false → paired ok (drop i a) (drop i b) ≡ z →
+      paired ok (drop (i + 1) a) (drop (i + 1) b) ≡ z
   pair-on t h e q f =
       let g : ok (getD a i 0) (getD b i 0) ≡ true = sym e ∙ not-false t q in
       rw add-one (sym (rw (drop-cons a i 0 h, drop-cons b i 0 (omega arith), g)) ∙ f)

@@ -35,27 +35,34 @@ use Rattle.writer.proofs.Puts.{together-long}
 pub number-is : (n case : ℕ) (nd : Named) → n ≡ case → nd ≡ recordNumbered case → nd ≡ recordNumbered n
 number-is n case nd e f = rw e f
 
-pub number-none : (n : ℕ) → (n ≡ 10 → ⊥) → (n ≡ 20 → ⊥) → (n ≡ 30 → ⊥) → (n ≡ 40 → ⊥) → (n ≡ 50 → ⊥) → (n ≡ 60 → ⊥) → Unknown ≡ recordNumbered n
+pub number-none : (n : ℕ) → (n ≡ 10 → ⊥) → (n ≡ 20 → ⊥) → (n ≡ 30 → ⊥) → (n ≡ 40 → ⊥) → (n ≡ 50 → ⊥) → (n ≡ 60 → ⊥) →
+    Unknown ≡ recordNumbered n
 unfolding recordNumbered
 number-none n h1 h2 h3 h4 h5 h6 = simp (ne-eqb n 10 h1, ne-eqb n 20 h2, ne-eqb n 30 h3, ne-eqb n 40 h4, ne-eqb n 50 h5, ne-eqb n 60 h6)
 
 -- good fields, put together as a line at the front of a room: 9, then 13
-module _ (kind : Record) (text ends room line : List ℕ) (long : ℕ) (fits : length text + length ends + 5 ≤ length room) (en : long ≡ length (render kind (between text ends))) (em : long ≡ length text + length ends + 5) (el : line ≡ placed room 0 (render kind (between text ends))) where
+module _ (kind : Record) (text ends room line : List ℕ) (long : ℕ) (fits : length text + length ends + 5 ≤ length room)
+    (en : long ≡ length (render kind (between text ends))) (em : long ≡ length text + length ends + 5)
+    (el : line ≡ placed room 0 (render kind (between text ends))) where
   stands : line ≡ written room 0 (render kind (between text ends))
   stands = el ∙ placed-there room 0 (render kind (between text ends)) (omega arith)
 
   line-taken : take long line ≡ render kind (between text ends)
-  line-taken = rw stands (take-at (render kind (between text ends)) (drop (0 + length (render kind (between text ends))) room) long (sym en))
+  line-taken = rw stands (take-at (render kind (between text ends)) (drop (0 + length (render kind (between text ends))) room) long
+      (sym en))
 
   text-taken : take (long - 2) line ≡ textOf kind (between text ends)
   text-taken =
       let rest = drop (0 + length (render kind (between text ends))) room in
       ap (take (long - 2)) (stands ∙ append-assoc (textOf kind (between text ends)) (bytes "\r\n") rest)
-      ∙ take-at (textOf kind (between text ends)) (bytes "\r\n" ++ rest) (long - 2) (omega (arith, render-long kind (between text ends), en))
+      ∙ take-at (textOf kind (between text ends)) (bytes "\r\n" ++ rest) (long - 2)
+      (omega (arith, render-long kind (between text ends), en))
 
-  module _ (fine : walked kind 1 (typeOf kind) (between text ends) ≡ Fine) (t : Bool) (et : t ≡ lacks kind (split (take (long - 2) line))) (size fill : ℕ) where
+  module _ (fine : walked kind 1 (typeOf kind) (between text ends) ≡ Fine) (t : Bool) (et : t ≡ lacks kind (split (take (long - 2) line)))
+      (size fill : ℕ) where
     asked : t ≡ lacks kind (typeOf kind ∷ between text ends)
-    asked = et ∙ ap (λ (l : List ℕ). lacks kind (split l)) text-taken ∙ ap (lacks kind) (fields-split kind (between text ends) (walked-fields kind 1 (typeOf kind) (between text ends) fine))
+    asked = et ∙ ap (λ (l : List ℕ). lacks kind (split l)) text-taken
+        ∙ ap (lacks kind) (fields-split kind (between text ends) (walked-fields kind 1 (typeOf kind) (between text ends) fine))
 
     pub fields-lack : t ≡ true → NotWritten FeatureLacks 0 ≡ ofFields kind (between text ends) size fill
     unfolding ofFields
@@ -74,8 +81,10 @@ module _ (kind : Record) (text ends room line : List ℕ) (long : ℕ) (fits : l
       unfolding ofFields
       has-room l h = rw (← asked, has, ← en, le-leb (fill + long) size (omega arith))
 
-  pub line-there : (out after : List ℕ) (fill : ℕ) → fill ≤ length out → long ≤ length out - fill → after ≡ placed out fill (take long line) → after ≡ written out fill (render kind (between text ends))
-  line-there out after fill l h e = e ∙ ap (placed out fill) line-taken ∙ placed-there out fill (render kind (between text ends)) (omega (arith, en))
+  pub line-there : (out after : List ℕ) (fill : ℕ) → fill ≤ length out → long ≤ length out - fill →
+      after ≡ placed out fill (take long line) → after ≡ written out fill (render kind (between text ends))
+  line-there out after fill l h e = e ∙ ap (placed out fill) line-taken
+      ∙ placed-there out fill (render kind (between text ends)) (omega (arith, en))
 
 -- the record, the ends, the count, the fields
 module _ (number : ℕ) (text ends : List ℕ) (size fill : ℕ) (nd : Named) (ed : nd ≡ recordNumbered number) where
@@ -98,11 +107,13 @@ module _ (number : ℕ) (text ends : List ℕ) (size fill : ℕ) (nd : Named) (e
       count-wrong e = recorded (NotWritten FieldCount 0) (rw (known, ← et, hold, ← eu, e))
 
       module _ (right : not u ≡ false) (w : Walk) (ew : w ≡ walked kind 1 (typeOf kind) (between text ends)) where
-        pub field-wrong : (why : Refusal) (place : ℕ) → w ≡ Stopped why place → NotWritten why place ≡ writeAnswer number text ends size fill
+        pub field-wrong : (why : Refusal) (place : ℕ) → w ≡ Stopped why place →
+            NotWritten why place ≡ writeAnswer number text ends size fill
         unfolding ofRecord
         field-wrong why place e = recorded (NotWritten why place) (rw (known, ← et, hold, ← eu, right, ← ew, e))
 
-        pub fields-good : w ≡ Fine → (a : WriteAnswer) → a ≡ ofFields kind (between text ends) size fill → a ≡ writeAnswer number text ends size fill
+        pub fields-good : w ≡ Fine → (a : WriteAnswer) → a ≡ ofFields kind (between text ends) size fill →
+            a ≡ writeAnswer number text ends size fill
         unfolding ofRecord
         fields-good e a ea = recorded a (rw (known, ← et, hold, ← eu, right, ← ew, e) ea)
 
@@ -114,18 +125,22 @@ module _ (kind : Record) (text ends : List ℕ) (w : Walk) (ew : w ≡ walked ki
   pub walk-fine : walked kind 1 (typeOf kind) (between text ends) ≡ Fine
   walk-fine = sym ew ∙ fine
 
-  pub line-small : (t u : Bool) → t ≡ endsHold ends (length text) → not t ≡ false → u ≡ countFits kind (length ends) → not u ≡ false → length text + length ends + 5 ≤ 4096
+  pub line-small : (t u : Bool) → t ≡ endsHold ends (length text) → not t ≡ false → u ≡ countFits kind (length ends) → not u ≡ false →
+      length text + length ends + 5 ≤ 4096
   line-small t u et hold eu right =
       let c = count-le kind (length ends) (sym eu ∙ not-false u right) in
       let f = fields-le kind 1 (typeOf kind) (between text ends) (walked-fields kind 1 (typeOf kind) (between text ends) walk-fine) in
       omega (arith, c, f, between-count text ends, together-long kind text ends (ends-held ends (length text) t et hold))
 
 -- the output
-pub output-stays : (why : Refusal) (place : ℕ) (nd : Named) (fs : List (List ℕ)) (out : List ℕ) (fill : ℕ) → out ≡ writtenTo (NotWritten why place) nd fs out fill
+pub output-stays : (why : Refusal) (place : ℕ) (nd : Named) (fs : List (List ℕ)) (out : List ℕ) (fill : ℕ) →
+    out ≡ writtenTo (NotWritten why place) nd fs out fill
 unfolding writtenTo
 output-stays why place Unknown fs out fill = refl
 output-stays why place (Known kind) fs out fill = refl
 
-pub output-after : (number : ℕ) (nd : Named) (kind : Record) (fs : List (List ℕ)) (out after : List ℕ) (fill : ℕ) (a : WriteAnswer) → nd ≡ recordNumbered number → nd ≡ Known kind → after ≡ lineTo a kind fs out fill → after ≡ writtenTo a (recordNumbered number) fs out fill
+pub output-after : (number : ℕ) (nd : Named) (kind : Record) (fs : List (List ℕ)) (out after : List ℕ) (fill : ℕ) (a : WriteAnswer) →
+    nd ≡ recordNumbered number → nd ≡ Known kind → after ≡ lineTo a kind fs out fill →
+    after ≡ writtenTo a (recordNumbered number) fs out fill
 unfolding writtenTo
 output-after number nd kind fs out after fill a ed known e = rw (← ed, known) e

@@ -35,7 +35,8 @@ use Rattle.writer.proofs.Walks.{walked-fields, fields-walked}
 
 -- two outcomes that the contract allows are equal
 pub one-outcome :
-    (number : ℕ) (text ends out : List ℕ) (fill : ℕ) (a b : WriteAnswer) (x y : List ℕ) → Writes number text ends out fill a x → Writes number text ends out fill b y → (a ≡ b) × (x ≡ y)
+    (number : ℕ) (text ends out : List ℕ) (fill : ℕ) (a b : WriteAnswer) (x y : List ℕ) → Writes number text ends out fill a x →
+    Writes number text ends out fill b y → (a ≡ b) × (x ≡ y)
 one-outcome number text ends out fill a b x y g h =
     let e : a ≡ b = g .0 ∙ sym (h .0) in
     (e, g .1 ∙ ap (λ (r : WriteAnswer). writtenTo r (recordNumbered number) (between text ends) out fill) e ∙ sym (h .1))
@@ -53,24 +54,32 @@ module _ (number : ℕ) (text ends : List ℕ) (size fill n : ℕ) where
       let fits = countFits kind (length ends) in
       let w = walked kind 1 (typeOf kind) (between text ends) in
       let after = afterWalk w kind (between text ends) size fill in
-      let a = came-else (not held) (NotWritten FieldEnds 0) (if not fits then NotWritten FieldCount 0 else after) (Written n) not-written e in
+      let a = came-else (not held) (NotWritten FieldEnds 0) (if not fits then NotWritten FieldCount 0 else after)
+      (Written n) not-written e in
       let b = came-else (not fits) (NotWritten FieldCount 0) after (Written n) not-written (a .1) in
       go w refl (not-false held (a .0)) (not-false fits (b .0)) (b .1)
     where
       go :
-          (w : Walk) → walked kind 1 (typeOf kind) (between text ends) ≡ w → endsHold ends (length text) ≡ true → countFits kind (length ends) ≡ true →
+          (w : Walk) → walked kind 1 (typeOf kind) (between text ends) ≡ w → endsHold ends (length text) ≡ true →
+          countFits kind (length ends) ≡ true →
           afterWalk w kind (between text ends) size fill ≡ Written n → Writable number text ends size fill n
       go (Stopped why place) ew eh ec e = absurd (not-written e)
       go Fine ew eh ec e =
           let line = render kind (between text ends) in
           let room = if leb (fill + length line) size then Written (length line) else NotWritten OutputTooShort 0 in
           let a = came-else (lacks kind (typeOf kind ∷ between text ends)) (NotWritten FeatureLacks 0) room (Written n) not-written e in
-          let b = came-then (leb (fill + length line) size) (Written (length line)) (NotWritten OutputTooShort 0) (Written n) not-written (a .1) in
+          let b = came-then (leb (fill + length line) size) (Written (length line)) (NotWritten OutputTooShort 0) (Written n) not-written
+          (a .1) in
           record {
             kind = kind;
             known = k;
             held = eh;
-            allowed = record { counted = ap (countFits kind) (between-count text ends) ∙ ec; fields = walked-fields kind 1 (typeOf kind) (between text ends) ew; served = a .0 };
+            allowed = record {
+              counted = ap (countFits kind) (between-count text ends) ∙ ec;
+              fields =
+                  walked-fields kind 1 (typeOf kind) (between text ends) ew;
+              served = a .0;
+            };
             fits = leb-true (fill + length line) size (b .0);
             long = cc;
           }
@@ -95,10 +104,12 @@ module _ (number : ℕ) (text ends : List ℕ) (size fill n : ℕ) where
   written-exactly = (λ e. wrote (recordNumbered number) refl e, writable)
 
 -- the bytes at the fill of an output that was written
-there : (out line : List ℕ) (fill n : ℕ) → fill + length line ≤ length out → n ≡ length line → take n (drop fill (written out fill line)) ≡ line
+there : (out line : List ℕ) (fill n : ℕ) → fill + length line ≤ length out → n ≡ length line →
+    take n (drop fill (written out fill line)) ≡ line
 there out line fill n h e =
     let cut : drop fill (take fill out ++ line ++ drop (fill + length line) out) ≡ line ++ drop (fill + length line) out =
-    ap (drop fill) (append-assoc (take fill out) line (drop (fill + length line) out)) ∙ drop-at (take fill out) (line ++ drop (fill + length line) out) fill (length-take-le fill out (omega arith))
+    ap (drop fill) (append-assoc (take fill out) line (drop (fill + length line) out))
+    ∙ drop-at (take fill out) (line ++ drop (fill + length line) out) fill (length-take-le fill out (omega arith))
     in
     rw cut (take-at line (drop (fill + length line) out) n (sym e))
 
@@ -117,7 +128,8 @@ rendered-back kind fs g =
 -- what was written, read by itself, is the line of the record with that number and of the fields that were handed over
 pub reads-back :
     (number : ℕ) (text ends out : List ℕ) (fill n : ℕ) (after : List ℕ) → Writes number text ends out fill (Written n) after →
-    (kind : Record) × ((recordNumbered number ≡ Known kind) × ((length (take n (drop fill after)) ≡ n) × ReadsBack kind (between text ends) (take n (drop fill after))))
+    (kind : Record) × ((recordNumbered number ≡ Known kind) × ((length (take n (drop fill after)) ≡ n) ×
+    ReadsBack kind (between text ends) (take n (drop fill after))))
 unfolding writtenTo
 reads-back number text ends out fill n after g =
     let w = written-exactly number text ends (length out) fill n .0 (sym (g .0)) in
@@ -127,7 +139,8 @@ reads-back number text ends out fill n after g =
     (w .kind, (w .known, (ap length t ∙ sym (w .long), rw t (rendered-back (w .kind) (between text ends) (w .allowed)))))
 
 -- a caller's text and ends give the fields back
-fields-again : (start : ℕ) (front : List ℕ) (fs : List (List ℕ)) → length front ≡ start → fieldsFrom start (front ++ inOne fs) (endsFrom start fs) ≡ fs
+fields-again : (start : ℕ) (front : List ℕ) (fs : List (List ℕ)) → length front ≡ start →
+    fieldsFrom start (front ++ inOne fs) (endsFrom start fs) ≡ fs
 fields-again start front [] e = refl
 fields-again start front (f ∷ fs) e =
     let here : take (start + length f - start) (drop start (front ++ (f ++ inOne fs))) ≡ f =
@@ -143,7 +156,8 @@ fields-again start front (f ∷ fs) e =
 ends-rise : (long start : ℕ) (fs : List (List ℕ)) → long ≡ start + length (inOne fs) → risesTo long start (endsFrom start fs) ≡ true
 ends-rise long start [] e = eq-eqb start long (omega arith)
 ends-rise long start (f ∷ fs) e =
-    and-both (leb start (start + length f)) (risesTo long (start + length f) (endsFrom (start + length f) fs)) (le-leb start (start + length f) (omega arith)) (ends-rise long (start + length f) fs (omega (arith, length-append f (inOne fs))))
+    and-both (leb start (start + length f)) (risesTo long (start + length f) (endsFrom (start + length f) fs))
+    (le-leb start (start + length f) (omega arith)) (ends-rise long (start + length f) fs (omega (arith, length-append f (inOne fs))))
 
 pub handed-over : (fs : List (List ℕ)) → between (inOne fs) (endsFrom 0 fs) ≡ fs
 unfolding between
@@ -166,8 +180,10 @@ writes-again {s = s} {at = at} {line = line} {fs = fs} g number out fill k h ans
     let u : Writable number (inOne fs) (endsFrom 0 fs) (length out) fill (length (render (line .kind) fs)) =
     record { kind = line .kind; known = k; held = handed-ends fs; allowed = rw e (g .allowed); fits = rw e (omega (arith, n)); long = rw e }
     in
-    let a : answer ≡ Written (length (render (line .kind) fs)) = w .0 ∙ written-exactly number (inOne fs) (endsFrom 0 fs) (length out) fill (length (render (line .kind) fs)) .1 u in
-    let own : take (line .next - at) (drop at s) ≡ render (line .kind) fs = rw (g .stands) (take-at (render (line .kind) fs) (g .rest) (line .next - at) (sym n)) in
+    let a : answer ≡ Written (length (render (line .kind) fs)) =
+    w .0 ∙ written-exactly number (inOne fs) (endsFrom 0 fs) (length out) fill (length (render (line .kind) fs)) .1 u in
+    let own : take (line .next - at) (drop at s) ≡ render (line .kind) fs =
+    rw (g .stands) (take-at (render (line .kind) fs) (g .rest) (line .next - at) (sym n)) in
     let b : after ≡ written out fill (render (line .kind) fs) =
     w .1
     ∙ ap (λ (r : WriteAnswer). writtenTo r (recordNumbered number) (between (inOne fs) (endsFrom 0 fs)) out fill) a

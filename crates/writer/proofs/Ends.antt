@@ -45,7 +45,8 @@ module _ (long : ℕ) (ends : List ℕ) (i start : ℕ) (left : risesTo long sta
   end-inside = rises-le long (getD ends i 0) (drop (i + 1) ends) rest-rises
 
 -- a field is as long as its ends say
-pub field-long : (text : List ℕ) (start end : ℕ) → start ≤ end → end ≤ length text → length (take (end - start) (drop start text)) ≡ end - start
+pub field-long : (text : List ℕ) (start end : ℕ) → start ≤ end → end ≤ length text →
+    length (take (end - start) (drop start text)) ≡ end - start
 field-long text start end l h = length-take-le (end - start) (drop start text) (omega (arith, length-drop start text))
 
 fields-count : (start : ℕ) (text ends : List ℕ) → length (fieldsFrom start text ends) ≡ length ends
@@ -57,7 +58,8 @@ unfolding between
 between-count text ends = fields-count 0 text ends
 
 -- the fields behind their semicolons
-pub joined-long : (start : ℕ) (text ends : List ℕ) → risesTo (length text) start ends ≡ true → start + length (joined (fieldsFrom start text ends)) ≡ length text + length ends
+pub joined-long : (start : ℕ) (text ends : List ℕ) → risesTo (length text) start ends ≡ true →
+    start + length (joined (fieldsFrom start text ends)) ≡ length text + length ends
 joined-long start text [] e = omega (arith, eqb-true start (length text) e)
 joined-long start text (end ∷ ends) e =
     let l = leb-true start end (and-left (leb start end) (risesTo (length text) end ends) e) in

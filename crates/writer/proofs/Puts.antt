@@ -23,14 +23,19 @@ pub type-as : (out room : List ℕ) (kind case : Record) → kind ≡ case → o
 type-as out room kind case e f = rw e f
 
 -- a loop at the field behind i others, which starts at start in the text: each premise is a fact that the loop has
-module _ (text ends room : List ℕ) (i start : ℕ) (whole : List ℕ) (left : placed room (start + i + 3) (joined (fieldsFrom start text (drop i ends))) ≡ whole) where
+module _ (text ends room : List ℕ) (i start : ℕ) (whole : List ℕ)
+    (left : placed room (start + i + 3) (joined (fieldsFrom start text (drop i ends))) ≡ whole) where
   pub put-done : length ends ≤ i → room ≡ whole
   put-done h =
       let e : drop i ends ≡ [] = drop-of-length-le ends h in
-      sym (ap (λ (l : List ℕ). placed room (start + i + 3) (joined (fieldsFrom start text l))) e ∙ placed-none room (start + i + 3) []) ∙ left
+      sym (ap (λ (l : List ℕ). placed room (start + i + 3) (joined (fieldsFrom start text l))) e ∙ placed-none room (start + i + 3) [])
+      ∙ left
 
-  module _ (h : i < length ends) (rises : risesTo (length text) start (drop i ends) ≡ true) (size : ℕ) (same : length room ≡ size) (fits : length text + length ends + 3 ≤ size) where
-    pub put-on : (semi o : List ℕ) → semi ≡ placed room (start + i + 3) (bytes ";") → o ≡ placed semi (start + i + 4) (take (getD ends i 0 - start) (drop start text)) → placed o (getD ends i 0 + (i + 1) + 3) (joined (fieldsFrom (getD ends i 0) text (drop (i + 1) ends))) ≡ whole
+  module _ (h : i < length ends) (rises : risesTo (length text) start (drop i ends) ≡ true) (size : ℕ) (same : length room ≡ size)
+      (fits : length text + length ends + 3 ≤ size) where
+    pub put-on : (semi o : List ℕ) → semi ≡ placed room (start + i + 3) (bytes ";") →
+        o ≡ placed semi (start + i + 4) (take (getD ends i 0 - start) (drop start text)) →
+        placed o (getD ends i 0 + (i + 1) + 3) (joined (fieldsFrom (getD ends i 0) text (drop (i + 1) ends))) ≡ whole
     put-on semi o es eo =
         let end = getD ends i 0 in
         let f = take (getD ends i 0 - start) (drop start text) in
@@ -53,7 +58,8 @@ module _ (text ends room : List ℕ) (i start : ℕ) (whole : List ℕ) (left : 
         ∙ ap (λ (l : List ℕ). placed room (start + i + 3) (joined (fieldsFrom start text l))) (sym c)
         ∙ left
 
-pub still-long : (room semi o f g : List ℕ) (at next size : ℕ) → length room ≡ size → semi ≡ placed room at f → o ≡ placed semi next g → length o ≡ size
+pub still-long : (room semi o f g : List ℕ) (at next size : ℕ) → length room ≡ size → semi ≡ placed room at f → o ≡ placed semi next g →
+    length o ≡ size
 still-long room semi o f g at next size e es eo = ap length eo ∙ placed-long semi next g ∙ ap length es ∙ placed-long room at f ∙ e
 
 -- the line as a whole
@@ -64,9 +70,16 @@ module _ (kind : Record) (text ends : List ℕ) (rises : endsHold ends (length t
 
   pub line-long : length text + length ends + 3 + 2 ≡ length (render kind (between text ends))
   line-long =
-      omega (arith, together-long, render-long kind (between text ends), length-append (typeOf kind) (joined (between text ends)), type-long kind)
+      omega (
+        arith,
+        together-long,
+        render-long kind (between text ends),
+        length-append (typeOf kind) (joined (between text ends)),
+        type-long kind,
+      )
 
-  pub line-put : (room typed filled whole : List ℕ) → length text + length ends + 5 ≤ length room → typed ≡ placed room 0 (typeOf kind) → filled ≡ placed typed 3 (joined (between text ends)) →
+  pub line-put : (room typed filled whole : List ℕ) → length text + length ends + 5 ≤ length room → typed ≡ placed room 0 (typeOf kind) →
+      filled ≡ placed typed 3 (joined (between text ends)) →
       whole ≡ placed filled (length text + length ends + 3) (bytes "\r\n") → whole ≡ placed room 0 (render kind (between text ends))
   line-put room typed filled whole h et ef ew =
       let fs = joined (between text ends) in
@@ -74,7 +87,8 @@ module _ (kind : Record) (text ends : List ℕ) (rises : endsHold ends (length t
       let k = type-long kind in
       let a : 3 ≡ 0 + length (typeOf kind) = omega (arith, k) in
       let t : filled ≡ placed room 0 (textOf kind (between text ends)) =
-      ef ∙ ap (λ (l : List ℕ). placed l 3 fs) et ∙ ap (λ (p : ℕ). placed (placed room 0 (typeOf kind)) p fs) a ∙ placed-on room 0 (typeOf kind) fs (omega (arith, n, k))
+      ef ∙ ap (λ (l : List ℕ). placed l 3 fs) et ∙ ap (λ (p : ℕ). placed (placed room 0 (typeOf kind)) p fs) a
+      ∙ placed-on room 0 (typeOf kind) fs (omega (arith, n, k))
       in
       let l = length-append (typeOf kind) fs in
       let b : length text + length ends + 3 ≡ 0 + length (textOf kind (between text ends)) = omega (arith, n, k, l) in

@@ -53,27 +53,35 @@ besides-alike : (kind : Record) (b c : List ℕ) (fs : List (List ℕ)) → walk
 besides-alike kind b c [] = refl
 besides-alike kind b c (f ∷ fs) = ap (λ (t : Tested). onTest t 1 (walked kind 2 f fs)) (first-alike kind b c f)
 
-pub walk-starts : (kind : Record) (text ends : List ℕ) → walked kind (0 + 1) (take (0 - 0) (drop 0 text)) (fieldsFrom 0 text (drop 0 ends)) ≡ walked kind 1 (typeOf kind) (between text ends)
+pub walk-starts : (kind : Record) (text ends : List ℕ) → walked kind (0 + 1) (take (0 - 0) (drop 0 text))
+    (fieldsFrom 0 text (drop 0 ends)) ≡ walked kind 1 (typeOf kind) (between text ends)
 unfolding between
 walk-starts kind text ends = besides-alike kind (take (0 - 0) (drop 0 text)) (typeOf kind) (between text ends)
 
 -- a loop at the field behind i others: each premise is a fact that the loop has
-module _ (kind : Record) (text ends : List ℕ) (i start : ℕ) (beside : List ℕ) (whole : Walk) (left : walked kind (i + 1) beside (fieldsFrom start text (drop i ends)) ≡ whole) where
+module _ (kind : Record) (text ends : List ℕ) (i start : ℕ) (beside : List ℕ) (whole : Walk)
+    (left : walked kind (i + 1) beside (fieldsFrom start text (drop i ends)) ≡ whole) where
   pub walk-done : length ends ≤ i → Fine ≡ whole
   walk-done h = sym (rw (drop-of-length-le ends)) ∙ left
 
-  module _ (h : i < length ends) (t : Tested) (et : t ≡ testedToWrite kind (i + 1) beside (take (getD ends i 0 - start) (drop start text))) where
-    turn : onTest t (i + 1) (walked kind (suc (i + 1)) (take (getD ends i 0 - start) (drop start text)) (fieldsFrom (getD ends i 0) text (drop (suc i) ends))) ≡ whole
+  module _ (h : i < length ends) (t : Tested) (et : t ≡ testedToWrite kind (i + 1) beside
+      (take (getD ends i 0 - start) (drop start text))) where
+    turn : onTest t (i + 1) (walked kind (suc (i + 1)) (take (getD ends i 0 - start) (drop start text))
+        (fieldsFrom (getD ends i 0) text (drop (suc i) ends))) ≡ whole
     turn = rw et (sym (ap (λ (l : List ℕ). walked kind (i + 1) beside (fieldsFrom start text l)) (drop-cons ends i 0 h)) ∙ left)
 
     pub walk-stops : (why : Refusal) → t ≡ Bad why → Stopped why (i + 1) ≡ whole
     walk-stops why e = rw e at turn
 
-    pub walk-on : t ≡ Good → walked kind (i + 1 + 1) (take (getD ends i 0 - start) (drop start text)) (fieldsFrom (getD ends i 0) text (drop (i + 1) ends)) ≡ whole
+    pub walk-on : t ≡ Good → walked kind (i + 1 + 1) (take (getD ends i 0 - start) (drop start text))
+        (fieldsFrom (getD ends i 0) text (drop (i + 1) ends)) ≡ whole
     walk-on e =
-        let on : walked kind (suc (i + 1)) (take (getD ends i 0 - start) (drop start text)) (fieldsFrom (getD ends i 0) text (drop (suc i) ends)) ≡ whole = rw e at turn in
-        ap (λ (n : ℕ). walked kind n (take (getD ends i 0 - start) (drop start text)) (fieldsFrom (getD ends i 0) text (drop (i + 1) ends))) (add-one (i + 1))
-        ∙ ap (λ (n : ℕ). walked kind (suc (i + 1)) (take (getD ends i 0 - start) (drop start text)) (fieldsFrom (getD ends i 0) text (drop n ends))) (add-one i)
+        let on : walked kind (suc (i + 1)) (take (getD ends i 0 - start) (drop start text))
+        (fieldsFrom (getD ends i 0) text (drop (suc i) ends)) ≡ whole = rw e at turn in
+        ap (λ (n : ℕ). walked kind n (take (getD ends i 0 - start) (drop start text))
+        (fieldsFrom (getD ends i 0) text (drop (i + 1) ends))) (add-one (i + 1))
+        ∙ ap (λ (n : ℕ). walked kind (suc (i + 1)) (take (getD ends i 0 - start) (drop start text))
+        (fieldsFrom (getD ends i 0) text (drop n ends))) (add-one i)
         ∙ on
 
 -- the walk passes exactly the fields that are allowed
@@ -84,7 +92,8 @@ plain-good : (t : Tested) (f : List ℕ) → ifPlain t f ≡ Good → (t ≡ Goo
 plain-good (Bad why) f e = absurd (bad e)
 plain-good Good f e = (refl, came-then (all plain f) Good (Bad FieldForm) Good bad e .0)
 
-pub walked-fields : (kind : Record) (n : ℕ) (beside : List ℕ) (fs : List (List ℕ)) → walked kind n beside fs ≡ Fine → FieldsOk kind n beside fs
+pub walked-fields : (kind : Record) (n : ℕ) (beside : List ℕ) (fs : List (List ℕ)) → walked kind n beside fs ≡ Fine →
+    FieldsOk kind n beside fs
 unfolding testedToWrite
 walked-fields kind n beside [] e = tt
 walked-fields kind n beside (f ∷ fs) e =
@@ -92,7 +101,8 @@ walked-fields kind n beside (f ∷ fs) e =
     let b = plain-good (tested kind n beside f) f (a .0) in
     (good-field kind n beside f (b .1) (b .0), walked-fields kind (suc n) f fs (a .1))
 
-pub fields-walked : (kind : Record) (n : ℕ) (beside : List ℕ) (fs : List (List ℕ)) → FieldsOk kind n beside fs → walked kind n beside fs ≡ Fine
+pub fields-walked : (kind : Record) (n : ℕ) (beside : List ℕ) (fs : List (List ℕ)) → FieldsOk kind n beside fs →
+    walked kind n beside fs ≡ Fine
 unfolding testedToWrite
 fields-walked kind n beside [] g = refl
 fields-walked kind n beside (f ∷ fs) g = rw (field-good kind n beside f (g .0), g .0 .clean) (fields-walked kind (suc n) f fs (g .1))

@@ -12,7 +12,8 @@ use Rattle.check_characters.proofs.remainder.spread_into.Tie as tie
 ruleset laws = (needs, spread-on, spread-ends)
 
 abbrev Inv-loop : tie.InvT-loop
-Inv-loop out₀ at s end₀ i₀ out end i = (i ≤ length s) × (length out ≡ length out₀) × (end ≤ at + 2 * i) × (take end out ++ spread (drop i s) ≡ take at out₀ ++ spread s)
+Inv-loop out₀ at s end₀ i₀ out end i = (i ≤ length s) × (length out ≡ length out₀) × (end ≤ at + 2 * i) × (take end out ++
+    spread (drop i s) ≡ take at out₀ ++ spread s)
 
 abbrev μ-loop : tie.MeasureT-loop
 μ-loop out₀ at s end₀ i₀ out end i = length s - i

@@ -9,7 +9,8 @@ use Rattle.fields.proofs.table.required_at.Tie as tie
 
 returns : tie.Need-returns
 unfolding isRequired required
-returns c = table-at (λ row n. isRequired (recordAt row) n) false (c .before .args .row) (c .before .args .number) (search needs) (search needs)
+returns c = table-at (λ row n. isRequired (recordAt row) n) false (c .before .args .row) (c .before .args .number) (search needs)
+    (search needs)
 
 pub required-at-spec : {M : Type 1} → statement M
 required-at-spec = tie.close (tie.spec (λ c. search needs) (λ c. search needs) (λ c. search needs) returns)

@@ -9,7 +9,8 @@ use Rattle.fields.proofs.table.width_at.Tie as tie
 
 returns : tie.Need-returns
 unfolding widthInTable widths
-returns c = table-at (λ row n. widthInTable (recordAt row) n) 0 (c .before .args .row) (c .before .args .number) (search needs) (search needs)
+returns c = table-at (λ row n. widthInTable (recordAt row) n) 0 (c .before .args .row) (c .before .args .number) (search needs)
+    (search needs)
 
 pub width-at-spec : {M : Type 1} → statement M
 width-at-spec = tie.close (tie.spec (λ c. search needs) (λ c. search needs) (λ c. search needs) (λ c. search needs) returns)

@@ -11,7 +11,8 @@ use Rattle.line.proofs.part.start_of.Tie as tie
 ruleset laws = (needs, start-starts, start-on, start-past, start-done)
 
 abbrev Inv-loop : tie.InvT-loop
-Inv-loop line number start₀ i₀ start i = (i ≤ number) × (start ≤ length line + 1) × (start + startIn (rest line start) (number - i) ≡ startOf line number)
+Inv-loop line number start₀ i₀ start i = (i ≤ number) × (start ≤ length line + 1) ×
+    (start + startIn (rest line start) (number - i) ≡ startOf line number)
 
 abbrev μ-loop : tie.MeasureT-loop
 μ-loop line number start₀ i₀ start i = number - i

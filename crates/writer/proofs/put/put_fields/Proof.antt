@@ -15,7 +15,9 @@ use Rattle.writer.proofs.put.put_fields.Tie as tie
 ruleset laws = (needs, end-rises, rest-rises, end-inside, still-long, put-done, put-on)
 
 abbrev Inv-loop : tie.InvT-loop
-Inv-loop room₀ text ends start₀ i₀ t7 room start i = (i ≤ length ends) × (start ≤ length text) × (length room ≡ length room₀) × (risesTo (length text) start (drop i ends) ≡ true) × (placed room (start + i + 3) (joined (fieldsFrom start text (drop i ends))) ≡ placed room₀ 3 (joined (between text ends)))
+Inv-loop room₀ text ends start₀ i₀ t7 room start i = (i ≤ length ends) × (start ≤ length text) × (length room ≡ length room₀) ×
+    (risesTo (length text) start (drop i ends) ≡ true) × (placed room (start + i + 3)
+    (joined (fieldsFrom start text (drop i ends))) ≡ placed room₀ 3 (joined (between text ends)))
 
 abbrev μ-loop : tie.MeasureT-loop
 μ-loop room₀ text ends start₀ i₀ t7 room start i = length ends - i
@@ -28,5 +30,12 @@ put-fields-spec =
     Inv-loop μ-loop (λ c. search laws) (λ c. search laws) (λ c. search laws) (λ c. search laws) (λ c. search laws)
     (λ c. search laws) (λ c κs. search laws) (λ c. search laws) (λ c. search laws) (λ c. search laws) (λ c. search laws)
     (λ c. search laws) (λ c κs. search laws) (λ c. search laws) (λ c. search laws)
-    (λ c. (search needs, search (needs, end-inside), search (needs, still-long), search (needs, rest-rises), put-on _ _ _ _ _ _ (c .before .before .before .before .before .before .before .before .before .before .before .before .loop .inv .4) (c .before .before .before .before .before .before .before .before .before .before .before .loop-test .taken) (c .before .before .before .before .before .before .before .before .before .before .before .before .loop .inv .3) _ (c .before .before .before .before .before .before .before .before .before .before .before .before .loop .inv .2) (c .before .before .before .before .before .before .before .before .before .before .before .before .before .before .before .before .pre .0) _ _ (c .before .before .before .before .before .before .before .place .ensures) (c .before .before .place2 .ensures)))
+    (λ c. (
+      search needs,
+      search (needs, end-inside),
+      search (needs, still-long),
+      search (needs, rest-rises),
+      put-on _ _ _ _ _ _
+          (c .before .before .before .before .before .before .before .before .before .before .before .before .loop .inv .4) (c .before .before .before .before .before .before .before .before .before .before .before .loop-test .taken) (c .before .before .before .before .before .before .before .before .before .before .before .before .loop .inv .3) _ (c .before .before .before .before .before .before .before .before .before .before .before .before .loop .inv .2) (c .before .before .before .before .before .before .before .before .before .before .before .before .before .before .before .before .pre .0) _ _ (c .before .before .before .before .before .before .before .place .ensures) (c .before .before .place2 .ensures),
+    ))
     (λ c. search laws) (λ c. search laws))

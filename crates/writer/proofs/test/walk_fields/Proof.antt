@@ -14,7 +14,9 @@ use Rattle.writer.proofs.test.walk_fields.Tie as tie
 ruleset laws = (needs, end-rises, rest-rises, end-inside, walk-starts, walk-done, walk-stops, walk-on)
 
 abbrev Inv-loop : tie.InvT-loop
-Inv-loop kind text ends beside₀ start₀ i₀ beside start i = (i ≤ length ends) × (beside ≤ start) × (start ≤ length text) × (risesTo (length text) start (drop i ends) ≡ true) × (walked kind (i + 1) (take (start - beside) (drop beside text)) (fieldsFrom start text (drop i ends)) ≡ walked kind 1 (typeOf kind) (between text ends))
+Inv-loop kind text ends beside₀ start₀ i₀ beside start i = (i ≤ length ends) × (beside ≤ start) × (start ≤ length text) ×
+    (risesTo (length text) start (drop i ends) ≡ true) × (walked kind (i + 1) (take (start - beside) (drop beside text))
+    (fieldsFrom start text (drop i ends)) ≡ walked kind 1 (typeOf kind) (between text ends))
 
 abbrev μ-loop : tie.MeasureT-loop
 μ-loop kind text ends beside₀ start₀ i₀ beside start i = length ends - i
@@ -27,5 +29,12 @@ walk-fields-spec =
     Inv-loop μ-loop (λ c. search laws) (λ c. search laws) (λ c. search laws) (λ c. search laws) (λ c. search laws)
     (λ c. search laws) (λ c. search laws) (λ c. search laws) (λ c. search laws) (λ c. search laws) (λ c κs. search laws)
     (λ c. search laws) (λ c. search laws) (λ c. search laws) (λ c. search laws) (λ c. search laws) (λ c. search laws)
-    (λ c. (search needs, search (needs, end-rises), search (needs, end-inside), search (needs, rest-rises), walk-on _ _ _ _ _ _ _ (c .before .before .before .before .before .before .before .loop .inv .4) (c .before .before .before .before .before .before .loop-test .taken) _ (c .before .before .test-to-write .ensures) (c .enum-told .given .1)))
+    (λ c. (
+      search needs,
+      search (needs, end-rises),
+      search (needs, end-inside),
+      search (needs, rest-rises),
+      walk-on _ _ _ _ _ _ _
+          (c .before .before .before .before .before .before .before .loop .inv .4) (c .before .before .before .before .before .before .loop-test .taken) _ (c .before .before .test-to-write .ensures) (c .enum-told .given .1),
+    ))
     (λ c. search laws))

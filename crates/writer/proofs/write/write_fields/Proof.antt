@@ -13,8 +13,18 @@ write-fields-spec =
     tie.close
     (tie.spec
     (λ c κs. search laws) (λ c. search laws) (λ c. search laws)
-    (λ c. simp length-take (omega (arith, c .before .before .before .put-line, c .before .before .before .before .before .before .before .before .before .pre)))
+    (λ c. simp length-take
+    (omega (
+      arith,
+      c .before .before .before .put-line,
+      c .before .before .before .before .before .before .before .before .before .pre,
+    )))
     (λ c κs. search laws) (λ c. search laws) (λ c. search laws) (λ c. search laws) (λ c. search laws) (λ c. search laws)
     (λ c. search laws) (λ c. search laws) (λ c. search laws)
-    (λ c. simp length-take (omega (arith, c .before .before .before .before .before .before .before .before .before .put-line, c .before .before .before .before .before .before .before .before .before .before .before .before .before .before .before .pre)))
+    (λ c. simp length-take
+    (omega (
+      arith,
+      c .before .before .before .before .before .before .before .before .before .put-line,
+      c .before .before .before .before .before .before .before .before .before .before .before .before .before .before .before .pre,
+    )))
     (λ c κs. search laws) (λ c. search laws) (λ c. search laws) (λ c. search laws))
