@@ -87,12 +87,12 @@ module _ (s : List ℕ) (source : Source) where
 
   module _
       (parcel shipment : ℕ) (es : source ≡ Joined parcel shipment) (below above a b : List ℕ) (ep : below ≡ textAt s parcel) (ea : a ≡ partAt below 1) (eh : above ≡ textAt s shipment) (eb : b ≡ partAt above 16)
-      where
-    both-text : a ++ bytes "/" ++ b ≡ sourceText s source
-    both-text = rw (es, ea, ep, eb, eh)
+    where
+      both-text : a ++ bytes "/" ++ b ≡ sourceText s source
+      both-text = rw (es, ea, ep, eb, eh)
 
-    pub both-long : (r : ℕ) → r ≡ length (cut (a ++ bytes "/" ++ b)) → r ≡ length (cut (sourceText s source))
-    both-long r er = er ∙ ap (λ (l : List ℕ). length (cut l)) both-text
+      pub both-long : (r : ℕ) → r ≡ length (cut (a ++ bytes "/" ++ b)) → r ≡ length (cut (sourceText s source))
+      both-long r er = er ∙ ap (λ (l : List ℕ). length (cut l)) both-text
 
-    pub both-there : (out o : List ℕ) → o ≡ written out 0 (cut (a ++ bytes "/" ++ b)) → o ≡ written out 0 (cut (sourceText s source))
-    both-there out o eo = eo ∙ ap (λ (l : List ℕ). written out 0 (cut l)) both-text
+      pub both-there : (out o : List ℕ) → o ≡ written out 0 (cut (a ++ bytes "/" ++ b)) → o ≡ written out 0 (cut (sourceText s source))
+      both-there out o eo = eo ∙ ap (λ (l : List ℕ). written out 0 (cut l)) both-text

@@ -17,7 +17,11 @@ pub fn write_source(s: &[u8], source: Source, out: &mut [u8]) -> usize
 {
     match source {
         Source::Field { at, number } => write_upto(out, 0, field_in(text_at(s, at), number)),
-        Source::Joined { parcel, shipment } => write_joined(out, field_in(text_at(s, parcel), 1), field_in(text_at(s, shipment), 16)),
+        Source::Joined { parcel, shipment } => write_joined(
+            out,
+            field_in(text_at(s, parcel), 1),
+            field_in(text_at(s, shipment), 16),
+        ),
     }
 }
 

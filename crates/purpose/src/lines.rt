@@ -7,11 +7,11 @@ use line::field_in;
 use line::text_at;
 
 // Where the line with this number starts.
-pub fn offset_of(words: &[u32], number: usize) -> usize
-    requires { ⌜ number < length (now words) ⌝ }
-    ensures { λ r. ⌜ r ≡ getD (now (words .entry)) number 0 ⌝ }
+pub fn offset_of(starts: &[u32], number: usize) -> usize
+    requires { ⌜ number < length (now starts) ⌝ }
+    ensures { λ r. ⌜ r ≡ getD (now (starts .entry)) number 0 ⌝ }
 {
-    wide(words[number])
+    wide(starts[number])
 }
 
 // Whether a line of this type starts here.
@@ -29,13 +29,13 @@ pub fn is_filled_at(s: &[u8], at: usize, number: usize) -> bool
 }
 
 // The number of the nearest shipment line above the line with this number.
-pub fn shipment_above(s: &[u8], words: &[u32], number: usize) -> usize
-    requires { ⌜ number ≤ length (now words) ⌝ }
-    ensures { λ r. ⌜ (r ≡ shipmentAbove (now (s .entry)) (now (words .entry)) number) × (r ≤ number) ⌝ }
+pub fn shipment_above(s: &[u8], starts: &[u32], number: usize) -> usize
+    requires { ⌜ number ≤ length (now starts) ⌝ }
+    ensures { λ r. ⌜ (r ≡ shipmentAbove (now (s .entry)) (now (starts .entry)) number) × (r ≤ number) ⌝ }
 {
     let mut i = number;
     while 0 < i {
-        if is_typed(s, offset_of(words, i - 1), b"030") {
+        if is_typed(s, offset_of(starts, i - 1), b"030") {
             return i - 1;
         }
         i -= 1;
@@ -44,13 +44,13 @@ pub fn shipment_above(s: &[u8], words: &[u32], number: usize) -> usize
 }
 
 // Where the first parcel line behind the line with this number starts.
-pub fn first_parcel(s: &[u8], words: &[u32], shipment: usize) -> usize
-    requires { ⌜ shipment < length (now words) ⌝ }
-    ensures { λ r. ⌜ r ≡ firstParcel (now (s .entry)) (drop (shipment + 1) (now (words .entry))) ⌝ }
+pub fn first_parcel(s: &[u8], starts: &[u32], shipment: usize) -> usize
+    requires { ⌜ shipment < length (now starts) ⌝ }
+    ensures { λ r. ⌜ r ≡ firstParcel (now (s .entry)) (drop (shipment + 1) (now (starts .entry))) ⌝ }
 {
     let mut i = shipment + 1;
-    while i < words.len() {
-        let at = offset_of(words, i);
+    while i < starts.len() {
+        let at = offset_of(starts, i);
         if is_typed(s, at, b"040") {
             return at;
         }

@@ -1,7 +1,7 @@
 // Which field of which line, or which two fields, supply the purpose of a cash line.
 ghost use mathlib.Core.Path.{_≡_};
-ghost use Prim.Native.Nat.{_<_};
-ghost use lib.ListN.{length};
+ghost use Prim.Native.Nat.{_<_, _≤_};
+ghost use lib.ListN.{length, take};
 ghost use Rattle.purpose.specs.Source.{isCashLine, fromShipment, forFeature, sourceOf};
 use crate::lines::first_parcel;
 use crate::lines::is_filled_at;
@@ -23,17 +23,19 @@ pub enum Sourced {
     Nowhere,
 }
 
-// The source for the line with this number; the list holds where each line of the file starts.
-pub fn find_source(s: &[u8], words: &[u32], number: usize) -> Sourced
-    ensures { λ r. ⌜ r ≡ sourceOf (now (s .entry)) (now (words .entry)) number ⌝ }
+// The source for the line with this number; the first words of the list, as many as the file has lines, hold where each starts.
+pub fn find_source(s: &[u8], words: &[u32], lines: usize, number: usize) -> Sourced
+    requires { ⌜ lines ≤ length (now words) ⌝ }
+    ensures { λ r. ⌜ r ≡ sourceOf (now (s .entry)) (take lines (now (words .entry))) number ⌝ }
 {
-    if words.len() <= number {
+    let starts = &words[..lines];
+    if starts.len() <= number {
         return Sourced::Nowhere;
     }
-    if !is_cash_line(s, offset_of(words, number)) {
+    if !is_cash_line(s, offset_of(starts, number)) {
         return Sourced::Nowhere;
     }
-    Sourced::From(for_feature(s, words, number))
+    Sourced::From(for_feature(s, starts, number))
 }
 
 // Whether a 060 line with the code 006 starts here.
@@ -47,17 +49,17 @@ fn is_cash_line(s: &[u8], at: usize) -> bool
 }
 
 // The source for a cash line: its own field first, then its shipment's.
-fn for_feature(s: &[u8], words: &[u32], number: usize) -> Source
-    requires { ⌜ number < length (now words) ⌝ }
-    ensures { λ r. ⌜ r ≡ forFeature (now (s .entry)) (now (words .entry)) number ⌝ }
+fn for_feature(s: &[u8], starts: &[u32], number: usize) -> Source
+    requires { ⌜ number < length (now starts) ⌝ }
+    ensures { λ r. ⌜ r ≡ forFeature (now (s .entry)) (now (starts .entry)) number ⌝ }
 {
-    let at = offset_of(words, number);
+    let at = offset_of(starts, number);
     if is_filled_at(s, at, 8) {
         return Source::Field { at, number: 8 };
     }
-    let shipment = shipment_above(s, words, number);
-    let parcel = first_parcel(s, words, shipment);
-    from_shipment(s, offset_of(words, shipment), parcel)
+    let shipment = shipment_above(s, starts, number);
+    let parcel = first_parcel(s, starts, shipment);
+    from_shipment(s, offset_of(starts, shipment), parcel)
 }
 
 // The source in a shipment: the lines of the shipment and of its first parcel start here.
@@ -65,16 +67,28 @@ fn from_shipment(s: &[u8], shipment: usize, parcel: usize) -> Source
     ensures { λ r. ⌜ r ≡ fromShipment (now (s .entry)) shipment parcel ⌝ }
 {
     if is_filled_at(s, shipment, 1) {
-        return Source::Field { at: shipment, number: 1 };
+        return Source::Field {
+            at: shipment,
+            number: 1,
+        };
     }
     if is_filled_at(s, shipment, 34) {
-        return Source::Field { at: shipment, number: 34 };
+        return Source::Field {
+            at: shipment,
+            number: 34,
+        };
     }
     if is_filled_at(s, shipment, 36) {
-        return Source::Field { at: shipment, number: 36 };
+        return Source::Field {
+            at: shipment,
+            number: 36,
+        };
     }
     if is_filled_at(s, parcel, 3) {
-        return Source::Field { at: parcel, number: 3 };
+        return Source::Field {
+            at: parcel,
+            number: 3,
+        };
     }
     Source::Joined { parcel, shipment }
 }

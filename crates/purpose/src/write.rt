@@ -22,7 +22,7 @@ pub fn write_purpose(s: &[u8], number: usize, words: &mut [u32], out: &mut [u8])
     let FileAnswer::Accepted(totals) = answer else {
         return refusal_of(answer);
     };
-    let sourced = source::find_source(s, &words[..totals.lines], number);
+    let sourced = source::find_source(s, words, totals.lines, number);
     let Sourced::From(source) = sourced else {
         file::clear(words);
         return PurposeAnswer::NotWritten {

@@ -11,10 +11,10 @@ use Rattle.purpose.proofs.lines.first_parcel.Tie as tie
 ruleset laws = (needs, parcel-here, parcel-on, parcel-none)
 
 abbrev Inv-loop : tie.InvT-loop
-Inv-loop s words shipment i₀ t6 i = (i ≤ length words) × (firstParcel s (drop i words) ≡ firstParcel s (drop (shipment + 1) words))
+Inv-loop s starts shipment i₀ t6 i = (i ≤ length starts) × (firstParcel s (drop i starts) ≡ firstParcel s (drop (shipment + 1) starts))
 
 abbrev μ-loop : tie.MeasureT-loop
-μ-loop s words shipment i₀ t6 i = length words - i
+μ-loop s starts shipment i₀ t6 i = length starts - i
 
 pub first-parcel-spec : {M : Type 1} → statement M
 first-parcel-spec =

@@ -10,10 +10,10 @@ use Rattle.purpose.proofs.lines.shipment_above.Tie as tie
 ruleset laws = (needs, ship-here, ship-up, ship-none)
 
 abbrev Inv-loop : tie.InvT-loop
-Inv-loop s words number i₀ t5 i = (i ≤ number) × (shipmentAbove s words i ≡ shipmentAbove s words number)
+Inv-loop s starts number i₀ t5 i = (i ≤ number) × (shipmentAbove s starts i ≡ shipmentAbove s starts number)
 
 abbrev μ-loop : tie.MeasureT-loop
-μ-loop s words number i₀ t5 i = i
+μ-loop s starts number i₀ t5 i = i
 
 pub shipment-above-spec : {M : Type 1} → statement M
 shipment-above-spec =
