@@ -91,7 +91,7 @@ module _ (s : List ℕ) (m : ℕ) (a : FileAnswer) (ea : a ≡ judged s m .answe
   pub file-output : (text out : List ℕ) → out ≡ outputAfter r text out
   file-output text out = sym (ap (λ (x : PurposeAnswer). outputAfter x text out) refusal)
 
-starts-count : (at : ℕ) (ls : List FileLine) → length (lineStarts at ls) ≡ length ls
+pub starts-count : (at : ℕ) (ls : List FileLine) → length (lineStarts at ls) ≡ length ls
 starts-count at [] = refl
 starts-count at (l ∷ ls) = ap suc (starts-count (at + length (lineBytes l)) ls)
 
