@@ -7,38 +7,38 @@ use mathlib.Core.Logic.{⊎-elim}
 use native.Mathlib.Nat.{le-of-suc-le-suc, eq-or-lt-of-le}
 use native.Mathlib.Omega.{arith}
 use lib.Dec.{eqb}
-use lib.ListN.{length, drop, getD, length-drop}
+use lib.ListN.{length, drop, getD, replicate, length-drop}
 use lib.Seq.{getD-drop}
 use borrow.Author.Tests.{lt-leb, le-ltb, ne-eqb}
 use Rattle.text.specs.Choice.{if_then_else_}
 use Rattle.text.specs.Placed.{written}
 use Rattle.text.specs.Quoted.{bytes}
 use Rattle.text.specs.Scan.{same}
-use Rattle.text.proofs.Choices.{and-both}
-use Rattle.text.proofs.Scans.{same-refl}
+use Rattle.text.proofs.Choices.{and-left, and-right, and-both, true-or-false}
+use Rattle.text.proofs.Scans.{same-eq, same-refl}
+use Rattle.refusal.specs.declared.Refusal.the-variants.{NotThere}
 use Rattle.fields.specs.Record.{typeOf}
-use Rattle.fields.specs.declared.record.Record.{Record}
 use Rattle.fields.specs.declared.record.Record.the-variants.{Shipment, Parcel, Feature}
 use Rattle.line.specs.Parts.{split, partAt}
 use Rattle.line.specs.Need.{isFilled}
 use Rattle.line.specs.Line.{textAt}
 use Rattle.grammar.specs.Grammar.{fieldNo}
 use Rattle.file.specs.File.{Judged, judged, listOf}
-use Rattle.file.specs.declared.whole.FileAnswer.{FileAnswer}
-use Rattle.file.specs.declared.whole.FileAnswer.the-variants.{Accepted, Refused}
+use Rattle.file.specs.declared.whole.FileAnswer.the-variants.{Accepted}
 use Rattle.allowed.specs.Allowed.{FileLine, AllowedFile, lineStarts}
 use Rattle.allowed.proofs.Files.{totalsOf, allowed-accepted}
 use Rattle.purpose.specs.Source.{isTyped, isCashLine, shipmentAbove, firstParcel, fromShipment, inShipment, forFeature, sourceOf}
 use Rattle.purpose.specs.Purpose.{cut, sourceText, textFrom, onSource, onFile, purposeAnswer, purposeText, listAfter, outputAfter, Purposes}
-use Rattle.purpose.specs.Sentence.{LineNo, CashLine, NoneBetween, Belongs, firstFilled, namedText}
+use Rattle.purpose.specs.Sentence.{LineNo, CashLine, Belongs, firstFilled, namedText}
 use Rattle.purpose.specs.declared.source.Source.{Source}
 use Rattle.purpose.specs.declared.source.Source.the-variants.{Field, Joined}
 use Rattle.purpose.specs.declared.source.Sourced.{Sourced}
 use Rattle.purpose.specs.declared.source.Sourced.the-variants.{From, Nowhere}
 use Rattle.purpose.specs.declared.write.PurposeAnswer.{PurposeAnswer}
 use Rattle.purpose.specs.declared.write.PurposeAnswer.the-variants.{Written, NotWritten}
+use Rattle.purpose.proofs.Seeking.{past-lines, no-cash-line}
 use Rattle.purpose.proofs.Answering.{starts-count}
-use Rattle.purpose.proofs.Placed.{line-there, line-counted, parts-at, is-typed, not-typed}
+use Rattle.purpose.proofs.Placed.{line-there, line-counted, parts-at, kind-told, is-typed, not-typed}
 
 -- the nearest above is the only one between itself and the line
 nearest-found :
@@ -71,6 +71,9 @@ or-next s at n next (b ∷ f) fs last e q =
     ap (λ (x : List ℕ). not (eqb (length x) 0)) e ∙ ap not (ne-eqb (suc (length f)) 0 (λ z. omega arith))
     in
     rw t e
+
+whole : (s : List ℕ) (ls : List FileLine) → AllowedFile s ls → (words : ℕ) → length ls ≤ words → judged s words ≡ record { answer = Accepted (totalsOf ls); starts = lineStarts 0 ls }
+whole s ls g words room = allowed-accepted s words (totalsOf ls) (lineStarts 0 ls) (record { lines = ls; allowed = g; room = room; counts = refl; list = refl })
 
 module _ (s : List ℕ) (ls : List FileLine) (g : AllowedFile s ls) (n : ℕ) (l : FileLine) (el : LineNo ls n l) (cash : CashLine l) (shipment parcel : FileLine) (b : Belongs ls n shipment parcel) where
   abbrev starts : List ℕ
@@ -145,19 +148,16 @@ module _ (s : List ℕ) (ls : List FileLine) (g : AllowedFile s ls) (n : ℕ) (l
   source-is = rw (lt-leb (length starts) n (omega (arith, starts-count 0 ls, line-counted ls n l el)), is-cash)
 
   module _ (words : ℕ) (room : length ls ≤ words) where
-    whole : judged s words ≡ record { answer = Accepted (totalsOf ls); starts = starts }
-    whole = allowed-accepted s words (totalsOf ls) starts (record { lines = ls; allowed = g; room = room; counts = refl; list = refl })
-
     named-text : purposeText s n words ≡ cut (namedText l shipment parcel)
     named-text =
-        ap (λ (j : Judged). textFrom s (sourceOf s (j .starts) n)) whole
+        ap (λ (j : Judged). textFrom s (sourceOf s (j .starts) n)) (whole s ls g words room)
         ∙ ap (textFrom s) source-is
         ∙ ap cut text-is
 
     named-answer : (long : ℕ) → 35 ≤ long → purposeAnswer s n words long ≡ Written (length (cut (namedText l shipment parcel)))
     unfolding onFile onSource
     named-answer long h =
-        ap (λ (j : Judged). onFile (j .answer) (sourceOf s (j .starts) n) s long) whole
+        ap (λ (j : Judged). onFile (j .answer) (sourceOf s (j .starts) n) s long) (whole s ls g words room)
         ∙ ap (λ (x : Sourced). onSource x s long) source-is
         ∙ rw (le-ltb long 35 h, text-is)
 
@@ -168,6 +168,45 @@ module _ (s : List ℕ) (ls : List FileLine) (g : AllowedFile s ls) (n : ℕ) (l
     purpose-named out h answer list after p =
         let e : answer ≡ Written (length (cut (namedText l shipment parcel))) = p .0 ∙ named-answer (length out) h in (
           e,
-          p .1 ∙ ap (λ (a : PurposeAnswer). listAfter a words (judged s words .starts)) e ∙ ap (λ (j : Judged). listOf words (j .starts)) whole,
+          p .1 ∙ ap (λ (a : PurposeAnswer). listAfter a words (judged s words .starts)) e ∙ ap (λ (j : Judged). listOf words (j .starts)) (whole s ls g words room),
           p .2 ∙ ap (λ (a : PurposeAnswer). outputAfter a (purposeText s n words) out) e ∙ ap (written out 0) named-text,
         )
+
+-- "no such field or line, or not a 006 line"
+module _
+    (s : List ℕ) (ls : List FileLine) (g : AllowedFile s ls) (words : ℕ) (room : length ls ≤ words) (n : ℕ) (out : List ℕ) (answer : PurposeAnswer) (list after : List ℕ) (p : Purposes s n words out answer list after)
+    where
+  nowhere : sourceOf s (lineStarts 0 ls) n ≡ Nowhere → (answer ≡ NotWritten NotThere 0) × (list ≡ replicate words 0) × (after ≡ out)
+  unfolding onFile onSource
+  nowhere e =
+      let a : answer ≡ NotWritten NotThere 0 =
+      p .0
+      ∙ ap (λ (j : Judged). onFile (j .answer) (sourceOf s (j .starts) n) s (length out)) (whole s ls g words room)
+      ∙ ap (λ (x : Sourced). onSource x s (length out)) e
+      in (
+        a,
+        p .1 ∙ ap (λ (x : PurposeAnswer). listAfter x words (judged s words .starts)) a,
+        p .2 ∙ ap (λ (x : PurposeAnswer). outputAfter x (purposeText s n words) out) a,
+      )
+
+  pub no-such-line : length ls ≤ n → (answer ≡ NotWritten NotThere 0) × (list ≡ replicate words 0) × (after ≡ out)
+  no-such-line h = nowhere (sym (past-lines s (lineStarts 0 ls) n (omega (arith, starts-count 0 ls))))
+
+  module _ (l : FileLine) (h : LineNo ls n l) where
+    abbrev at : ℕ
+    at = getD (lineStarts 0 ls) n 0
+
+    cash : isCashLine s at ≡ true → CashLine l
+    unfolding isCashLine
+    cash e =
+        let typed = and-left (isTyped s at (bytes "060")) (same (partAt (textAt s at) 1) (bytes "006")) e in
+        let coded = and-right (isTyped s at (bytes "060")) (same (partAt (textAt s at) 1) (bytes "006")) e in
+        record {
+          feature = kind-told s ls g n l h Feature typed;
+          code = sym (ap (λ (parts : List (List ℕ)). getD parts 1 []) (parts-at s ls g n l h)) ∙ same-eq (partAt (textAt s at) 1) (bytes "006") coded;
+        }
+
+    pub not-a-cash-line : (CashLine l → ⊥) → (answer ≡ NotWritten NotThere 0) × (list ≡ replicate words 0) × (after ≡ out)
+    not-a-cash-line never =
+        let none : false ≡ isCashLine s at = ⊎-elim (λ e. absurd (never (cash e))) (λ e. sym e) (true-or-false (isCashLine s at)) in
+        nowhere (sym (no-cash-line s (lineStarts 0 ls) n (omega (arith, starts-count 0 ls, line-counted ls n l h)) at refl false none refl))

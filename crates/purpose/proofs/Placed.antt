@@ -1,7 +1,7 @@
 -- The lines of an allowed file where the list says that they start: their types, and whether a line is of a record.
 use Prim.Native.Nat.{ℕ, zero, suc, _+_, _≤_, _<_}
 use mathlib.Core.Path.{_≡_, refl, sym, ap, _∙_}
-use mathlib.Core.Bool.{Bool, true, false}
+use mathlib.Core.Bool.{true, false}
 use mathlib.Core.List.{List, [], _∷_, _++_}
 use mathlib.Core.Logic.{⊎-elim}
 use native.Mathlib.Omega.{arith}
@@ -17,7 +17,7 @@ use Rattle.fields.specs.declared.record.Due.the-variants.{Any}
 use Rattle.line.specs.Parts.{split}
 use Rattle.line.specs.Line.{textAt}
 use Rattle.line.specs.declared.read.Line.{Line}
-use Rattle.grammar.specs.Grammar.{render, LineOk, Reads}
+use Rattle.grammar.specs.Grammar.{LineOk, Reads}
 use Rattle.grammar.proofs.Texts.{type-tells}
 use Rattle.grammar.proofs.Lines.{read-parts}
 use Rattle.allowed.specs.Allowed.{FileLine, lineBytes, fileBytes, LinesOk, AllowedFile, lineStarts}
@@ -65,7 +65,8 @@ module _ (s : List ℕ) (ls : List FileLine) (g : AllowedFile s ls) where
     pub is-typed : l .kind ≡ kind → isTyped s (getD (lineStarts 0 ls) i 0) (typeOf kind) ≡ true
     is-typed e = typed ∙ ap (λ (k : Record). same (typeOf k) (typeOf kind)) e ∙ same-refl (typeOf kind)
 
+    pub kind-told : isTyped s (getD (lineStarts 0 ls) i 0) (typeOf kind) ≡ true → l .kind ≡ kind
+    kind-told e = type-tells (l .kind) kind (same-eq (typeOf (l .kind)) (typeOf kind) (sym typed ∙ e))
+
     pub not-typed : (l .kind ≡ kind → ⊥) → isTyped s (getD (lineStarts 0 ls) i 0) (typeOf kind) ≡ false
-    not-typed n =
-        ⊎-elim (λ e. absurd (n (type-tells (l .kind) kind (same-eq (typeOf (l .kind)) (typeOf kind) (sym typed ∙ e))))) (λ e. e)
-        (true-or-false (isTyped s (getD (lineStarts 0 ls) i 0) (typeOf kind)))
+    not-typed n = ⊎-elim (λ e. absurd (n (kind-told e))) (λ e. e) (true-or-false (isTyped s (getD (lineStarts 0 ls) i 0) (typeOf kind)))

@@ -1,8 +1,8 @@
 -- The source of a text: the lines of a file by their starts, the shipment above and its first parcel, by cases.
 use Prim.Native.Nat.{ℕ, suc, _+_, _-_, _≤_, _<_}
-use mathlib.Core.Path.{_≡_, refl, sym, ap, _∙_}
+use mathlib.Core.Path.{_≡_, sym, ap, _∙_}
 use mathlib.Core.Bool.{Bool, true, false, not}
-use mathlib.Core.List.{List, [], _∷_}
+use mathlib.Core.List.{List}
 use native.Mathlib.Numerals.{add-one}
 use native.Mathlib.Omega.{arith}
 use lib.ListN.{length, drop, getD, drop-of-length-le}
@@ -14,10 +14,9 @@ use Rattle.text.specs.Scan.{same}
 use Rattle.line.specs.Parts.{split, partAt}
 use Rattle.line.specs.Need.{isFilled}
 use Rattle.line.specs.Line.{textAt}
-use Rattle.purpose.specs.Source.{filledAt, isTyped, isCashLine, shipmentAbove, firstParcel, fromShipment, inShipment, forFeature, sourceOf}
+use Rattle.purpose.specs.Source.{isTyped, isCashLine, shipmentAbove, firstParcel, fromShipment, forFeature, sourceOf}
 use Rattle.purpose.specs.declared.source.Source.{Source}
-use Rattle.purpose.specs.declared.source.Source.the-variants.{Field, Joined}
-use Rattle.purpose.specs.declared.source.Sourced.{Sourced}
+use Rattle.purpose.specs.declared.source.Source.the-variants.{Field}
 use Rattle.purpose.specs.declared.source.Sourced.the-variants.{From, Nowhere}
 
 -- a line's text, and what the code asks of it
