@@ -175,38 +175,38 @@ module _ (s : List ℕ) (ls : List FileLine) (g : AllowedFile s ls) (n : ℕ) (l
 -- "no such field or line, or not a 006 line"
 module _
     (s : List ℕ) (ls : List FileLine) (g : AllowedFile s ls) (words : ℕ) (room : length ls ≤ words) (n : ℕ) (out : List ℕ) (answer : PurposeAnswer) (list after : List ℕ) (p : Purposes s n words out answer list after)
-    where
-  nowhere : sourceOf s (lineStarts 0 ls) n ≡ Nowhere → (answer ≡ NotWritten NotThere 0) × (list ≡ replicate words 0) × (after ≡ out)
-  unfolding onFile onSource
-  nowhere e =
-      let a : answer ≡ NotWritten NotThere 0 =
-      p .0
-      ∙ ap (λ (j : Judged). onFile (j .answer) (sourceOf s (j .starts) n) s (length out)) (whole s ls g words room)
-      ∙ ap (λ (x : Sourced). onSource x s (length out)) e
-      in (
-        a,
-        p .1 ∙ ap (λ (x : PurposeAnswer). listAfter x words (judged s words .starts)) a,
-        p .2 ∙ ap (λ (x : PurposeAnswer). outputAfter x (purposeText s n words) out) a,
-      )
+  where
+    nowhere : sourceOf s (lineStarts 0 ls) n ≡ Nowhere → (answer ≡ NotWritten NotThere 0) × (list ≡ replicate words 0) × (after ≡ out)
+    unfolding onFile onSource
+    nowhere e =
+        let a : answer ≡ NotWritten NotThere 0 =
+        p .0
+        ∙ ap (λ (j : Judged). onFile (j .answer) (sourceOf s (j .starts) n) s (length out)) (whole s ls g words room)
+        ∙ ap (λ (x : Sourced). onSource x s (length out)) e
+        in (
+          a,
+          p .1 ∙ ap (λ (x : PurposeAnswer). listAfter x words (judged s words .starts)) a,
+          p .2 ∙ ap (λ (x : PurposeAnswer). outputAfter x (purposeText s n words) out) a,
+        )
 
-  pub no-such-line : length ls ≤ n → (answer ≡ NotWritten NotThere 0) × (list ≡ replicate words 0) × (after ≡ out)
-  no-such-line h = nowhere (sym (past-lines s (lineStarts 0 ls) n (omega (arith, starts-count 0 ls))))
+    pub no-such-line : length ls ≤ n → (answer ≡ NotWritten NotThere 0) × (list ≡ replicate words 0) × (after ≡ out)
+    no-such-line h = nowhere (sym (past-lines s (lineStarts 0 ls) n (omega (arith, starts-count 0 ls))))
 
-  module _ (l : FileLine) (h : LineNo ls n l) where
-    abbrev at : ℕ
-    at = getD (lineStarts 0 ls) n 0
+    module _ (l : FileLine) (h : LineNo ls n l) where
+      abbrev at : ℕ
+      at = getD (lineStarts 0 ls) n 0
 
-    cash : isCashLine s at ≡ true → CashLine l
-    unfolding isCashLine
-    cash e =
-        let typed = and-left (isTyped s at (bytes "060")) (same (partAt (textAt s at) 1) (bytes "006")) e in
-        let coded = and-right (isTyped s at (bytes "060")) (same (partAt (textAt s at) 1) (bytes "006")) e in
-        record {
-          feature = kind-told s ls g n l h Feature typed;
-          code = sym (ap (λ (parts : List (List ℕ)). getD parts 1 []) (parts-at s ls g n l h)) ∙ same-eq (partAt (textAt s at) 1) (bytes "006") coded;
-        }
+      cash : isCashLine s at ≡ true → CashLine l
+      unfolding isCashLine
+      cash e =
+          let typed = and-left (isTyped s at (bytes "060")) (same (partAt (textAt s at) 1) (bytes "006")) e in
+          let coded = and-right (isTyped s at (bytes "060")) (same (partAt (textAt s at) 1) (bytes "006")) e in
+          record {
+            feature = kind-told s ls g n l h Feature typed;
+            code = sym (ap (λ (parts : List (List ℕ)). getD parts 1 []) (parts-at s ls g n l h)) ∙ same-eq (partAt (textAt s at) 1) (bytes "006") coded;
+          }
 
-    pub not-a-cash-line : (CashLine l → ⊥) → (answer ≡ NotWritten NotThere 0) × (list ≡ replicate words 0) × (after ≡ out)
-    not-a-cash-line never =
-        let none : false ≡ isCashLine s at = ⊎-elim (λ e. absurd (never (cash e))) (λ e. sym e) (true-or-false (isCashLine s at)) in
-        nowhere (sym (no-cash-line s (lineStarts 0 ls) n (omega (arith, starts-count 0 ls, line-counted ls n l h)) at refl false none refl))
+      pub not-a-cash-line : (CashLine l → ⊥) → (answer ≡ NotWritten NotThere 0) × (list ≡ replicate words 0) × (after ≡ out)
+      not-a-cash-line never =
+          let none : false ≡ isCashLine s at = ⊎-elim (λ e. absurd (never (cash e))) (λ e. sym e) (true-or-false (isCashLine s at)) in
+          nowhere (sym (no-cash-line s (lineStarts 0 ls) n (omega (arith, starts-count 0 ls, line-counted ls n l h)) at refl false none refl))
