@@ -5,6 +5,7 @@ mod list;
 mod step;
 mod whole;
 
+pub use list::clear;
 pub use whole::FileAnswer;
 pub use whole::Totals;
 pub use whole::judge;

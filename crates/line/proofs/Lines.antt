@@ -37,6 +37,10 @@ module _ (s : List ℕ) (end : ℕ) where
   unfolding endsWell
   ends-there t e = let q : end + 2 - end ≡ 2 = omega arith in e ∙ ap (λ (m : ℕ). same (take m (drop end s)) (bytes "\r\n")) q
 
+-- the text up to its end
+pub text-to : (s : List ℕ) (at end : ℕ) → end ≡ lineEnd s at → take (end - at) (drop at s) ≡ textAt s at
+text-to s at end e = ap (λ (k : ℕ). take (k - at) (drop at s)) e
+
 -- the number of fields, the fields, then what the feature needs
 module _ (kind : Record) (at : ℕ) (line : List ℕ) (n : ℕ) (en : n ≡ count semicolon line) (t : Bool) (et : t ≡ countFits kind n) where
   fits : t ≡ countFits kind (length (fieldsOf line))

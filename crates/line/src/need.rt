@@ -70,7 +70,8 @@ fn has_contact(line: &[u8]) -> bool
     is_filled(line, 10)
 }
 
-fn is_filled(line: &[u8], number: usize) -> bool
+// Whether the part with this number is filled.
+pub fn is_filled(line: &[u8], number: usize) -> bool
     ensures { λ r. ⌜ r ≡ isFilled (split (now (line .entry))) number ⌝ }
 {
     let field = field_in(line, number);

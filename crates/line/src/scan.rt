@@ -5,7 +5,7 @@ ghost use lib.ListN.{length};
 ghost use Rattle.text.specs.Choice.{if_then_else_};
 ghost use Rattle.text.specs.Scan.{count};
 ghost use Rattle.line.specs.Parts.{semicolon, inField, fieldEnd};
-ghost use Rattle.line.specs.Line.{lineEnd, endsWell};
+ghost use Rattle.line.specs.Line.{lineEnd, endsWell, textAt};
 
 // The first byte from here on that is no text byte, or the end of the file.
 pub fn line_end(s: &[u8], at: usize) -> usize
@@ -20,6 +20,17 @@ pub fn line_end(s: &[u8], at: usize) -> usize
         i += 1;
     }
     i
+}
+
+// The text of the line that starts here; no bytes past the file.
+pub fn text_at(s: &[u8], at: usize) -> &[u8]
+    ensures { λ r. ⌜ now r ≡ textAt (now (s .entry)) at ⌝ }
+{
+    if s.len() < at {
+        return &s[0..0];
+    }
+    let end = line_end(s, at);
+    &s[at..end]
 }
 
 // Whether CR LF stands here.

@@ -1,0 +1,212 @@
+-- The purpose of a 006 line of an allowed file is the text that the paper's sentence names.
+use Prim.Native.Nat.{ℕ, zero, suc, _+_, _-_, _≤_, _<_}
+use mathlib.Core.Path.{_≡_, refl, sym, ap, _∙_}
+use mathlib.Core.Bool.{Bool, true, false, not}
+use mathlib.Core.List.{List, [], _∷_, _++_}
+use mathlib.Core.Logic.{⊎-elim}
+use native.Mathlib.Nat.{le-of-suc-le-suc, eq-or-lt-of-le}
+use native.Mathlib.Omega.{arith}
+use lib.Dec.{eqb}
+use lib.ListN.{length, drop, getD, replicate, length-drop}
+use lib.Seq.{getD-drop}
+use borrow.Author.Tests.{lt-leb, le-ltb, ne-eqb}
+use Rattle.text.specs.Choice.{if_then_else_}
+use Rattle.text.specs.Placed.{written}
+use Rattle.text.specs.Quoted.{bytes}
+use Rattle.text.specs.Scan.{same}
+use Rattle.text.proofs.Choices.{and-left, and-right, and-both, true-or-false}
+use Rattle.text.proofs.Scans.{same-eq, same-refl}
+use Rattle.refusal.specs.declared.Refusal.the-variants.{NotThere}
+use Rattle.fields.specs.Record.{typeOf}
+use Rattle.fields.specs.declared.record.Record.the-variants.{Shipment, Parcel, Feature}
+use Rattle.line.specs.Parts.{split, partAt}
+use Rattle.line.specs.Need.{isFilled}
+use Rattle.line.specs.Line.{textAt}
+use Rattle.grammar.specs.Grammar.{fieldNo}
+use Rattle.file.specs.File.{Judged, judged, listOf}
+use Rattle.file.specs.declared.whole.FileAnswer.the-variants.{Accepted}
+use Rattle.allowed.specs.Allowed.{FileLine, AllowedFile, lineStarts, totalsOf}
+use Rattle.allowed.proofs.Files.{allowed-accepted}
+use Rattle.purpose.specs.Source.{isTyped, isCashLine, shipmentAbove, firstParcel, fromShipment, inShipment, forFeature, sourceOf}
+use Rattle.purpose.specs.Purpose.{cut, sourceText, textFrom, onSource, onFile, purposeAnswer, purposeText, listAfter, outputAfter, Purposes}
+use Rattle.purpose.specs.Sentence.{LineNo, CashLine, Belongs, firstFilled, namedText}
+use Rattle.purpose.specs.declared.source.Source.{Source}
+use Rattle.purpose.specs.declared.source.Source.the-variants.{Field, Joined}
+use Rattle.purpose.specs.declared.source.Sourced.{Sourced}
+use Rattle.purpose.specs.declared.source.Sourced.the-variants.{From, Nowhere}
+use Rattle.purpose.specs.declared.write.PurposeAnswer.{PurposeAnswer}
+use Rattle.purpose.specs.declared.write.PurposeAnswer.the-variants.{Written, NotWritten}
+use Rattle.purpose.proofs.Seeking.{past-lines, no-cash-line}
+use Rattle.purpose.proofs.Answering.{starts-count}
+use Rattle.purpose.proofs.Placed.{line-there, line-counted, parts-at, kind-told, is-typed, not-typed}
+
+-- the nearest above is the only one between itself and the line
+nearest-found :
+    (s starts : List ℕ) (n ship : ℕ) → ship < n → isTyped s (getD starts ship 0) (bytes "030") ≡ true →
+    ((i : ℕ) → ship < i → i < n → isTyped s (getD starts i 0) (bytes "030") ≡ false) → shipmentAbove s starts n ≡ ship
+nearest-found s starts zero ship h t none = absurd (omega arith)
+nearest-found s starts (suc n) ship h t none =
+    ⊎-elim (λ e. here e) (λ l. rw (none n l (omega arith)) (nearest-found s starts n ship l t (λ i a b. none i a (omega arith))))
+    (eq-or-lt-of-le (le-of-suc-le-suc h))
+  where
+    here : ship ≡ n → shipmentAbove s starts (suc n) ≡ ship
+    here e = let u : isTyped s (getD starts n 0) (bytes "030") ≡ true = ap (λ (k : ℕ). isTyped s (getD starts k 0) (bytes "030")) (sym e) ∙ t in rw u (sym e)
+
+first-found :
+    (s starts : List ℕ) (j : ℕ) → j < length starts → isTyped s (getD starts j 0) (bytes "040") ≡ true →
+    ((i : ℕ) → i < j → isTyped s (getD starts i 0) (bytes "040") ≡ false) → firstParcel s starts ≡ getD starts j 0
+first-found s [] j h t none = absurd (omega arith)
+first-found s (at ∷ starts) zero h t none = rw t
+first-found s (at ∷ starts) (suc j) h t none = rw (none 0 (omega arith)) (first-found s starts j (omega arith) t (λ i l. none (suc i) (omega arith)))
+
+-- a field is taken where it is filled, and otherwise the next source is
+or-next :
+    (s : List ℕ) (at n : ℕ) (next : Source) (f : List ℕ) (fs : List (List ℕ)) (last : List ℕ) → partAt (textAt s at) n ≡ f → sourceText s next ≡ firstFilled fs last →
+    sourceText s (if isFilled (split (textAt s at)) n then Field at n else next) ≡ firstFilled (f ∷ fs) last
+unfolding isFilled
+or-next s at n next [] fs last e q =
+    let t : not (eqb (length (getD (split (textAt s at)) n [])) 0) ≡ false = ap (λ (x : List ℕ). not (eqb (length x) 0)) e in rw t q
+or-next s at n next (b ∷ f) fs last e q =
+    let t : not (eqb (length (getD (split (textAt s at)) n [])) 0) ≡ true =
+    ap (λ (x : List ℕ). not (eqb (length x) 0)) e ∙ ap not (ne-eqb (suc (length f)) 0 (λ z. omega arith))
+    in
+    rw t e
+
+whole : (s : List ℕ) (ls : List FileLine) → AllowedFile s ls → (words : ℕ) → length ls ≤ words → judged s words ≡ record { answer = Accepted (totalsOf ls); starts = lineStarts 0 ls }
+whole s ls g words room = allowed-accepted s words (totalsOf ls) (lineStarts 0 ls) (record { lines = ls; allowed = g; room = room; counts = refl; list = refl })
+
+module _ (s : List ℕ) (ls : List FileLine) (g : AllowedFile s ls) (n : ℕ) (l : FileLine) (el : LineNo ls n l) (cash : CashLine l) (shipment parcel : FileLine) (b : Belongs ls n shipment parcel) where
+  abbrev starts : List ℕ
+  starts = lineStarts 0 ls
+
+  -- the parts of a line that has its number in the file
+  part-of : (i k : ℕ) (x : FileLine) → LineNo ls i x → partAt (textAt s (getD starts i 0)) k ≡ getD (typeOf (x .kind) ∷ x .fields) k []
+  part-of i k x h = ap (λ (parts : List (List ℕ)). getD parts k []) (parts-at s ls g i x h)
+
+  is-above : shipmentAbove s starts n ≡ b .ship
+  is-above =
+      nearest-found s starts n (b .ship) (b .above) (is-typed s ls g (b .ship) shipment (b .there) Shipment (b .shipped))
+      (λ i p q. let k = line-there ls i (omega (arith, line-counted ls n l el)) in not-typed s ls g i (k .0) (k .1) Shipment (b .nearest i (k .0) p q (k .1)))
+
+  -- the lines behind the shipment, counted from the first of them
+  behind-it : (i : ℕ) → getD (drop (b .ship + 1) starts) i 0 ≡ getD starts (b .ship + 1 + i) 0
+  behind-it i = getD-drop (b .ship + 1) starts i 0
+
+  is-there : getD (drop (b .ship + 1) starts) (b .first - (b .ship + 1)) 0 ≡ getD starts (b .first) 0
+  is-there = let k : b .ship + 1 + (b .first - (b .ship + 1)) ≡ b .first = omega (arith, b .behind) in behind-it (b .first - (b .ship + 1)) ∙ ap (λ (j : ℕ). getD starts j 0) k
+
+  is-first : firstParcel s (drop (b .ship + 1) starts) ≡ getD starts (b .first) 0
+  is-first =
+      first-found s (drop (b .ship + 1) starts) (b .first - (b .ship + 1))
+      (omega (arith, b .behind, length-drop (b .ship + 1) starts, starts-count 0 ls, line-counted ls (b .first) parcel (b .here)))
+      (ap (λ (o : ℕ). isTyped s o (bytes "040")) is-there ∙ is-typed s ls g (b .first) parcel (b .here) Parcel (b .parcelled))
+      (λ i h.
+      let k = line-there ls (b .ship + 1 + i) (omega (arith, line-counted ls (b .first) parcel (b .here))) in
+      ap (λ (o : ℕ). isTyped s o (bytes "040")) (behind-it i)
+      ∙ not-typed s ls g (b .ship + 1 + i) (k .0) (k .1) Parcel (b .foremost (b .ship + 1 + i) (k .0) (omega arith) (omega arith) (k .1)))
+      ∙ is-there
+
+  shipment-text : sourceText s (fromShipment s (getD starts (b .ship) 0) (getD starts (b .first) 0)) ≡ firstFilled (fieldNo (shipment .fields) 1 ∷ fieldNo (shipment .fields) 34 ∷ fieldNo (shipment .fields) 36 ∷ fieldNo (parcel .fields) 3 ∷ []) (fieldNo (parcel .fields) 1 ++ bytes "/" ++ fieldNo (shipment .fields) 16)
+  unfolding fromShipment
+  shipment-text =
+      let up = getD starts (b .ship) 0 in
+      let down = getD starts (b .first) 0 in
+      let filled : ℕ → ℕ → Bool = λ at k. isFilled (split (textAt s at)) k in
+      let last = fieldNo (parcel .fields) 1 ++ bytes "/" ++ fieldNo (shipment .fields) 16 in
+      let f1 = fieldNo (shipment .fields) 1 in
+      let f34 = fieldNo (shipment .fields) 34 in
+      let f36 = fieldNo (shipment .fields) 36 in
+      let p3 = fieldNo (parcel .fields) 3 in
+      let join : sourceText s (Joined down up) ≡ firstFilled [] last = rw (part-of (b .first) 1 parcel (b .here), part-of (b .ship) 16 shipment (b .there)) in
+      let d : Source = if isFilled (split (textAt s down)) 3 then Field down 3 else Joined down up in
+      let c : Source = if isFilled (split (textAt s up)) 36 then Field up 36 else d in
+      let a : Source = if isFilled (split (textAt s up)) 34 then Field up 34 else c in
+      or-next s up 1 a f1 (f34 ∷ f36 ∷ p3 ∷ []) last (part-of (b .ship) 1 shipment (b .there))
+      (or-next s up 34 c f34 (f36 ∷ p3 ∷ []) last (part-of (b .ship) 34 shipment (b .there))
+      (or-next s up 36 d f36 (p3 ∷ []) last (part-of (b .ship) 36 shipment (b .there))
+      (or-next s down 3 (Joined down up) p3 [] last (part-of (b .first) 3 parcel (b .here)) join)))
+
+  text-is : sourceText s (forFeature s starts n) ≡ namedText l shipment parcel
+  unfolding forFeature
+  text-is =
+      or-next s (getD starts n 0) 8 (inShipment s starts (shipmentAbove s starts n)) (fieldNo (l .fields) 8)
+      (fieldNo (shipment .fields) 1 ∷ fieldNo (shipment .fields) 34 ∷ fieldNo (shipment .fields) 36 ∷ fieldNo (parcel .fields) 3 ∷ [])
+      (fieldNo (parcel .fields) 1 ++ bytes "/" ++ fieldNo (shipment .fields) 16)
+      (part-of n 8 l el)
+      (ap (λ (k : ℕ). sourceText s (inShipment s starts k)) is-above
+      ∙ ap (λ (p : ℕ). sourceText s (fromShipment s (getD starts (b .ship) 0) p)) is-first
+      ∙ shipment-text)
+
+  is-cash : isCashLine s (getD starts n 0) ≡ true
+  unfolding isCashLine
+  is-cash =
+      and-both (isTyped s (getD starts n 0) (bytes "060")) (same (partAt (textAt s (getD starts n 0)) 1) (bytes "006")) (is-typed s ls g n l el Feature (cash .feature))
+      (ap (λ (f : List ℕ). same f (bytes "006")) (part-of n 1 l el ∙ cash .code) ∙ same-refl (bytes "006"))
+
+  source-is : sourceOf s starts n ≡ From (forFeature s starts n)
+  unfolding sourceOf
+  source-is = rw (lt-leb (length starts) n (omega (arith, starts-count 0 ls, line-counted ls n l el)), is-cash)
+
+  module _ (words : ℕ) (room : length ls ≤ words) where
+    named-text : purposeText s n words ≡ cut (namedText l shipment parcel)
+    named-text =
+        ap (λ (j : Judged). textFrom s (sourceOf s (j .starts) n)) (whole s ls g words room)
+        ∙ ap (textFrom s) source-is
+        ∙ ap cut text-is
+
+    named-answer : (long : ℕ) → 35 ≤ long → purposeAnswer s n words long ≡ Written (length (cut (namedText l shipment parcel)))
+    unfolding onFile onSource
+    named-answer long h =
+        ap (λ (j : Judged). onFile (j .answer) (sourceOf s (j .starts) n) s long) (whole s ls g words room)
+        ∙ ap (λ (x : Sourced). onSource x s long) source-is
+        ∙ rw (le-ltb long 35 h, text-is)
+
+    -- the line's text is written, the list is the file's, and every other byte of the output stays
+    pub purpose-named :
+        (out : List ℕ) → 35 ≤ length out → (answer : PurposeAnswer) (list after : List ℕ) → Purposes s n words out answer list after →
+        (answer ≡ Written (length (cut (namedText l shipment parcel)))) × (list ≡ listOf words (lineStarts 0 ls)) × (after ≡ written out 0 (cut (namedText l shipment parcel)))
+    purpose-named out h answer list after p =
+        let e : answer ≡ Written (length (cut (namedText l shipment parcel))) = p .0 ∙ named-answer (length out) h in (
+          e,
+          p .1 ∙ ap (λ (a : PurposeAnswer). listAfter a words (judged s words .starts)) e ∙ ap (λ (j : Judged). listOf words (j .starts)) (whole s ls g words room),
+          p .2 ∙ ap (λ (a : PurposeAnswer). outputAfter a (purposeText s n words) out) e ∙ ap (written out 0) named-text,
+        )
+
+-- "no such field or line, or not a 006 line"
+module _
+    (s : List ℕ) (ls : List FileLine) (g : AllowedFile s ls) (words : ℕ) (room : length ls ≤ words) (n : ℕ) (out : List ℕ) (answer : PurposeAnswer) (list after : List ℕ) (p : Purposes s n words out answer list after)
+  where
+    nowhere : sourceOf s (lineStarts 0 ls) n ≡ Nowhere → (answer ≡ NotWritten NotThere 0) × (list ≡ replicate words 0) × (after ≡ out)
+    unfolding onFile onSource
+    nowhere e =
+        let a : answer ≡ NotWritten NotThere 0 =
+        p .0
+        ∙ ap (λ (j : Judged). onFile (j .answer) (sourceOf s (j .starts) n) s (length out)) (whole s ls g words room)
+        ∙ ap (λ (x : Sourced). onSource x s (length out)) e
+        in (
+          a,
+          p .1 ∙ ap (λ (x : PurposeAnswer). listAfter x words (judged s words .starts)) a,
+          p .2 ∙ ap (λ (x : PurposeAnswer). outputAfter x (purposeText s n words) out) a,
+        )
+
+    pub no-such-line : length ls ≤ n → (answer ≡ NotWritten NotThere 0) × (list ≡ replicate words 0) × (after ≡ out)
+    no-such-line h = nowhere (sym (past-lines s (lineStarts 0 ls) n (omega (arith, starts-count 0 ls))))
+
+    module _ (l : FileLine) (h : LineNo ls n l) where
+      abbrev at : ℕ
+      at = getD (lineStarts 0 ls) n 0
+
+      cash : isCashLine s at ≡ true → CashLine l
+      unfolding isCashLine
+      cash e =
+          let typed = and-left (isTyped s at (bytes "060")) (same (partAt (textAt s at) 1) (bytes "006")) e in
+          let coded = and-right (isTyped s at (bytes "060")) (same (partAt (textAt s at) 1) (bytes "006")) e in
+          record {
+            feature = kind-told s ls g n l h Feature typed;
+            code = sym (ap (λ (parts : List (List ℕ)). getD parts 1 []) (parts-at s ls g n l h)) ∙ same-eq (partAt (textAt s at) 1) (bytes "006") coded;
+          }
+
+      pub not-a-cash-line : (CashLine l → ⊥) → (answer ≡ NotWritten NotThere 0) × (list ≡ replicate words 0) × (after ≡ out)
+      not-a-cash-line never =
+          let none : false ≡ isCashLine s at = ⊎-elim (λ e. absurd (never (cash e))) (λ e. sym e) (true-or-false (isCashLine s at)) in
+          nowhere (sym (no-cash-line s (lineStarts 0 ls) n (omega (arith, starts-count 0 ls, line-counted ls n l h)) at refl false none refl))

@@ -1,0 +1,81 @@
+-- Document 01, 'Payment purpose': the text, what is answered, and what the lent list and the output then hold.
+use Prim.Native.Nat.{ℕ}
+use mathlib.Core.Path.{_≡_}
+use mathlib.Core.List.{List, [], _++_}
+use lib.Dec.{ltb}
+use lib.ListN.{length, take, replicate}
+use Rattle.text.specs.Choice.{if_then_else_}
+use Rattle.text.specs.Placed.{written}
+use Rattle.text.specs.Quoted.{bytes}
+use Rattle.refusal.specs.Table.{numberOf, Verdict}
+use Rattle.refusal.specs.declared.Refusal.the-variants.{OutputTooShort, NotThere}
+use Rattle.file.specs.File.{judged, listOf}
+use Rattle.file.specs.declared.whole.FileAnswer.{FileAnswer}
+use Rattle.file.specs.declared.whole.FileAnswer.the-variants.{Accepted, Refused}
+use Rattle.purpose.specs.Source.{fieldAt, sourceOf}
+use Rattle.purpose.specs.declared.source.Source.{Source}
+use Rattle.purpose.specs.declared.source.Source.the-variants.{Field, Joined}
+use Rattle.purpose.specs.declared.source.Sourced.{Sourced}
+use Rattle.purpose.specs.declared.source.Sourced.the-variants.{From, Nowhere}
+use Rattle.purpose.specs.declared.write.PurposeAnswer.{PurposeAnswer}
+use Rattle.purpose.specs.declared.write.PurposeAnswer.the-variants.{Written, NotWritten}
+
+-- "The first 35 bytes count."
+abbrev pub cut : List ℕ → List ℕ
+cut text = take 35 text
+
+-- the whole text that a source supplies: a field, or "that 040's field 1, `/`, 030.16"
+abbrev pub sourceText : List ℕ → Source → List ℕ
+sourceText s (Field at n) = fieldAt s at n
+sourceText s (Joined parcel shipment) = fieldAt s parcel 1 ++ bytes "/" ++ fieldAt s shipment 16
+
+abbrev pub textFrom : List ℕ → Sourced → List ℕ
+textFrom s (From source) = cut (sourceText s source)
+textFrom s Nowhere = []
+
+-- the file's refusal, handed on
+abbrev pub handedOn : FileAnswer → PurposeAnswer
+handedOn (Accepted totals) = NotWritten NotThere 0
+handedOn (Refused why place) = NotWritten why place
+
+-- 15, then 13: "output under 35", for an output of so many bytes
+unfoldable pub onSource : Sourced → List ℕ → ℕ → PurposeAnswer
+onSource Nowhere s room = NotWritten NotThere 0
+onSource (From source) s room = if ltb room 35 then NotWritten OutputTooShort 0 else Written (length (cut (sourceText s source)))
+
+-- "Order: the file's refusals, 15, 13"
+unfoldable pub onFile : FileAnswer → Sourced → List ℕ → ℕ → PurposeAnswer
+onFile (Refused why place) sourced s room = NotWritten why place
+onFile (Accepted totals) sourced s room = onSource sourced s room
+
+-- the source for the line with this number, where the list has so many words
+abbrev pub purposeSource : List ℕ → ℕ → ℕ → Sourced
+purposeSource s n words = sourceOf s (judged s words .starts) n
+
+abbrev pub purposeAnswer : List ℕ → ℕ → ℕ → ℕ → PurposeAnswer
+purposeAnswer s n words room = onFile (judged s words .answer) (purposeSource s n words) s room
+
+abbrev pub purposeText : List ℕ → ℕ → ℕ → List ℕ
+purposeText s n words = textFrom s (purposeSource s n words)
+
+-- "list lent as for the whole file", and "the list's words are all 0 after 15 or 13 too"
+abbrev pub listAfter : PurposeAnswer → ℕ → List ℕ → List ℕ
+listAfter (Written n) words starts = listOf words starts
+listAfter (NotWritten why place) words starts = replicate words 0
+
+-- "The output's other bytes stay, and all of them on a refusal"
+abbrev pub outputAfter : PurposeAnswer → List ℕ → List ℕ → List ℕ
+outputAfter (Written n) text out = written out 0 text
+outputAfter (NotWritten why place) text out = out
+
+-- the answer, the list and the output that the call allows
+abbrev pub Purposes : List ℕ → ℕ → ℕ → List ℕ → PurposeAnswer → List ℕ → List ℕ → Type 0
+Purposes s n words out answer list after =
+    (answer ≡ purposeAnswer s n words (length out))
+    × (list ≡ listAfter answer words (judged s words .starts))
+    × (after ≡ outputAfter answer (purposeText s n words) out)
+
+-- the paper's number and place for each answer
+abbrev pub purposeVerdict : PurposeAnswer → Verdict
+purposeVerdict (Written n) = Verdict.passes
+purposeVerdict (NotWritten why place) = Verdict.refused (numberOf why) place

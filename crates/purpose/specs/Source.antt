@@ -1,0 +1,69 @@
+-- Document 01, 'Payment purpose' (document 000, 5.6.4): which field, or which two, supply the text. A file's lines are known here by
+-- where they start.
+use Prim.Native.Nat.{ℕ, zero, suc, _+_}
+use mathlib.Core.Bool.{Bool, not, _&&_}
+use mathlib.Core.List.{List, [], _∷_}
+use lib.Dec.{leb}
+use lib.ListN.{length, drop, getD}
+use Rattle.text.specs.Choice.{if_then_else_}
+use Rattle.text.specs.Quoted.{bytes}
+use Rattle.text.specs.Scan.{same}
+use Rattle.line.specs.Parts.{split, partAt}
+use Rattle.line.specs.Need.{isFilled}
+use Rattle.line.specs.Line.{textAt}
+use Rattle.purpose.specs.declared.source.Source.{Source}
+use Rattle.purpose.specs.declared.source.Source.the-variants.{Field, Joined}
+use Rattle.purpose.specs.declared.source.Sourced.{Sourced}
+use Rattle.purpose.specs.declared.source.Sourced.the-variants.{From, Nowhere}
+
+-- the part with this number of the line that starts here: the record type for 0, else the field
+abbrev pub fieldAt : List ℕ → ℕ → ℕ → List ℕ
+fieldAt s at n = partAt (textAt s at) n
+
+-- "A field of spaces is filled; only zero bytes is empty."
+abbrev pub filledAt : List ℕ → ℕ → ℕ → Bool
+filledAt s at n = isFilled (split (textAt s at)) n
+
+-- a line of this record type starts here
+unfoldable pub isTyped : List ℕ → ℕ → List ℕ → Bool
+isTyped s at name = same (fieldAt s at 0) name
+
+-- "a 006 line": a 060 line with this code
+unfoldable pub isCashLine : List ℕ → ℕ → Bool
+isCashLine s at = isTyped s at (bytes "060") && same (fieldAt s at 1) (bytes "006")
+
+-- "The shipment is the nearest 030 above": its number, above the line with this number
+abbrev pub shipmentAbove : List ℕ → List ℕ → ℕ → ℕ
+shipmentAbove s starts zero = 0
+shipmentAbove s starts (suc n) = if isTyped s (getD starts n 0) (bytes "030") then n else shipmentAbove s starts n
+
+-- "the shipment's first 040": where the first of these lines that is one starts
+abbrev pub firstParcel : List ℕ → List ℕ → ℕ
+firstParcel s [] = 0
+firstParcel s (at ∷ starts) = if isTyped s at (bytes "040") then at else firstParcel s starts
+
+-- "else the first filled of 030.1, 030.34, 030.36 and field 3 of the shipment's first 040; else that 040's field 1, `/`, 030.16"
+unfoldable pub fromShipment : List ℕ → ℕ → ℕ → Source
+fromShipment s shipment parcel =
+    if filledAt s shipment 1 then Field shipment 1
+    else if filledAt s shipment 34 then Field shipment 34
+    else if filledAt s shipment 36 then Field shipment 36
+    else if filledAt s parcel 3 then Field parcel 3
+    else Joined parcel shipment
+
+-- the shipment of a line, and its first parcel behind it
+abbrev pub inShipment : List ℕ → List ℕ → ℕ → Source
+inShipment s starts shipment = fromShipment s (getD starts shipment 0) (firstParcel s (drop (shipment + 1) starts))
+
+-- "For a 006 line: 060.8 if filled"
+unfoldable pub forFeature : List ℕ → List ℕ → ℕ → Source
+forFeature s starts n =
+    if filledAt s (getD starts n 0) 8 then Field (getD starts n 0) 8
+    else inShipment s starts (shipmentAbove s starts n)
+
+-- "no such field or line, or not a 006 line"
+unfoldable pub sourceOf : List ℕ → List ℕ → ℕ → Sourced
+sourceOf s starts n =
+    if leb (length starts) n then Nowhere
+    else if isCashLine s (getD starts n 0) then From (forFeature s starts n)
+    else Nowhere

@@ -1,0 +1,46 @@
+// The first 35 bytes of a text, written at the output's start.
+ghost use mathlib.Core.Path.{_≡_};
+ghost use mathlib.Core.List.{_++_};
+ghost use Prim.Native.Nat.{_+_, _-_, _≤_};
+ghost use lib.ListN.{length, take};
+ghost use Rattle.text.specs.Placed.{written};
+ghost use Rattle.text.specs.Quoted.{bytes};
+ghost use Rattle.purpose.specs.Purpose.{sourceText, cut};
+use crate::source::Source;
+use line::field_in;
+use line::text_at;
+
+// Writes the text that this source supplies, and answers how many bytes.
+pub fn write_source(s: &[u8], source: Source, out: &mut [u8]) -> usize
+    requires { ⌜ 35 ≤ length (now out) ⌝ }
+    ensures { λ r. ⌜ (r ≡ length (cut (sourceText (now (s .entry)) source))) × (now (out .exit) ≡ written (now (out .entry)) 0 (cut (sourceText (now (s .entry)) source))) ⌝ }
+{
+    match source {
+        Source::Field { at, number } => write_upto(out, 0, field_in(text_at(s, at), number)),
+        Source::Joined { parcel, shipment } => write_joined(
+            out,
+            field_in(text_at(s, parcel), 1),
+            field_in(text_at(s, shipment), 16),
+        ),
+    }
+}
+
+// Writes two texts with a slash between them.
+fn write_joined(out: &mut [u8], a: &[u8], b: &[u8]) -> usize
+    requires { ⌜ 35 ≤ length (now out) ⌝ }
+    ensures { λ r. ⌜ (r ≡ length (cut (now (a .entry) ++ bytes "/" ++ now (b .entry)))) × (now (out .exit) ≡ written (now (out .entry)) 0 (cut (now (a .entry) ++ bytes "/" ++ now (b .entry)))) ⌝ }
+{
+    let slash = write_upto(out, 0, a);
+    let second = write_upto(out, slash, b"/");
+    write_upto(out, second, b)
+}
+
+// Writes src from the place at on, as much of it as the first 35 bytes have room for, and answers where it ends.
+fn write_upto(out: &mut [u8], at: usize, src: &[u8]) -> usize
+    requires { ⌜ (at ≤ 35) × (35 ≤ length (now out)) ⌝ }
+    ensures { λ r. ⌜ (r ≡ at + length (take (35 - at) (now (src .entry)))) × (r ≤ 35) × (now (out .exit) ≡ written (now (out .entry)) at (take (35 - at) (now (src .entry)))) ⌝ }
+{
+    let part = text::clip(src, 0, 35 - at);
+    text::place(out, at, part);
+    at + part.len()
+}

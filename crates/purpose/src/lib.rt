@@ -1,0 +1,10 @@
+// The payment purpose of a cash line: the field, or the two, that supply its text, and the first 35 bytes of it written.
+mod cut;
+mod lines;
+mod source;
+mod write;
+
+pub use source::Source;
+pub use source::Sourced;
+pub use write::PurposeAnswer;
+pub use write::write_purpose;

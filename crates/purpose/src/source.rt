@@ -1,0 +1,94 @@
+// Which field of which line, or which two fields, supply the purpose of a cash line.
+ghost use mathlib.Core.Path.{_≡_};
+ghost use Prim.Native.Nat.{_<_, _≤_};
+ghost use lib.ListN.{length, take};
+ghost use Rattle.purpose.specs.Source.{isCashLine, fromShipment, forFeature, sourceOf};
+use crate::lines::first_parcel;
+use crate::lines::is_filled_at;
+use crate::lines::is_typed;
+use crate::lines::offset_of;
+use crate::lines::shipment_above;
+use line::field_in;
+use line::text_at;
+
+pub enum Source {
+    // The field with this number of the line that starts at this offset.
+    Field { at: usize, number: usize },
+    // The parcel line's field 1, `/` and the shipment line's field 16.
+    Joined { parcel: usize, shipment: usize },
+}
+
+pub enum Sourced {
+    From(Source),
+    Nowhere,
+}
+
+// The source for the line with this number; the first words of the list, as many as the file has lines, hold where each starts.
+pub fn find_source(s: &[u8], words: &[u32], lines: usize, number: usize) -> Sourced
+    requires { ⌜ lines ≤ length (now words) ⌝ }
+    ensures { λ r. ⌜ r ≡ sourceOf (now (s .entry)) (take lines (now (words .entry))) number ⌝ }
+{
+    let starts = &words[..lines];
+    if starts.len() <= number {
+        return Sourced::Nowhere;
+    }
+    if !is_cash_line(s, offset_of(starts, number)) {
+        return Sourced::Nowhere;
+    }
+    Sourced::From(for_feature(s, starts, number))
+}
+
+// Whether a 060 line with the code 006 starts here.
+fn is_cash_line(s: &[u8], at: usize) -> bool
+    ensures { λ r. ⌜ r ≡ isCashLine (now (s .entry)) at ⌝ }
+{
+    if !is_typed(s, at, b"060") {
+        return false;
+    }
+    text::equal(field_in(text_at(s, at), 1), b"006")
+}
+
+// The source for a cash line: its own field first, then its shipment's.
+fn for_feature(s: &[u8], starts: &[u32], number: usize) -> Source
+    requires { ⌜ number < length (now starts) ⌝ }
+    ensures { λ r. ⌜ r ≡ forFeature (now (s .entry)) (now (starts .entry)) number ⌝ }
+{
+    let at = offset_of(starts, number);
+    if is_filled_at(s, at, 8) {
+        return Source::Field { at, number: 8 };
+    }
+    let shipment = shipment_above(s, starts, number);
+    let parcel = first_parcel(s, starts, shipment);
+    from_shipment(s, offset_of(starts, shipment), parcel)
+}
+
+// The source in a shipment: the lines of the shipment and of its first parcel start here.
+fn from_shipment(s: &[u8], shipment: usize, parcel: usize) -> Source
+    ensures { λ r. ⌜ r ≡ fromShipment (now (s .entry)) shipment parcel ⌝ }
+{
+    if is_filled_at(s, shipment, 1) {
+        return Source::Field {
+            at: shipment,
+            number: 1,
+        };
+    }
+    if is_filled_at(s, shipment, 34) {
+        return Source::Field {
+            at: shipment,
+            number: 34,
+        };
+    }
+    if is_filled_at(s, shipment, 36) {
+        return Source::Field {
+            at: shipment,
+            number: 36,
+        };
+    }
+    if is_filled_at(s, parcel, 3) {
+        return Source::Field {
+            at: parcel,
+            number: 3,
+        };
+    }
+    Source::Joined { parcel, shipment }
+}
