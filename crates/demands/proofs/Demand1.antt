@@ -24,6 +24,9 @@ use Rattle.file.specs.File.{Judges}
 use Rattle.writer.specs.Write.{Writes}
 use Rattle.writer.specs.declared.write.WriteAnswer.{WriteAnswer}
 use Rattle.writer.proofs.Back.{one-outcome}
+use Rattle.purpose.specs.Purpose.{Purposes}
+use Rattle.purpose.specs.declared.write.PurposeAnswer.{PurposeAnswer}
+use Rattle.purpose.proofs.Settled as settled
 use Rattle.file.specs.declared.whole.FileAnswer.{FileAnswer}
 
 -- A contract `answer ≡ definition of the inputs` leaves one answer. That is the contract of every public function but those that
@@ -64,3 +67,8 @@ pub write-line-unique :
     (number : ℕ) (text ends out : List ℕ) (fill : ℕ) (a b : WriteAnswer) (x y : List ℕ) →
     Writes number text ends out fill a x → Writes number text ends out fill b y → (a ≡ b) × (x ≡ y)
 write-line-unique = one-outcome
+
+pub write-purpose-unique :
+    (s : List ℕ) (n words : ℕ) (out : List ℕ) (a b : PurposeAnswer) (list list₂ x y : List ℕ) →
+    Purposes s n words out a list x → Purposes s n words out b list₂ y → (a ≡ b) × (list ≡ list₂) × (x ≡ y)
+write-purpose-unique = settled.one-outcome
