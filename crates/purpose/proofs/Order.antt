@@ -1,19 +1,27 @@
--- Each 006 line of an allowed file has a shipment, and the shipment a first parcel: by the order of the records.
-use Prim.Native.Nat.{ℕ, zero, suc}
+-- Each 006 line of an allowed file has a shipment, and the shipment a first parcel, by the order of the records; so each has the
+-- purpose that the paper's sentence names.
+use Prim.Native.Nat.{ℕ, zero, suc, _≤_}
 use mathlib.Core.Path.{_≡_, refl, sym, ap, _∙_}
 use mathlib.Core.Bool.{Bool, true, false, false≢true}
 use mathlib.Core.List.{List, [], _∷_}
 use mathlib.Core.Logic.{_⊎_, inl, inr, ⊎-elim}
 use native.Mathlib.Nat.{le-of-suc-le-suc, eq-or-lt-of-le}
 use native.Mathlib.Omega.{arith}
+use lib.ListN.{length}
+use Rattle.text.specs.Placed.{written}
 use Rattle.text.proofs.Choices.{clash}
 use Rattle.fields.specs.Record.{mayFollow, mayCome}
 use Rattle.fields.specs.declared.record.Record.{Record}
 use Rattle.fields.specs.declared.record.Record.the-variants.{Header, Sender, Shipment, Parcel, Product, Feature}
 use Rattle.fields.specs.declared.record.Due.{Due}
 use Rattle.fields.specs.declared.record.Due.the-variants.{First, After}
-use Rattle.allowed.specs.Allowed.{FileLine, InOrder, AllowedFile}
-use Rattle.purpose.specs.Sentence.{LineNo, CashLine, Belongs}
+use Rattle.file.specs.File.{listOf}
+use Rattle.allowed.specs.Allowed.{FileLine, InOrder, AllowedFile, lineStarts}
+use Rattle.purpose.specs.Purpose.{cut, Purposes}
+use Rattle.purpose.specs.Sentence.{LineNo, CashLine, Belongs, namedText}
+use Rattle.purpose.specs.declared.write.PurposeAnswer.{PurposeAnswer}
+use Rattle.purpose.specs.declared.write.PurposeAnswer.the-variants.{Written}
+use Rattle.purpose.proofs.Naming.{purpose-named}
 
 -- a record that stands in a shipment, behind its 030 line
 abbrev inside : Record → Bool
@@ -129,3 +137,12 @@ has ls o (suc i) l h t =
 
 pub each-belongs : (s : List ℕ) (ls : List FileLine) → AllowedFile s ls → (n : ℕ) (l : FileLine) → LineNo ls n l → CashLine l → (shipment : FileLine) × (parcel : FileLine) × Belongs ls n shipment parcel
 each-belongs s ls g n l h cash = has ls (g .order) n l h (ap inside (cash .feature))
+
+-- the line has its shipment and the shipment its first parcel, and the text that these three lines name is written
+pub purpose-of :
+    (s : List ℕ) (ls : List FileLine) → AllowedFile s ls → (n : ℕ) (l : FileLine) → LineNo ls n l → CashLine l → (words : ℕ) → length ls ≤ words → (out : List ℕ) → 35 ≤ length out →
+    (answer : PurposeAnswer) (list after : List ℕ) → Purposes s n words out answer list after →
+    (shipment : FileLine) × (parcel : FileLine) × Belongs ls n shipment parcel
+    × ((answer ≡ Written (length (cut (namedText l shipment parcel)))) × (list ≡ listOf words (lineStarts 0 ls)) × (after ≡ written out 0 (cut (namedText l shipment parcel))))
+purpose-of s ls g n l h cash words room out long answer list after p =
+    let b = each-belongs s ls g n l h cash in (b .0, b .1, b .2, purpose-named s ls g n l h cash (b .0) (b .1) (b .2) words room out long answer list after p)

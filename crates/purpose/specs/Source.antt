@@ -32,12 +32,13 @@ isTyped s at name = same (fieldAt s at 0) name
 unfoldable pub isCashLine : List ℕ → ℕ → Bool
 isCashLine s at = isTyped s at (bytes "060") && same (fieldAt s at 1) (bytes "006")
 
--- "The shipment is the nearest 030 above": its number, above the line with this number
+-- "The shipment is the nearest 030 above": its number, above the line with this number. The order of records gives each 006 line of
+-- an accepted file one, so that the number where there is none, 0, never counts.
 abbrev pub shipmentAbove : List ℕ → List ℕ → ℕ → ℕ
 shipmentAbove s starts zero = 0
 shipmentAbove s starts (suc n) = if isTyped s (getD starts n 0) (bytes "030") then n else shipmentAbove s starts n
 
--- "the shipment's first 040": where the first of these lines that is one starts
+-- "the shipment's first 040": where the first of these lines that is one starts; each shipment of an accepted file has one
 abbrev pub firstParcel : List ℕ → List ℕ → ℕ
 firstParcel s [] = 0
 firstParcel s (at ∷ starts) = if isTyped s at (bytes "040") then at else firstParcel s starts

@@ -4,7 +4,5 @@ mod lines;
 mod source;
 mod write;
 
-pub use source::Source;
-pub use source::Sourced;
 pub use write::PurposeAnswer;
 pub use write::write_purpose;
