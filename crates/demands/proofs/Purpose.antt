@@ -10,7 +10,6 @@ use Rattle.purpose.specs.Purpose.{cut, Purposes}
 use Rattle.purpose.specs.Sentence.{LineNo, CashLine, Belongs, namedText}
 use Rattle.purpose.specs.declared.write.PurposeAnswer.{PurposeAnswer}
 use Rattle.purpose.specs.declared.write.PurposeAnswer.the-variants.{Written}
-use Rattle.purpose.proofs.Naming as naming
 use Rattle.purpose.proofs.Order as order
 
 -- Every 006 line of an allowed file belongs to a shipment, the nearest 030 above it, and to that shipment's first parcel.
@@ -22,8 +21,9 @@ purpose-has-shipment = order.each-belongs
 -- Its purpose is the text that the paper's sentence names, cut after joining; the list is the file's, every other output byte stays.
 pub purpose-is-named :
     (s : List ℕ) (ls : List FileLine) → AllowedFile s ls → (n : ℕ) (l : FileLine) → LineNo ls n l → CashLine l →
-    (shipment parcel : FileLine) → Belongs ls n shipment parcel → (words : ℕ) → length ls ≤ words →
-    (out : List ℕ) → 35 ≤ length out → (answer : PurposeAnswer) (list after : List ℕ) → Purposes s n words out answer list after →
-    (answer ≡ Written (length (cut (namedText l shipment parcel)))) × (list ≡ listOf words (lineStarts 0 ls))
-    × (after ≡ written out 0 (cut (namedText l shipment parcel)))
-purpose-is-named = naming.purpose-named
+    (words : ℕ) → length ls ≤ words → (out : List ℕ) → 35 ≤ length out →
+    (answer : PurposeAnswer) (list after : List ℕ) → Purposes s n words out answer list after →
+    (shipment : FileLine) × (parcel : FileLine) × Belongs ls n shipment parcel
+    × ((answer ≡ Written (length (cut (namedText l shipment parcel)))) × (list ≡ listOf words (lineStarts 0 ls))
+    × (after ≡ written out 0 (cut (namedText l shipment parcel))))
+purpose-is-named = order.purpose-of
