@@ -43,20 +43,28 @@ module _ {why : Refusal} {place : ℕ} where
   none-ended s starts state = go (mayEnd (state .due))
     where
       whole : Judged
-      whole = record { answer = Accepted (record { lines = state .lines; parcels = state .parcels; cents = state .cents }); starts = starts }
+      whole = record {
+        answer = Accepted (record { lines = state .lines; parcels = state .parcels; cents = state .cents });
+        starts =
+            starts;
+      }
 
-      go : (t : Bool) → (if t then whole else record { answer = Refused FileEnds (length s); starts = [] }) .answer ≡ Refused why place → (if t then whole else record { answer = Refused FileEnds (length s); starts = [] }) .starts ≡ []
+      go : (t : Bool) → (if t then whole else record { answer = Refused FileEnds (length s); starts = [] }) .answer ≡ Refused why place →
+          (if t then whole else record { answer = Refused FileEnds (length s); starts = [] }) .starts ≡ []
       go true e = absurd (accepted e)
       go false e = refl
 
-  none-from : (turns : ℕ) (s : List ℕ) (m : ℕ) (starts : List ℕ) (state : State) → fileFrom turns s m starts state .answer ≡ Refused why place → fileFrom turns s m starts state .starts ≡ []
+  none-from : (turns : ℕ) (s : List ℕ) (m : ℕ) (starts : List ℕ) (state : State) →
+      fileFrom turns s m starts state .answer ≡ Refused why place → fileFrom turns s m starts state .starts ≡ []
   none-from zero s m starts state e = none-ended s starts state e
   none-from (suc turns) s m starts state e =
       go (ltb (state .at) (length s)) (stepAnswer s m starts state) (λ next. none-from turns s m (starts ++ (state .at ∷ [])) next) e
     where
       go :
-          (t : Bool) (step : Step) → ((next : State) → fileFrom turns s m (starts ++ (state .at ∷ [])) next .answer ≡ Refused why place → fileFrom turns s m (starts ++ (state .at ∷ [])) next .starts ≡ []) →
-          (if t then onStep step (λ next. fileFrom turns s m (starts ++ (state .at ∷ [])) next) else ended s starts state) .answer ≡ Refused why place →
+          (t : Bool) (step : Step) → ((next : State) → fileFrom turns s m (starts ++ (state .at ∷ [])) next .answer ≡ Refused why place →
+          fileFrom turns s m (starts ++ (state .at ∷ [])) next .starts ≡ []) →
+          (if t then onStep step (λ next. fileFrom turns s m (starts ++ (state .at ∷ [])) next) else ended s starts
+          state) .answer ≡ Refused why place →
           (if t then onStep step (λ next. fileFrom turns s m (starts ++ (state .at ∷ [])) next) else ended s starts state) .starts ≡ []
       go true (Next next) on e = on next e
       go true (Stopped w p) on e = refl
@@ -69,12 +77,14 @@ module _ {why : Refusal} {place : ℕ} where
       long : Judged
       long = record { answer = Refused FileTooLong 65535; starts = [] }
 
-      go : (t : Bool) → (if t then long else fileFrom (length s + 1) s m [] begin) .answer ≡ Refused why place → (if t then long else fileFrom (length s + 1) s m [] begin) .starts ≡ []
+      go : (t : Bool) → (if t then long else fileFrom (length s + 1) s m [] begin) .answer ≡ Refused why place →
+          (if t then long else fileFrom (length s + 1) s m [] begin) .starts ≡ []
       go true e = refl
       go false e = none-from (length s + 1) s m [] begin e
 
 -- the file is refused
-module _ (s : List ℕ) (m : ℕ) (a : FileAnswer) (ea : a ≡ judged s m .answer) (why : Refusal) (place : ℕ) (e : a ≡ Refused why place) (r : PurposeAnswer) (er : r ≡ handedOn a) where
+module _ (s : List ℕ) (m : ℕ) (a : FileAnswer) (ea : a ≡ judged s m .answer) (why : Refusal) (place : ℕ) (e : a ≡ Refused why place)
+    (r : PurposeAnswer) (er : r ≡ handedOn a) where
   refusal : r ≡ NotWritten why place
   refusal = er ∙ ap handedOn e
 
@@ -86,7 +96,8 @@ module _ (s : List ℕ) (m : ℕ) (a : FileAnswer) (ea : a ≡ judged s m .answe
   file-list list el =
       let none : judged s m .starts ≡ [] = none-listed s m (sym ea ∙ e) in
       let k : m - 0 ≡ m = omega arith in
-      el ∙ ap (listOf m) none ∙ ap (λ (n : ℕ). replicate n 0) k ∙ sym (ap (λ (x : PurposeAnswer). listAfter x m (judged s m .starts)) refusal)
+      el ∙ ap (listOf m) none ∙ ap (λ (n : ℕ). replicate n 0) k ∙ sym
+      (ap (λ (x : PurposeAnswer). listAfter x m (judged s m .starts)) refusal)
 
   pub file-output : (text out : List ℕ) → out ≡ outputAfter r text out
   file-output text out = sym (ap (λ (x : PurposeAnswer). outputAfter x text out) refusal)
@@ -98,7 +109,8 @@ starts-count at (l ∷ ls) = ap suc (starts-count (at + length (lineBytes l)) ls
 -- the file is accepted
 module _ (s : List ℕ) (m : ℕ) (a : FileAnswer) (ea : a ≡ judged s m .answer) (totals : Totals) (et : a ≡ Accepted totals) where
   accepts : Accepts s m totals (judged s m .starts)
-  accepts = accepted-allowed s m totals (judged s m .starts) (ap (λ (x : FileAnswer). record { answer = x; starts = judged s m .starts }) (sym ea ∙ et))
+  accepts = accepted-allowed s m totals (judged s m .starts) (ap (λ (x : FileAnswer). record { answer = x; starts = judged s m .starts })
+      (sym ea ∙ et))
 
   count : length (judged s m .starts) ≡ totals .lines
   count = ap length (accepts .list) ∙ starts-count 0 (accepts .lines) ∙ sym (ap (λ (t : Totals). t .lines) (accepts .counts))
@@ -106,9 +118,11 @@ module _ (s : List ℕ) (m : ℕ) (a : FileAnswer) (ea : a ≡ judged s m .answe
   pub lines-fit : (list : List ℕ) → length list ≡ m → totals .lines ≤ length list
   lines-fit list long = omega (arith, accepts .room, ap (λ (t : Totals). t .lines) (accepts .counts))
 
-  module _ (list : List ℕ) (el : list ≡ listOf m (judged s m .starts)) (n : ℕ) (found : Sourced) (ef : found ≡ sourceOf s (take (totals .lines) list) n) where
+  module _ (list : List ℕ) (el : list ≡ listOf m (judged s m .starts)) (n : ℕ) (found : Sourced)
+      (ef : found ≡ sourceOf s (take (totals .lines) list) n) where
     listed : take (totals .lines) list ≡ judged s m .starts
-    listed = ap (take (totals .lines)) el ∙ take-at (judged s m .starts) (replicate (m - length (judged s m .starts)) 0) (totals .lines) count
+    listed = ap (take (totals .lines)) el ∙ take-at (judged s m .starts) (replicate (m - length (judged s m .starts)) 0)
+        (totals .lines) count
 
     source-is : found ≡ sourceOf s (judged s m .starts) n
     source-is = ef ∙ ap (λ (starts : List ℕ). sourceOf s starts n) listed

@@ -53,8 +53,10 @@ module _ (a : List ℕ) (p : ℕ) (ep : p ≡ length (cut a)) (b : List ℕ) whe
   more-long : (q : ℕ) → q ≡ p + length (take (35 - p) b) → q ≡ length (cut (a ++ b))
   more-long q eq = eq ∙ rw ep (sym (length-append (cut a) (take (35 - length (cut a)) b)) ∙ ap length (cut-more a b))
 
-  more-there : (out o : List ℕ) → o ≡ written out 0 (cut a) → (o2 : List ℕ) → o2 ≡ written o p (take (35 - p) b) → o2 ≡ written out 0 (cut (a ++ b))
-  more-there out o eo o2 eo2 = eo2 ∙ rw (eo, ep) (written-twice out (cut a) (take (35 - length (cut a)) b) ∙ ap (written out 0) (cut-more a b))
+  more-there : (out o : List ℕ) → o ≡ written out 0 (cut a) → (o2 : List ℕ) → o2 ≡ written o p (take (35 - p) b) →
+      o2 ≡ written out 0 (cut (a ++ b))
+  more-there out o eo o2 eo2 = eo2 ∙ rw (eo, ep) (written-twice out (cut a) (take (35 - length (cut a)) b)
+      ∙ ap (written out 0) (cut-more a b))
 
 -- two texts with a slash between them, written in three pieces
 module _ (a b : List ℕ) (p : ℕ) (ep : p ≡ 0 + length (take (35 - 0) a)) (q : ℕ) (eq : q ≡ p + length (take (35 - p) (bytes "/"))) where
@@ -68,7 +70,8 @@ module _ (a b : List ℕ) (p : ℕ) (ep : p ≡ 0 + length (take (35 - 0) a)) (q
   joined-long r er = more-long (a ++ bytes "/") q front b r er
 
   pub joined-there :
-      (out o : List ℕ) → o ≡ written out 0 (take (35 - 0) a) → (o2 : List ℕ) → o2 ≡ written o p (take (35 - p) (bytes "/")) → (o3 : List ℕ) → o3 ≡ written o2 q (take (35 - q) b) →
+      (out o : List ℕ) → o ≡ written out 0 (take (35 - 0) a) → (o2 : List ℕ) → o2 ≡ written o p (take (35 - p) (bytes "/")) →
+      (o3 : List ℕ) → o3 ≡ written o2 q (take (35 - q) b) →
       o3 ≡ written out 0 (cut (a ++ bytes "/" ++ b))
   joined-there out o eo o2 eo2 o3 eo3 =
       more-there (a ++ bytes "/") q front b out o2 (more-there a p first (bytes "/") out o eo o2 eo2) o3 eo3
@@ -86,7 +89,8 @@ module _ (s : List ℕ) (source : Source) where
     field-there out o eo = eo ∙ ap (λ (l : List ℕ). written out 0 (cut l)) field-text
 
   module _
-      (parcel shipment : ℕ) (es : source ≡ Joined parcel shipment) (below above a b : List ℕ) (ep : below ≡ textAt s parcel) (ea : a ≡ partAt below 1) (eh : above ≡ textAt s shipment) (eb : b ≡ partAt above 16)
+      (parcel shipment : ℕ) (es : source ≡ Joined parcel shipment) (below above a b : List ℕ) (ep : below ≡ textAt s parcel)
+      (ea : a ≡ partAt below 1) (eh : above ≡ textAt s shipment) (eb : b ≡ partAt above 16)
     where
       both-text : a ++ bytes "/" ++ b ≡ sourceText s source
       both-text = rw (es, ea, ep, eb, eh)

@@ -50,18 +50,21 @@ nearest-found s starts (suc n) ship h t none =
     (eq-or-lt-of-le (le-of-suc-le-suc h))
   where
     here : ship ≡ n → shipmentAbove s starts (suc n) ≡ ship
-    here e = let u : isTyped s (getD starts n 0) (bytes "030") ≡ true = ap (λ (k : ℕ). isTyped s (getD starts k 0) (bytes "030")) (sym e) ∙ t in rw u (sym e)
+    here e = let u : isTyped s (getD starts n 0) (bytes "030") ≡ true = ap (λ (k : ℕ). isTyped s (getD starts k 0) (bytes "030")) (sym e)
+        ∙ t in rw u (sym e)
 
 first-found :
     (s starts : List ℕ) (j : ℕ) → j < length starts → isTyped s (getD starts j 0) (bytes "040") ≡ true →
     ((i : ℕ) → i < j → isTyped s (getD starts i 0) (bytes "040") ≡ false) → firstParcel s starts ≡ getD starts j 0
 first-found s [] j h t none = absurd (omega arith)
 first-found s (at ∷ starts) zero h t none = rw t
-first-found s (at ∷ starts) (suc j) h t none = rw (none 0 (omega arith)) (first-found s starts j (omega arith) t (λ i l. none (suc i) (omega arith)))
+first-found s (at ∷ starts) (suc j) h t none = rw (none 0 (omega arith))
+    (first-found s starts j (omega arith) t (λ i l. none (suc i) (omega arith)))
 
 -- a field is taken where it is filled, and otherwise the next source is
 or-next :
-    (s : List ℕ) (at n : ℕ) (next : Source) (f : List ℕ) (fs : List (List ℕ)) (last : List ℕ) → partAt (textAt s at) n ≡ f → sourceText s next ≡ firstFilled fs last →
+    (s : List ℕ) (at n : ℕ) (next : Source) (f : List ℕ) (fs : List (List ℕ)) (last : List ℕ) → partAt (textAt s at) n ≡ f →
+    sourceText s next ≡ firstFilled fs last →
     sourceText s (if isFilled (split (textAt s at)) n then Field at n else next) ≡ firstFilled (f ∷ fs) last
 unfolding isFilled
 or-next s at n next [] fs last e q =
@@ -72,10 +75,13 @@ or-next s at n next (b ∷ f) fs last e q =
     in
     rw t e
 
-whole : (s : List ℕ) (ls : List FileLine) → AllowedFile s ls → (words : ℕ) → length ls ≤ words → judged s words ≡ record { answer = Accepted (totalsOf ls); starts = lineStarts 0 ls }
-whole s ls g words room = allowed-accepted s words (totalsOf ls) (lineStarts 0 ls) (record { lines = ls; allowed = g; room = room; counts = refl; list = refl })
+whole : (s : List ℕ) (ls : List FileLine) → AllowedFile s ls → (words : ℕ) → length ls ≤ words →
+    judged s words ≡ record { answer = Accepted (totalsOf ls); starts = lineStarts 0 ls }
+whole s ls g words room = allowed-accepted s words (totalsOf ls) (lineStarts 0 ls)
+    (record { lines = ls; allowed = g; room = room; counts = refl; list = refl })
 
-module _ (s : List ℕ) (ls : List FileLine) (g : AllowedFile s ls) (n : ℕ) (l : FileLine) (el : LineNo ls n l) (cash : CashLine l) (shipment parcel : FileLine) (b : Belongs ls n shipment parcel) where
+module _ (s : List ℕ) (ls : List FileLine) (g : AllowedFile s ls) (n : ℕ) (l : FileLine) (el : LineNo ls n l) (cash : CashLine l)
+    (shipment parcel : FileLine) (b : Belongs ls n shipment parcel) where
   abbrev starts : List ℕ
   starts = lineStarts 0 ls
 
@@ -86,14 +92,16 @@ module _ (s : List ℕ) (ls : List FileLine) (g : AllowedFile s ls) (n : ℕ) (l
   is-above : shipmentAbove s starts n ≡ b .ship
   is-above =
       nearest-found s starts n (b .ship) (b .above) (is-typed s ls g (b .ship) shipment (b .there) Shipment (b .shipped))
-      (λ i p q. let k = line-there ls i (omega (arith, line-counted ls n l el)) in not-typed s ls g i (k .0) (k .1) Shipment (b .nearest i (k .0) p q (k .1)))
+      (λ i p q. let k = line-there ls i (omega (arith, line-counted ls n l el)) in
+      not-typed s ls g i (k .0) (k .1) Shipment (b .nearest i (k .0) p q (k .1)))
 
   -- the lines behind the shipment, counted from the first of them
   behind-it : (i : ℕ) → getD (drop (b .ship + 1) starts) i 0 ≡ getD starts (b .ship + 1 + i) 0
   behind-it i = getD-drop (b .ship + 1) starts i 0
 
   is-there : getD (drop (b .ship + 1) starts) (b .first - (b .ship + 1)) 0 ≡ getD starts (b .first) 0
-  is-there = let k : b .ship + 1 + (b .first - (b .ship + 1)) ≡ b .first = omega (arith, b .behind) in behind-it (b .first - (b .ship + 1)) ∙ ap (λ (j : ℕ). getD starts j 0) k
+  is-there = let k : b .ship + 1 + (b .first - (b .ship + 1)) ≡ b .first = omega (arith, b .behind) in
+      behind-it (b .first - (b .ship + 1)) ∙ ap (λ (j : ℕ). getD starts j 0) k
 
   is-first : firstParcel s (drop (b .ship + 1) starts) ≡ getD starts (b .first) 0
   is-first =
@@ -106,7 +114,9 @@ module _ (s : List ℕ) (ls : List FileLine) (g : AllowedFile s ls) (n : ℕ) (l
       ∙ not-typed s ls g (b .ship + 1 + i) (k .0) (k .1) Parcel (b .foremost (b .ship + 1 + i) (k .0) (omega arith) (omega arith) (k .1)))
       ∙ is-there
 
-  shipment-text : sourceText s (fromShipment s (getD starts (b .ship) 0) (getD starts (b .first) 0)) ≡ firstFilled (fieldNo (shipment .fields) 1 ∷ fieldNo (shipment .fields) 34 ∷ fieldNo (shipment .fields) 36 ∷ fieldNo (parcel .fields) 3 ∷ []) (fieldNo (parcel .fields) 1 ++ bytes "/" ++ fieldNo (shipment .fields) 16)
+  shipment-text : sourceText s (fromShipment s (getD starts (b .ship) 0) (getD starts (b .first) 0)) ≡ firstFilled
+      (fieldNo (shipment .fields) 1 ∷ fieldNo (shipment .fields) 34 ∷ fieldNo (shipment .fields) 36 ∷ fieldNo (parcel .fields) 3 ∷
+      []) (fieldNo (parcel .fields) 1 ++ bytes "/" ++ fieldNo (shipment .fields) 16)
   unfolding fromShipment
   shipment-text =
       let up = getD starts (b .ship) 0 in
@@ -117,7 +127,8 @@ module _ (s : List ℕ) (ls : List FileLine) (g : AllowedFile s ls) (n : ℕ) (l
       let f34 = fieldNo (shipment .fields) 34 in
       let f36 = fieldNo (shipment .fields) 36 in
       let p3 = fieldNo (parcel .fields) 3 in
-      let join : sourceText s (Joined down up) ≡ firstFilled [] last = rw (part-of (b .first) 1 parcel (b .here), part-of (b .ship) 16 shipment (b .there)) in
+      let join : sourceText s (Joined down up) ≡ firstFilled [] last =
+      rw (part-of (b .first) 1 parcel (b .here), part-of (b .ship) 16 shipment (b .there)) in
       let d : Source = if isFilled (split (textAt s down)) 3 then Field down 3 else Joined down up in
       let c : Source = if isFilled (split (textAt s up)) 36 then Field up 36 else d in
       let a : Source = if isFilled (split (textAt s up)) 34 then Field up 34 else c in
@@ -140,7 +151,8 @@ module _ (s : List ℕ) (ls : List FileLine) (g : AllowedFile s ls) (n : ℕ) (l
   is-cash : isCashLine s (getD starts n 0) ≡ true
   unfolding isCashLine
   is-cash =
-      and-both (isTyped s (getD starts n 0) (bytes "060")) (same (partAt (textAt s (getD starts n 0)) 1) (bytes "006")) (is-typed s ls g n l el Feature (cash .feature))
+      and-both (isTyped s (getD starts n 0) (bytes "060")) (same (partAt (textAt s (getD starts n 0)) 1) (bytes "006"))
+      (is-typed s ls g n l el Feature (cash .feature))
       (ap (λ (f : List ℕ). same f (bytes "006")) (part-of n 1 l el ∙ cash .code) ∙ same-refl (bytes "006"))
 
   source-is : sourceOf s starts n ≡ From (forFeature s starts n)
@@ -164,17 +176,20 @@ module _ (s : List ℕ) (ls : List FileLine) (g : AllowedFile s ls) (n : ℕ) (l
     -- the line's text is written, the list is the file's, and every other byte of the output stays
     pub purpose-named :
         (out : List ℕ) → 35 ≤ length out → (answer : PurposeAnswer) (list after : List ℕ) → Purposes s n words out answer list after →
-        (answer ≡ Written (length (cut (namedText l shipment parcel)))) × (list ≡ listOf words (lineStarts 0 ls)) × (after ≡ written out 0 (cut (namedText l shipment parcel)))
+        (answer ≡ Written (length (cut (namedText l shipment parcel)))) × (list ≡ listOf words (lineStarts 0 ls)) ×
+        (after ≡ written out 0 (cut (namedText l shipment parcel)))
     purpose-named out h answer list after p =
         let e : answer ≡ Written (length (cut (namedText l shipment parcel))) = p .0 ∙ named-answer (length out) h in (
           e,
-          p .1 ∙ ap (λ (a : PurposeAnswer). listAfter a words (judged s words .starts)) e ∙ ap (λ (j : Judged). listOf words (j .starts)) (whole s ls g words room),
+          p .1 ∙ ap (λ (a : PurposeAnswer). listAfter a words (judged s words .starts)) e
+              ∙ ap (λ (j : Judged). listOf words (j .starts)) (whole s ls g words room),
           p .2 ∙ ap (λ (a : PurposeAnswer). outputAfter a (purposeText s n words) out) e ∙ ap (written out 0) named-text,
         )
 
 -- "no such field or line, or not a 006 line"
 module _
-    (s : List ℕ) (ls : List FileLine) (g : AllowedFile s ls) (words : ℕ) (room : length ls ≤ words) (n : ℕ) (out : List ℕ) (answer : PurposeAnswer) (list after : List ℕ) (p : Purposes s n words out answer list after)
+    (s : List ℕ) (ls : List FileLine) (g : AllowedFile s ls) (words : ℕ) (room : length ls ≤ words) (n : ℕ) (out : List ℕ)
+    (answer : PurposeAnswer) (list after : List ℕ) (p : Purposes s n words out answer list after)
   where
     nowhere : sourceOf s (lineStarts 0 ls) n ≡ Nowhere → (answer ≡ NotWritten NotThere 0) × (list ≡ replicate words 0) × (after ≡ out)
     unfolding onFile onSource
@@ -203,10 +218,15 @@ module _
           let coded = and-right (isTyped s at (bytes "060")) (same (partAt (textAt s at) 1) (bytes "006")) e in
           record {
             feature = kind-told s ls g n l h Feature typed;
-            code = sym (ap (λ (parts : List (List ℕ)). getD parts 1 []) (parts-at s ls g n l h)) ∙ same-eq (partAt (textAt s at) 1) (bytes "006") coded;
+            code = sym (ap (λ (parts : List (List ℕ)). getD parts 1 []) (parts-at s ls g n l h))
+                ∙ same-eq (partAt (textAt s at) 1) (bytes "006") coded;
           }
 
       pub not-a-cash-line : (CashLine l → ⊥) → (answer ≡ NotWritten NotThere 0) × (list ≡ replicate words 0) × (after ≡ out)
       not-a-cash-line never =
           let none : false ≡ isCashLine s at = ⊎-elim (λ e. absurd (never (cash e))) (λ e. sym e) (true-or-false (isCashLine s at)) in
-          nowhere (sym (no-cash-line s (lineStarts 0 ls) n (omega (arith, starts-count 0 ls, line-counted ls n l h)) at refl false none refl))
+          nowhere (sym (no-cash-line s (lineStarts 0 ls) n (omega (
+            arith,
+            starts-count 0 ls,
+            line-counted ls n l h,
+          )) at refl false none refl))

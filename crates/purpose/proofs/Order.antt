@@ -70,7 +70,8 @@ order-first [] o l h = absurd h
 order-first (k ∷ ls) o l h = ap (λ (x : FileLine). mayCome First (x .kind)) (sym h) ∙ o .0
 
 -- the line in front of a line
-order-at : (ls : List FileLine) (due : Due) → InOrder due ls → (i : ℕ) (l : FileLine) → LineNo ls (suc i) l → (k : FileLine) × LineNo ls i k × (mayCome (After (k .kind)) (l .kind) ≡ true)
+order-at : (ls : List FileLine) (due : Due) → InOrder due ls → (i : ℕ) (l : FileLine) → LineNo ls (suc i) l →
+    (k : FileLine) × LineNo ls i k × (mayCome (After (k .kind)) (l .kind) ≡ true)
 order-at [] due o i l h = absurd h
 order-at (k ∷ []) due o zero l h = absurd h
 order-at (k ∷ m ∷ ls) due o zero l h = (k, refl, ap (λ (x : FileLine). mayCome (After (k .kind)) (x .kind)) (sym h) ∙ o .1 .0)
@@ -135,14 +136,23 @@ has ls o (suc i) l h t =
     ⊎-elim (λ u. has-on ls i (a .0) (a .1) u (has ls o i (a .0) (a .1) u)) (λ p. has-next ls i (a .0) (a .1) (p .0) l h (p .1))
     (step-in (a .0 .kind) (l .kind) (a .2) t)
 
-pub each-belongs : (s : List ℕ) (ls : List FileLine) → AllowedFile s ls → (n : ℕ) (l : FileLine) → LineNo ls n l → CashLine l → (shipment : FileLine) × (parcel : FileLine) × Belongs ls n shipment parcel
+pub each-belongs : (s : List ℕ) (ls : List FileLine) → AllowedFile s ls → (n : ℕ) (l : FileLine) → LineNo ls n l → CashLine l →
+    (shipment : FileLine) × (parcel : FileLine) × Belongs ls n shipment parcel
 each-belongs s ls g n l h cash = has ls (g .order) n l h (ap inside (cash .feature))
 
 -- the line has its shipment and the shipment its first parcel, and the text that these three lines name is written
 pub purpose-of :
-    (s : List ℕ) (ls : List FileLine) → AllowedFile s ls → (n : ℕ) (l : FileLine) → LineNo ls n l → CashLine l → (words : ℕ) → length ls ≤ words → (out : List ℕ) → 35 ≤ length out →
+    (s : List ℕ) (ls : List FileLine) → AllowedFile s ls → (n : ℕ) (l : FileLine) → LineNo ls n l → CashLine l → (words : ℕ) →
+    length ls ≤ words → (out : List ℕ) → 35 ≤ length out →
     (answer : PurposeAnswer) (list after : List ℕ) → Purposes s n words out answer list after →
     (shipment : FileLine) × (parcel : FileLine) × Belongs ls n shipment parcel
-    × ((answer ≡ Written (length (cut (namedText l shipment parcel)))) × (list ≡ listOf words (lineStarts 0 ls)) × (after ≡ written out 0 (cut (namedText l shipment parcel))))
+    × ((answer ≡ Written (length (cut (namedText l shipment parcel)))) × (list ≡ listOf words (lineStarts 0 ls)) ×
+    (after ≡ written out 0 (cut (namedText l shipment parcel))))
 purpose-of s ls g n l h cash words room out long answer list after p =
-    let b = each-belongs s ls g n l h cash in (b .0, b .1, b .2, purpose-named s ls g n l h cash (b .0) (b .1) (b .2) words room out long answer list after p)
+    let b = each-belongs s ls g n l h cash in (
+      b .0,
+      b .1,
+      b .2,
+      purpose-named s ls g n l h cash
+          (b .0) (b .1) (b .2) words room out long answer list after p,
+    )

@@ -35,7 +35,8 @@ line-counted (k ∷ ls) zero l h = omega arith
 line-counted (k ∷ ls) (suc i) l h = omega (arith, line-counted ls i l h)
 
 module _ (s : List ℕ) (small : length s ≤ 65535) where
-  first-parts : (at : ℕ) (l : FileLine) (rest : List ℕ) → LineOk (l .kind) (l .fields) → drop at s ≡ lineBytes l ++ rest → split (textAt s at) ≡ typeOf (l .kind) ∷ l .fields
+  first-parts : (at : ℕ) (l : FileLine) (rest : List ℕ) → LineOk (l .kind) (l .fields) → drop at s ≡ lineBytes l ++ rest →
+      split (textAt s at) ≡ typeOf (l .kind) ∷ l .fields
   unfolding mayCome
   first-parts at l rest ok e = read-parts reads
     where
@@ -47,11 +48,13 @@ module _ (s : List ℕ) (small : length s ≤ 65535) where
 
   -- lines that stand from here on
   parts-from :
-      (ls : List FileLine) (at : ℕ) → LinesOk ls → drop at s ≡ fileBytes ls → (i : ℕ) (l : FileLine) → LineNo ls i l → split (textAt s (getD (lineStarts at ls) i 0)) ≡ typeOf (l .kind) ∷ l .fields
+      (ls : List FileLine) (at : ℕ) → LinesOk ls → drop at s ≡ fileBytes ls → (i : ℕ) (l : FileLine) → LineNo ls i l →
+      split (textAt s (getD (lineStarts at ls) i 0)) ≡ typeOf (l .kind) ∷ l .fields
   parts-from [] at ok e i l h = absurd h
   parts-from (k ∷ ls) at ok e zero l h = first-parts at k (fileBytes ls) (ok .0) e ∙ ap (λ (x : FileLine). typeOf (x .kind) ∷ x .fields) h
   parts-from (k ∷ ls) at ok e (suc i) l h =
-      parts-from ls (at + length (lineBytes k)) (ok .1) (sym (drop-drop (length (lineBytes k)) at s) ∙ ap (drop (length (lineBytes k))) e ∙ drop-append-seam (lineBytes k) (fileBytes ls)) i l h
+      parts-from ls (at + length (lineBytes k)) (ok .1) (sym (drop-drop (length (lineBytes k)) at s) ∙ ap (drop (length (lineBytes k))) e
+      ∙ drop-append-seam (lineBytes k) (fileBytes ls)) i l h
 
 module _ (s : List ℕ) (ls : List FileLine) (g : AllowedFile s ls) where
   pub parts-at : (i : ℕ) (l : FileLine) → LineNo ls i l → split (textAt s (getD (lineStarts 0 ls) i 0)) ≡ typeOf (l .kind) ∷ l .fields

@@ -64,7 +64,8 @@ module _ (s starts : List ℕ) (n at : ℕ) (ea : at ≡ getD starts n 0) (t : B
   own-field e = rw (← ea, ← et, e)
 
   pub from-above :
-      t ≡ false → (shipment o parcel : ℕ) → shipment ≡ shipmentAbove s starts n → parcel ≡ firstParcel s (drop (shipment + 1) starts) → o ≡ getD starts shipment 0 →
+      t ≡ false → (shipment o parcel : ℕ) → shipment ≡ shipmentAbove s starts n → parcel ≡ firstParcel s (drop (shipment + 1) starts) →
+      o ≡ getD starts shipment 0 →
       (r : Source) → r ≡ fromShipment s o parcel → r ≡ forFeature s starts n
   unfolding forFeature
   from-above e shipment o parcel es ep eo r er = rw (← ea, ← et, e, ← es, ← ep, ← eo) er

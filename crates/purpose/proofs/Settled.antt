@@ -7,7 +7,8 @@ use Rattle.purpose.specs.Purpose.{purposeText, listAfter, outputAfter, P
 use Rattle.purpose.specs.declared.write.PurposeAnswer.{PurposeAnswer}
 
 pub one-outcome :
-    (s : List ℕ) (n words : ℕ) (out : List ℕ) (answer other : PurposeAnswer) (list list₂ after after₂ : List ℕ) → Purposes s n words out answer list after → Purposes s n words out other list₂ after₂ →
+    (s : List ℕ) (n words : ℕ) (out : List ℕ) (answer other : PurposeAnswer) (list list₂ after after₂ : List ℕ) →
+    Purposes s n words out answer list after → Purposes s n words out other list₂ after₂ →
     (answer ≡ other) × (list ≡ list₂) × (after ≡ after₂)
 one-outcome s n words out answer other list list₂ after after₂ p q =
     let e : answer ≡ other = p .0 ∙ sym (q .0) in (

@@ -49,5 +49,6 @@ firstFilled ((b ∷ f) ∷ fs) last = b ∷ f
 abbrev pub namedText : FileLine → FileLine → FileLine → List ℕ
 namedText l shipment parcel =
     firstFilled
-    (fieldNo (l .fields) 8 ∷ fieldNo (shipment .fields) 1 ∷ fieldNo (shipment .fields) 34 ∷ fieldNo (shipment .fields) 36 ∷ fieldNo (parcel .fields) 3 ∷ [])
+    (fieldNo (l .fields) 8 ∷ fieldNo (shipment .fields) 1 ∷ fieldNo (shipment .fields) 34 ∷ fieldNo (shipment .fields) 36 ∷
+    fieldNo (parcel .fields) 3 ∷ [])
     (fieldNo (parcel .fields) 1 ++ bytes "/" ++ fieldNo (shipment .fields) 16)

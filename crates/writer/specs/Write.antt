@@ -112,7 +112,8 @@ writtenTo answer (Known kind) fs out fill = lineTo answer kind fs out fill
 -- the outcomes that the writer may have: its answer, and the output after it
 abbrev pub Writes : ℕ → List ℕ → List ℕ → List ℕ → ℕ → WriteAnswer → List ℕ → Type 0
 Writes number text ends out fill answer after =
-    (answer ≡ writeAnswer number text ends (length out) fill) × (after ≡ writtenTo answer (recordNumbered number) (between text ends) out fill)
+    (answer ≡ writeAnswer number text ends (length out) fill)
+    × (after ≡ writtenTo answer (recordNumbered number) (between text ends) out fill)
 
 -- the paper's number and place for each answer
 abbrev pub writeVerdict : WriteAnswer → Verdict
@@ -145,4 +146,5 @@ pub record ReadsBack (kind : Record) (fs : List (List ℕ)) (line : List ℕ) : 
   pub rendered : line ≡ render kind fs
   pub read : lineAnswer Any line 0 ≡ Accepted (record { kind = kind; count = length fs; next = length line })
   pub found :
-      (n : ℕ) → 1 ≤ n → n ≤ length fs → (start : ℕ) × ((fieldAnswer line 0 n ≡ Found start (length (fieldNo fs n))) × (take (length (fieldNo fs n)) (drop start line) ≡ fieldNo fs n))
+      (n : ℕ) → 1 ≤ n → n ≤ length fs → (start : ℕ) × ((fieldAnswer line 0 n ≡ Found start (length (fieldNo fs n))) ×
+      (take (length (fieldNo fs n)) (drop start line) ≡ fieldNo fs n))

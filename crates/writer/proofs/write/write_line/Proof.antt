@@ -29,7 +29,8 @@ write-line-spec =
     (λ c κs. (
       line-small _ _ _ _ (c .before .before .before .before .walk-fields .ensures) (c .before .before .enum-told2 .given .1) _ _
           (c .before .before .before .before .before .before .before .before .ends-hold .ensures) (c .before .before .before .before .before .before .before .if1 .left) (c .before .before .before .before .before .before .count-fits .ensures) (c .before .before .before .before .before .if2 .left),
-      ends-held _ _ _ (c .before .before .before .before .before .before .before .before .ends-hold .ensures) (c .before .before .before .before .before .before .before .if1 .left),
+      ends-held _ _ _
+          (c .before .before .before .before .before .before .before .before .ends-hold .ensures) (c .before .before .before .before .before .before .before .if1 .left),
       walk-fine _ _ _ _ (c .before .before .before .before .walk-fields .ensures) (c .before .before .enum-told2 .given .1),
     ))
     (λ c. search laws) (λ c. search laws))
