@@ -30,7 +30,7 @@ use Rattle.purpose.proofs.Settled as settled
 use Rattle.file.specs.declared.whole.FileAnswer.{FileAnswer}
 
 -- A contract `answer ≡ definition of the inputs` leaves one answer. That is the contract of every public function but those that
--- write into a buffer, which follow below one by one.
+-- write into a buffer, which follow below one by one, and those of crate feed, which only reads the input of the test programs.
 pub one-answer : {A B : Type 0} (definition : A → B) (input : A) (a b : B) → a ≡ definition input → b ≡ definition input → a ≡ b
 one-answer definition input a b p q = p ∙ sym q
 
