@@ -28,6 +28,7 @@ use Rattle.purpose.specs.Purpose.{Purposes}
 use Rattle.purpose.specs.declared.write.PurposeAnswer.{PurposeAnswer}
 use Rattle.purpose.proofs.Settled as settled
 use Rattle.file.specs.declared.whole.FileAnswer.{FileAnswer}
+use Rattle.peliranopi.specs.Calls.{JudgeTells, LineTells, FieldTells, WriteTells, PurposeTells, NumberTells, IssueTells, IbanTells}
 
 -- A contract `answer ≡ definition of the inputs` leaves one answer. That is the contract of every public function but those that
 -- write into a buffer, which follow below one by one, and those of crate feed, which only reads the input of the test programs.
@@ -72,3 +73,55 @@ pub write-purpose-unique :
     (s : List ℕ) (n words : ℕ) (out : List ℕ) (a b : PurposeAnswer) (list list₂ x y : List ℕ) →
     Purposes s n words out a list x → Purposes s n words out b list₂ y → (a ≡ b) × (list ≡ list₂) × (x ≡ y)
 write-purpose-unique = settled.one-outcome
+
+-- The same calls for C and Rust (crate peliranopi): the number returned, each number behind a pointer, each lent buffer.
+pub judge-call-unique :
+    (file : List ℕ) (words n lines parcels cents place n₂ lines₂ parcels₂ cents₂ place₂ : ℕ) (list list₂ : List ℕ) →
+    JudgeTells file words n lines parcels cents place list → JudgeTells file words n₂ lines₂ parcels₂ cents₂ place₂ list₂ →
+    (n ≡ n₂) × (lines ≡ lines₂) × (parcels ≡ parcels₂) × (cents ≡ cents₂) × (place ≡ place₂) × (list ≡ list₂)
+judge-call-unique file words n lines parcels cents place n₂ lines₂ parcels₂ cents₂ place₂ list list₂ p q =
+    (p .0 .0 ∙ sym (q .0 .0), p .1 ∙ sym (q .1), p .2 ∙ sym (q .2), p .3 ∙ sym (q .3), p .0 .1 ∙ sym (q .0 .1), p .4 ∙ sym (q .4))
+
+pub read-line-call-unique :
+    (file : List ℕ) (offset n kind fields next place n₂ kind₂ fields₂ next₂ place₂ : ℕ) →
+    LineTells file offset n kind fields next place → LineTells file offset n₂ kind₂ fields₂ next₂ place₂ →
+    (n ≡ n₂) × (kind ≡ kind₂) × (fields ≡ fields₂) × (next ≡ next₂) × (place ≡ place₂)
+read-line-call-unique file offset n kind fields next place n₂ kind₂ fields₂ next₂ place₂ p q =
+    (p .0 .0 ∙ sym (q .0 .0), p .1 ∙ sym (q .1), p .2 ∙ sym (q .2), p .3 ∙ sym (q .3), p .0 .1 ∙ sym (q .0 .1))
+
+pub find-field-call-unique :
+    (file : List ℕ) (offset field n start long place n₂ start₂ long₂ place₂ : ℕ) →
+    FieldTells file offset field n start long place → FieldTells file offset field n₂ start₂ long₂ place₂ →
+    (n ≡ n₂) × (start ≡ start₂) × (long ≡ long₂) × (place ≡ place₂)
+find-field-call-unique file offset field n start long place n₂ start₂ long₂ place₂ p q =
+    (p .0 .0 ∙ sym (q .0 .0), p .1 ∙ sym (q .1), p .2 ∙ sym (q .2), p .0 .1 ∙ sym (q .0 .1))
+
+pub write-line-call-unique :
+    (kind : ℕ) (text ends output : List ℕ) (fill n bytes place n₂ bytes₂ place₂ : ℕ) (x y : List ℕ) →
+    WriteTells kind text ends output fill n bytes place x → WriteTells kind text ends output fill n₂ bytes₂ place₂ y →
+    (n ≡ n₂) × (bytes ≡ bytes₂) × (place ≡ place₂) × (x ≡ y)
+write-line-call-unique kind text ends output fill n bytes place n₂ bytes₂ place₂ x y p q =
+    (p .0 .0 ∙ sym (q .0 .0), p .1 ∙ sym (q .1), p .0 .1 ∙ sym (q .0 .1), p .2 ∙ sym (q .2))
+
+pub write-purpose-call-unique :
+    (file : List ℕ) (line words : ℕ) (output : List ℕ) (n bytes place n₂ bytes₂ place₂ : ℕ) (list list₂ x y : List ℕ) →
+    PurposeTells file line words output n bytes place list x → PurposeTells file line words output n₂ bytes₂ place₂ list₂ y →
+    (n ≡ n₂) × (bytes ≡ bytes₂) × (place ≡ place₂) × (list ≡ list₂) × (x ≡ y)
+write-purpose-call-unique file line words output n bytes place n₂ bytes₂ place₂ list list₂ x y p q =
+    (p .0 .0 ∙ sym (q .0 .0), p .1 ∙ sym (q .1), p .0 .1 ∙ sym (q .0 .1), p .2 ∙ sym (q .2), p .3 ∙ sym (q .3))
+
+pub check-number-call-unique :
+    (symbols : List ℕ) (n kind place n₂ kind₂ place₂ : ℕ) → NumberTells symbols n kind place → NumberTells symbols n₂ kind₂ place₂ →
+    (n ≡ n₂) × (kind ≡ kind₂) × (place ≡ place₂)
+check-number-call-unique symbols n kind place n₂ kind₂ place₂ p q =
+    (p .0 .0 ∙ sym (q .0 .0), p .1 ∙ sym (q .1), p .0 .1 ∙ sym (q .0 .1))
+
+pub issue-number-call-unique :
+    (body output : List ℕ) (n bytes place n₂ bytes₂ place₂ : ℕ) (x y : List ℕ) → IssueTells body output n bytes place x →
+    IssueTells body output n₂ bytes₂ place₂ y → (n ≡ n₂) × (bytes ≡ bytes₂) × (place ≡ place₂) × (x ≡ y)
+issue-number-call-unique body output n bytes place n₂ bytes₂ place₂ x y p q =
+    (p .0 .0 ∙ sym (q .0 .0), p .1 ∙ sym (q .1), p .0 .1 ∙ sym (q .0 .1), p .2 ∙ sym (q .2))
+
+pub check-iban-call-unique :
+    (symbols : List ℕ) (n place n₂ place₂ : ℕ) → IbanTells symbols n place → IbanTells symbols n₂ place₂ → (n ≡ n₂) × (place ≡ place₂)
+check-iban-call-unique symbols n place n₂ place₂ p q = (p .0 ∙ sym (q .0), p .1 ∙ sym (q .1))

@@ -1,0 +1,100 @@
+/* The calls of Peliranopi for C. Link libpeliranopi.a, which `rt staticlib peliranopi` builds (README.md, 'From C').
+ *
+ * Every call answers 0 where it accepts, else the refusal's number below. Each takes every input: whatever the bytes, lengths and
+ * numbers are, it ends and reads and writes only inside what it was lent. What the caller has to keep is C's own part: a pointer is
+ * not null and has as many elements behind it as its length says, and what is lent for writing overlaps nothing else.
+ *
+ * After every call each number behind a pointer is set: `place` to the refusal's place, or 0 where the call accepts; every other one
+ * to the value that its comment names, or 0 where the call refuses. */
+#ifndef PELIRANOPI_H
+#define PELIRANOPI_H
+
+#include <stddef.h>
+#include <stdint.h>
+
+#ifdef __cplusplus
+extern "C" {
+#endif
+
+/* The refusals. README.md has the table with their places. */
+enum {
+    PELIRANOPI_ACCEPTED = 0,
+    PELIRANOPI_FILE_TOO_LONG = 1,       /* the file has over 65,535 bytes */
+    PELIRANOPI_NO_LINE_END = 2,         /* a line does not end in CR LF, or the offset lies past the file */
+    PELIRANOPI_UNKNOWN_RECORD = 3,      /* the record type is none of 010 to 060 */
+    PELIRANOPI_OUT_OF_ORDER = 4,        /* the record may not come here */
+    PELIRANOPI_FIELD_COUNT = 5,         /* the line has too few or too many fields */
+    PELIRANOPI_FIELD_TOO_LONG = 6,      /* a field is wider than it may be */
+    PELIRANOPI_FIELD_EMPTY = 7,         /* a field that must be filled is empty */
+    PELIRANOPI_FIELD_FORM = 8,          /* a filled field does not have its form */
+    PELIRANOPI_FEATURE_LACKS = 9,       /* a feature lacks a field that it needs */
+    PELIRANOPI_IDENTCODE_REPEATED = 10, /* the identcode stands on an earlier line */
+    PELIRANOPI_LIST_FULL = 11,          /* the lent list has no word for the line */
+    PELIRANOPI_FILE_ENDS = 12,          /* the file ends where a record is due */
+    PELIRANOPI_OUTPUT_TOO_SHORT = 13,   /* the lent output has too few bytes */
+    PELIRANOPI_FIELD_ENDS = 14,         /* the ends of the writer's fields do not fit its text */
+    PELIRANOPI_NOT_THERE = 15,          /* there is no such field or line, or it is not a 006 line */
+    PELIRANOPI_WRONG_LENGTH = 16,       /* a number has a wrong length */
+    PELIRANOPI_WRONG_SYMBOL = 17,       /* a symbol may not stand where it stands */
+    PELIRANOPI_WRONG_CHECK = 18         /* the check is wrong */
+};
+
+/* The kinds of DPD number. */
+enum {
+    PELIRANOPI_TRACKING = 1,
+    PELIRANOPI_LABEL = 2
+};
+
+/* Judges a whole file: its lines, its 040 lines (parcels), and the cash to collect in cents.
+ * list: accepted, word i is where line i starts, for each line, and every other word is 0; refused, all words are 0. */
+uint32_t peliranopi_judge(const uint8_t *file, size_t file_len,
+                          uint32_t *list, size_t list_len,
+                          size_t *lines, size_t *parcels, uint64_t *cents, size_t *place);
+
+/* Judges the line that starts at the offset, alone: its record as a number (10 for 010, up to 60), how many fields it has behind the
+ * record type, and where the next line starts. */
+uint32_t peliranopi_read_line(const uint8_t *file, size_t file_len, size_t offset,
+                              uint32_t *record, size_t *fields, size_t *next, size_t *place);
+
+/* Finds the field with this number, counted from 1, of the line that starts at the offset: where it starts in the file, and how many
+ * bytes it has. */
+uint32_t peliranopi_find_field(const uint8_t *file, size_t file_len, size_t offset, size_t number,
+                               size_t *start, size_t *length, size_t *place);
+
+/* Writes one line: record as a number (10 for 010, up to 60), the fields joined in one text, and where each of them ends in it.
+ * written: how many bytes.
+ * output: accepted, the line stands from fill on, and every other byte is as it was; refused, all bytes are as they were. */
+uint32_t peliranopi_write_line(uint32_t record, const uint8_t *text, size_t text_len,
+                               const size_t *ends, size_t ends_len,
+                               uint8_t *output, size_t output_len, size_t fill,
+                               size_t *written, size_t *place);
+
+/* Writes the payment purpose of the line with this number, counted from 0, of a file. The output has at least 35 bytes, or it is
+ * refused.
+ * written: how many bytes, at most 35.
+ * list: accepted, as after peliranopi_judge; refused, all words are 0.
+ * output: accepted, the purpose stands at its start, and every other byte is as it was; refused, all bytes are as they were. */
+uint32_t peliranopi_write_purpose(const uint8_t *file, size_t file_len, size_t line,
+                                  uint32_t *list, size_t list_len,
+                                  uint8_t *output, size_t output_len,
+                                  size_t *written, size_t *place);
+
+/* Checks a tracking number (15 symbols) or a label code (28): its kind. */
+uint32_t peliranopi_check_number(const uint8_t *symbols, size_t symbols_len, uint32_t *kind, size_t *place);
+
+/* Issues the number that has this body (14 or 27 symbols).
+ * written: how many bytes, 15 or 28.
+ * output: accepted, the body and its check stand at its start, and every other byte is as it was; refused, all bytes are as they
+ * were. */
+uint32_t peliranopi_issue_number(const uint8_t *body, size_t body_len,
+                                 uint8_t *output, size_t output_len,
+                                 size_t *written, size_t *place);
+
+/* Checks an IBAN. */
+uint32_t peliranopi_check_iban(const uint8_t *symbols, size_t symbols_len, size_t *place);
+
+#ifdef __cplusplus
+}
+#endif
+
+#endif

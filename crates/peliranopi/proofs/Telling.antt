@@ -1,0 +1,37 @@
+-- What is told of an answer: of an answer that is known to be of one case, and of what an answer leaves in a lent buffer.
+use Prim.Native.Nat.{ℕ}
+use mathlib.Core.Path.{_≡_, sym, ap, _∙_}
+use mathlib.Core.List.{List}
+use Rattle.check_characters.specs.Number.{issuedTo}
+use Rattle.check_characters.specs.declared.number.IssueAnswer.{IssueAnswer}
+use Rattle.fields.specs.declared.record.Named.{Named}
+use Rattle.writer.specs.Write.{writtenTo}
+use Rattle.writer.specs.declared.write.WriteAnswer.{WriteAnswer}
+use Rattle.purpose.specs.Purpose.{listAfter, outputAfter}
+use Rattle.purpose.specs.declared.write.PurposeAnswer.{PurposeAnswer}
+
+-- a value that is told of an answer, where the answer's case is known
+pub told : {A : Type 0} (value : A → ℕ) (answer definition known : A) (n : ℕ) → answer ≡ definition → answer ≡ known →
+    n ≡ value known → n ≡ value definition
+told value answer definition known n e k t = t ∙ ap value (sym k ∙ e)
+
+-- a buffer that an answer leaves is the buffer that its definition leaves
+left : {A : Type 0} (buffer : A → List ℕ) (answer definition : A) (after : List ℕ) → answer ≡ definition → after ≡ buffer answer →
+    after ≡ buffer definition
+left buffer answer definition after e t = t ∙ ap buffer e
+
+pub line-left : (kind : Named) (fs : List (List ℕ)) (out : List ℕ) (fill : ℕ) (answer definition : WriteAnswer) (after : List ℕ) →
+    answer ≡ definition → after ≡ writtenTo answer kind fs out fill → after ≡ writtenTo definition kind fs out fill
+line-left kind fs out fill = left (λ (a : WriteAnswer). writtenTo a kind fs out fill)
+
+pub list-left : (words : ℕ) (starts : List ℕ) (answer definition : PurposeAnswer) (after : List ℕ) → answer ≡ definition →
+    after ≡ listAfter answer words starts → after ≡ listAfter definition words starts
+list-left words starts = left (λ (a : PurposeAnswer). listAfter a words starts)
+
+pub purpose-left : (text out : List ℕ) (answer definition : PurposeAnswer) (after : List ℕ) → answer ≡ definition →
+    after ≡ outputAfter answer text out → after ≡ outputAfter definition text out
+purpose-left text out = left (λ (a : PurposeAnswer). outputAfter a text out)
+
+pub number-left : (body out : List ℕ) (answer definition : IssueAnswer) (after : List ℕ) → answer ≡ definition →
+    after ≡ issuedTo answer body out → after ≡ issuedTo definition body out
+number-left body out = left (λ (a : IssueAnswer). issuedTo a body out)

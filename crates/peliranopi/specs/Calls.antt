@@ -1,0 +1,95 @@
+-- What each call for C and Rust leaves: the number that it returns, the numbers behind the pointers, and the lent buffers.
+use Prim.Native.Nat.{ℕ}
+use mathlib.Core.Path.{_≡_}
+use mathlib.Core.List.{List}
+use lib.ListN.{length}
+use Rattle.refusal.specs.Table.{Verdict}
+use Rattle.check_characters.specs.Number.{issueAnswer, issuedTo, checkVerdict, issueVerdict, checked as checkedNumber}
+use Rattle.check_characters.specs.Iban.{ibanVerdict, checked as checkedIban}
+use Rattle.fields.specs.declared.record.Due.the-variants.{Any}
+use Rattle.line.specs.Line.{lineAnswer, lineVerdict}
+use Rattle.line.specs.Find.{fieldAnswer, fieldVerdict}
+use Rattle.line.specs.declared.read.LineAnswer.{LineAnswer}
+use Rattle.line.specs.declared.find.FieldAnswer.{FieldAnswer}
+use Rattle.file.specs.File.{judged, listOf, fileVerdict}
+use Rattle.file.specs.declared.whole.FileAnswer.{FileAnswer}
+use Rattle.writer.specs.Write.{recordNumbered, between, writeAnswer, writtenTo, writeVerdict}
+use Rattle.writer.specs.declared.write.WriteAnswer.{WriteAnswer}
+use Rattle.purpose.specs.Purpose.{purposeAnswer, purposeText, listAfter, outputAfter, purposeVerdict}
+use Rattle.purpose.specs.declared.write.PurposeAnswer.{PurposeAnswer}
+use Rattle.check_characters.specs.declared.number.NumberAnswer.{NumberAnswer}
+use Rattle.check_characters.specs.declared.number.IssueAnswer.{IssueAnswer}
+use Rattle.peliranopi.specs.Told.{
+  numberIn,
+  placeIn,
+  linesIn,
+  parcelsIn,
+  centsIn,
+  recordIn,
+  countIn,
+  nextIn,
+  startIn,
+  lengthIn,
+  writtenIn,
+  purposeIn,
+  issuedIn,
+  kindIn,
+}
+
+-- what every call tells: its number, and the place
+abbrev pub Tells : Verdict → ℕ → ℕ → Type 0
+Tells verdict number place = (number ≡ numberIn verdict) × (place ≡ placeIn verdict)
+
+-- judging a file with a list of so many words
+abbrev pub JudgeTells : List ℕ → ℕ → ℕ → ℕ → ℕ → ℕ → ℕ → List ℕ → Type 0
+JudgeTells file words number lines parcels cents place list =
+    let said = judged file words in
+    Tells (fileVerdict (said .answer)) number place
+    × (lines ≡ linesIn (said .answer)) × (parcels ≡ parcelsIn (said .answer)) × (cents ≡ centsIn (said .answer))
+    × (list ≡ listOf words (said .starts))
+
+-- reading the line at an offset
+abbrev pub LineTells : List ℕ → ℕ → ℕ → ℕ → ℕ → ℕ → ℕ → Type 0
+LineTells file offset number kind fields next place =
+    let answer = lineAnswer Any file offset in
+    Tells (lineVerdict answer) number place
+    × (kind ≡ recordIn answer) × (fields ≡ countIn answer) × (next ≡ nextIn answer)
+
+-- finding a field of it
+abbrev pub FieldTells : List ℕ → ℕ → ℕ → ℕ → ℕ → ℕ → ℕ → Type 0
+FieldTells file offset field number start long place =
+    let answer = fieldAnswer file offset field in
+    Tells (fieldVerdict answer) number place × (start ≡ startIn answer) × (long ≡ lengthIn answer)
+
+-- writing a line into an output from its fill on
+abbrev pub WriteTells : ℕ → List ℕ → List ℕ → List ℕ → ℕ → ℕ → ℕ → ℕ → List ℕ → Type 0
+WriteTells kind text ends output fill number bytes place after =
+    let answer = writeAnswer kind text ends (length output) fill in
+    Tells (writeVerdict answer) number place
+    × (bytes ≡ writtenIn answer)
+    × (after ≡ writtenTo answer (recordNumbered kind) (between text ends) output fill)
+
+-- writing the purpose of the line with a number, with a list of so many words
+abbrev pub PurposeTells : List ℕ → ℕ → ℕ → List ℕ → ℕ → ℕ → ℕ → List ℕ → List ℕ → Type 0
+PurposeTells file line words output number bytes place list after =
+    let answer = purposeAnswer file line words (length output) in
+    Tells (purposeVerdict answer) number place
+    × (bytes ≡ purposeIn answer)
+    × (list ≡ listAfter answer words (judged file words .starts))
+    × (after ≡ outputAfter answer (purposeText file line words) output)
+
+-- checking a number
+abbrev pub NumberTells : List ℕ → ℕ → ℕ → ℕ → Type 0
+NumberTells symbols number kind place =
+    let answer = checkedNumber symbols in
+    Tells (checkVerdict answer) number place × (kind ≡ kindIn answer)
+
+-- issuing one
+abbrev pub IssueTells : List ℕ → List ℕ → ℕ → ℕ → ℕ → List ℕ → Type 0
+IssueTells body output number bytes place after =
+    let answer = issueAnswer body (length output) in
+    Tells (issueVerdict answer) number place × (bytes ≡ issuedIn answer) × (after ≡ issuedTo answer body output)
+
+-- checking an IBAN
+abbrev pub IbanTells : List ℕ → ℕ → ℕ → Type 0
+IbanTells symbols number place = Tells (ibanVerdict (checkedIban symbols)) number place

@@ -1,0 +1,58 @@
+// The calls on a whole file.
+ghost use lib.ListN.{length};
+ghost use Rattle.peliranopi.specs.Calls.{JudgeTells, PurposeTells};
+use crate::tell;
+use file::FileAnswer;
+use purpose::PurposeAnswer;
+
+#[no_mangle]
+pub extern "C" fn peliranopi_judge(
+    file: &[u8],
+    list: &mut [u32],
+    lines: &mut usize,
+    parcels: &mut usize,
+    cents: &mut u64,
+    place: &mut usize,
+) -> u32
+    ensures { λ r. ⌜ JudgeTells (now (file .entry)) (length (now (list .entry))) r (now (lines .exit)) (now (parcels .exit)) (now (cents .exit)) (now (place .exit)) (now (list .exit)) ⌝ }
+{
+    let answer = file::judge(file, list);
+    match answer {
+        FileAnswer::Accepted(totals) => {
+            *lines = totals.lines;
+            *parcels = totals.parcels;
+            *cents = totals.cents;
+            tell::accepted(place)
+        }
+        FileAnswer::Refused { why, place: at } => {
+            *lines = 0;
+            *parcels = 0;
+            *cents = 0;
+            tell::refused(why, at, place)
+        }
+    }
+}
+
+#[no_mangle]
+pub extern "C" fn peliranopi_write_purpose(
+    file: &[u8],
+    line: usize,
+    list: &mut [u32],
+    output: &mut [u8],
+    written: &mut usize,
+    place: &mut usize,
+) -> u32
+    ensures { λ r. ⌜ PurposeTells (now (file .entry)) line (length (now (list .entry))) (now (output .entry)) r (now (written .exit)) (now (place .exit)) (now (list .exit)) (now (output .exit)) ⌝ }
+{
+    let answer = purpose::write_purpose(file, line, list, output);
+    match answer {
+        PurposeAnswer::Written(bytes) => {
+            *written = bytes;
+            tell::accepted(place)
+        }
+        PurposeAnswer::NotWritten { why, place: at } => {
+            *written = 0;
+            tell::refused(why, at, place)
+        }
+    }
+}

@@ -1,0 +1,106 @@
+// The calls on one line: read, searched and written.
+ghost use mathlib.Core.Path.{_≡_};
+ghost use Rattle.peliranopi.specs.Told.{recordNumber};
+ghost use Rattle.peliranopi.specs.Calls.{LineTells, FieldTells, WriteTells};
+use crate::tell;
+use fields::Record;
+use line::FieldAnswer;
+use line::LineAnswer;
+use writer::WriteAnswer;
+
+#[no_mangle]
+pub extern "C" fn peliranopi_read_line(
+    file: &[u8],
+    offset: usize,
+    kind: &mut u32,
+    fields: &mut usize,
+    next: &mut usize,
+    place: &mut usize,
+) -> u32
+    ensures { λ r. ⌜ LineTells (now (file .entry)) offset r (now (kind .exit)) (now (fields .exit)) (now (next .exit)) (now (place .exit)) ⌝ }
+{
+    let answer = line::read_line(file, offset);
+    match answer {
+        LineAnswer::Accepted(line) => {
+            let which = line.kind;
+            *kind = record_number(which);
+            *fields = line.count;
+            *next = line.next;
+            tell::accepted(place)
+        }
+        LineAnswer::Refused { why, place: at } => {
+            *kind = 0;
+            *fields = 0;
+            *next = 0;
+            tell::refused(why, at, place)
+        }
+    }
+}
+
+#[no_mangle]
+pub extern "C" fn peliranopi_find_field(
+    file: &[u8],
+    offset: usize,
+    number: usize,
+    start: &mut usize,
+    length: &mut usize,
+    place: &mut usize,
+) -> u32
+    ensures { λ r. ⌜ FieldTells (now (file .entry)) offset number r (now (start .exit)) (now (length .exit)) (now (place .exit)) ⌝ }
+{
+    let answer = line::find_field(file, offset, number);
+    match answer {
+        FieldAnswer::Found {
+            start: from,
+            length: long,
+        } => {
+            *start = from;
+            *length = long;
+            tell::accepted(place)
+        }
+        FieldAnswer::NotFound { why, place: at } => {
+            *start = 0;
+            *length = 0;
+            tell::refused(why, at, place)
+        }
+    }
+}
+
+#[no_mangle]
+pub extern "C" fn peliranopi_write_line(
+    kind: u32,
+    text: &[u8],
+    ends: &[usize],
+    output: &mut [u8],
+    fill: usize,
+    written: &mut usize,
+    place: &mut usize,
+) -> u32
+    ensures { λ r. ⌜ WriteTells kind (now (text .entry)) (now (ends .entry)) (now (output .entry)) fill r (now (written .exit)) (now (place .exit)) (now (output .exit)) ⌝ }
+{
+    let answer = writer::write_line(kind, text, ends, output, fill);
+    match answer {
+        WriteAnswer::Written(bytes) => {
+            *written = bytes;
+            tell::accepted(place)
+        }
+        WriteAnswer::NotWritten { why, place: at } => {
+            *written = 0;
+            tell::refused(why, at, place)
+        }
+    }
+}
+
+// The number that stands for a record.
+fn record_number(kind: Record) -> u32
+    ensures { λ r. ⌜ r ≡ recordNumber kind ⌝ }
+{
+    match kind {
+        Record::Header => 10,
+        Record::Sender => 20,
+        Record::Shipment => 30,
+        Record::Parcel => 40,
+        Record::Product => 50,
+        Record::Feature => 60,
+    }
+}

@@ -1,0 +1,20 @@
+// What every call tells: its number, and the place behind a pointer.
+ghost use mathlib.Core.Path.{_≡_};
+ghost use Rattle.refusal.specs.Table.{numberOf};
+use refusal::Refusal;
+
+// Accepted: 0, and no place.
+pub fn accepted(place: &mut usize) -> u32
+    ensures { λ r. ⌜ (r ≡ 0) × (now (place .exit) ≡ 0) ⌝ }
+{
+    *place = 0;
+    0
+}
+
+// Refused: the number, and the place.
+pub fn refused(why: Refusal, at: usize, place: &mut usize) -> u32
+    ensures { λ r. ⌜ (r ≡ numberOf why) × (now (place .exit) ≡ at) ⌝ }
+{
+    *place = at;
+    refusal::number(why)
+}
