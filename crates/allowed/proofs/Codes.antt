@@ -1,39 +1,19 @@
 -- Identcodes: what the judge compares are the first fields of the parcel lines.
-use Prim.Native.Nat.{ℕ, _+_, _≤_, _<_}
+use Prim.Native.Nat.{ℕ, _+_}
 use mathlib.Core.Path.{_≡_, refl, sym, ap, _∙_}
-use mathlib.Core.Bool.{Bool, true, false, _&&_, _||_, or-assoc, or-false, false≢true}
-use mathlib.Core.List.{List, [], _∷_, _++_, append-assoc}
-use native.Mathlib.Omega.{arith}
-use lib.ListN.{length, take, drop}
-use lib.Seq.{take-at, drop-at, drop-drop}
+use mathlib.Core.Bool.{Bool, false, _||_, or-assoc, or-false}
+use mathlib.Core.List.{List, [], _∷_, _++_}
+use lib.ListN.{drop}
 use Rattle.text.specs.Quoted.{bytes}
 use Rattle.text.specs.Scan.{same}
 use Rattle.fields.specs.Record.{typeOf}
 use Rattle.fields.specs.declared.record.Record.{Record}
 use Rattle.fields.specs.declared.record.Record.the-variants.{Header, Sender, Shipment, Parcel, Product, Feature}
-use Rattle.grammar.specs.Grammar.{joined, render, LineOk, fieldNo}
-use Rattle.grammar.proofs.Lines.{identcode}
-use Rattle.grammar.proofs.Texts.{type-long}
+use Rattle.grammar.specs.Grammar.{render, LineOk, fieldNo}
 use Rattle.file.specs.Identcode.{identcodeAt, sameParcel, onEarlier, repeats}
+use Rattle.file.proofs.Codes.{type-there, code-there}
+use Rattle.file.proofs.Sowing.{earlier-more}
 use Rattle.allowed.specs.Allowed.{codeOf, oneOfCodes}
-
--- what stands at a place where a line is rendered
-type-there : (s : List ℕ) (at : ℕ) (kind : Record) (fs : List (List ℕ)) (rest : List ℕ) → drop at s ≡ render kind fs ++ rest →
-    take 3 (drop at s) ≡ typeOf kind
-type-there s at kind fs rest there =
-    ap (take 3) (there ∙ ap (λ (l : List ℕ). l ++ rest) (append-assoc (typeOf kind) (joined fs) (bytes "\r\n"))
-    ∙ append-assoc (typeOf kind) (joined fs ++ bytes "\r\n") rest)
-    ∙ take-at (typeOf kind) (joined fs ++ bytes "\r\n" ++ rest) 3 (type-long kind)
-
-code-there : (s : List ℕ) (at : ℕ) (fs : List (List ℕ)) (rest : List ℕ) → drop at s ≡ render Parcel fs ++ rest → LineOk Parcel fs →
-    identcodeAt s at ≡ fieldNo fs 1
-code-there s at [] rest there ok = absurd (false≢true (ok .counted))
-code-there s at (f ∷ fs) rest there ok =
-    ap (take 22) (sym (drop-drop 4 at s) ∙ ap (drop 4) there ∙ regroup)
-    ∙ take-at f (joined fs ++ bytes "\r\n" ++ rest) 22 (identcode Parcel (f ∷ fs) refl ok .1)
-  where
-    regroup : ((f ++ joined fs) ++ bytes "\r\n") ++ rest ≡ f ++ (joined fs ++ bytes "\r\n" ++ rest)
-    regroup = simp append-assoc
 
 -- the line that starts here has one of the codes of a line
 module _ (s : List ℕ) (earlier : ℕ) (fs : List (List ℕ)) (rest : List ℕ) (at : ℕ) where
@@ -57,11 +37,6 @@ module _ (s : List ℕ) (earlier : ℕ) (fs : List (List ℕ)) (rest : List ℕ)
 abbrev pub Seen : List ℕ → List ℕ → List (List ℕ) → Type 0
 Seen s starts codes = (at : ℕ) → onEarlier s starts at ≡ oneOfCodes (identcodeAt s at) codes
 
-earlier-append : (s xs ys : List ℕ) (at : ℕ) → onEarlier s (xs ++ ys) at ≡ (onEarlier s xs at || onEarlier s ys at)
-earlier-append s [] ys at = refl
-earlier-append s (x ∷ xs) ys at = rw (earlier-append s xs ys at)
-    (sym (or-assoc (sameParcel s x at) (onEarlier s xs at) (onEarlier s ys at)))
-
 pub codes-append : (code : List ℕ) (xs ys : List (List ℕ)) → oneOfCodes code (xs ++ ys) ≡ (oneOfCodes code xs || oneOfCodes code ys)
 codes-append code [] ys = refl
 codes-append code (x ∷ xs) ys = rw (codes-append code xs ys) (sym (or-assoc (same x code) (oneOfCodes code xs) (oneOfCodes code ys)))
@@ -70,10 +45,9 @@ pub seen-more : (s starts : List ℕ) (codes : List (List ℕ)) (earlier : ℕ) 
     Seen s starts codes → drop earlier s ≡ render kind fs ++ rest → LineOk kind fs →
     Seen s (starts ++ (earlier ∷ [])) (codes ++ codeOf kind fs)
 seen-more s starts codes earlier kind fs rest seen there ok at =
-    earlier-append s starts (earlier ∷ []) at
-    ∙ ap (λ (t : Bool). t || (sameParcel s earlier at || false)) (seen at)
-    ∙ ap (λ (t : Bool). oneOfCodes (identcodeAt s at) codes || t) (or-false (sameParcel s earlier at)
-    ∙ same-code s earlier fs rest at kind there ok)
+    earlier-more s starts earlier at
+    ∙ ap (λ (t : Bool). t || sameParcel s earlier at) (seen at)
+    ∙ ap (λ (t : Bool). oneOfCodes (identcodeAt s at) codes || t) (same-code s earlier fs rest at kind there ok)
     ∙ sym (codes-append (identcodeAt s at) codes (codeOf kind fs))
 
 -- none of the codes of a line is one of these

@@ -3,23 +3,17 @@ use Prim.Native.Nat.{ℕ, zero, suc, _+_, _-_, _*_, _≤_, _<_}
 use mathlib.Core.Path.{_≡_, refl, sym, ap, _∙_}
 use mathlib.Core.Bool.{Bool, true, false, not}
 use mathlib.Core.List.{List, [], _∷_, _++_}
-use native.Mathlib.Numerals.{add-one}
 use native.Mathlib.Omega.{arith}
-use lib.Dec.{ltb}
-use lib.ListN.{length, take, drop, set, replicate, length-set, length-take}
+use lib.ListN.{length, take, drop, set, replicate, length-set}
 use borrow.Author.Tests.{lt-ltb, le-ltb, not-true, not-false}
-use Rattle.text.specs.Choice.{if_then_else_}
 use Rattle.refusal.specs.declared.Refusal.{Refusal}
 use Rattle.refusal.specs.declared.Refusal.the-variants.{FileTooLong, FileEnds}
 use Rattle.fields.specs.Record.{mayEnd}
 use Rattle.fields.specs.declared.record.Record.{Record}
 use Rattle.fields.specs.declared.record.Record.the-variants.{Header, Sender, Shipment, Parcel, Product, Feature}
-use Rattle.fields.specs.declared.record.Due.{Due}
 use Rattle.line.specs.Line.{lineAnswer, textAt}
 use Rattle.line.specs.Parts.{split}
-use Rattle.line.specs.declared.read.Line.{Line}
 use Rattle.line.proofs.Accepting.{next-after}
-use Rattle.file.specs.Cash.{cashOf}
 use Rattle.file.specs.Step.{parcelsIn, behind, stepAnswer}
 use Rattle.file.specs.File.{Judged, begin, ended, onStep, fileFrom, judged, listOf, handed}
 use Rattle.file.specs.declared.step.State.{State}
@@ -27,11 +21,14 @@ use Rattle.file.specs.declared.step.Step.{Step}
 use Rattle.file.specs.declared.step.Step.the-variants.{Next, Stopped}
 use Rattle.file.specs.declared.whole.FileAnswer.{FileAnswer}
 use Rattle.file.specs.declared.whole.FileAnswer.the-variants.{Accepted, Refused}
+use Rattle.file.specs.Tree.{Sown}
 use Rattle.file.proofs.Cashing.{cash-below}
+use Rattle.file.proofs.Codes.{accepted-far}
+use Rattle.file.proofs.Sowing.{sown-none}
 use Rattle.file.proofs.Stepping.{Went, went}
 use Rattle.file.proofs.Lists.{fill-front, fill-back, list-whole}
 
-pub record Going (s : List ℕ) (m : ℕ) (words : List ℕ) (state : State) : Type 0 where
+pub record Going (s : List ℕ) (m : ℕ) (words codes : List ℕ) (state : State) : Type 0 where
   pub small : length s ≤ 65535
   pub long : length words ≡ m
   pub lines : state .lines ≤ state .at
@@ -39,11 +36,16 @@ pub record Going (s : List ℕ) (m : ℕ) (words : List ℕ) (state : State) : T
   pub parcels : state .parcels ≤ state .lines
   pub cents : state .cents ≤ 99999999 * state .lines
   pub cleared : drop (state .lines) words ≡ replicate (m - state .lines) 0
+  -- each parcel took at least 28 bytes
+  pub far : 28 * state .parcels ≤ state .at
+  -- the tree has the identcodes of the lines so far
+  pub sown : Sown s (take (state .lines) words) (state .parcels) codes
   pub going : fileFrom (length s + 1 - state .lines) s m (take (state .lines) words) state ≡ judged s m
 
-pub going-none : (s words : List ℕ) → length s ≤ 65535 → words ≡ replicate (length words) 0 → Going s (length words) words begin
+pub going-none : (s words codes : List ℕ) → length s ≤ 65535 → words ≡ replicate (length words) 0 → 4681 ≤ length codes →
+    Going s (length words) words codes begin
 unfolding judged
-going-none s words h e =
+going-none s words codes h e room =
     record {
       small = h;
       long = refl;
@@ -52,6 +54,8 @@ going-none s words h e =
       parcels = omega arith;
       cents = omega arith;
       cleared = e ∙ ap (λ (k : ℕ). replicate k 0) less;
+      far = omega arith;
+      sown = sown-none s codes room;
       going = ap (λ (n : ℕ). fileFrom n s (length words) [] begin) whole ∙ sym (rw (le-ltb 65535 (length s) h));
     }
   where
@@ -86,7 +90,11 @@ module _ (s : List ℕ) (m : ℕ) (h : 65535 < length s) where
       list ≡ listOf m (judged s m .starts)
   long-list words long list e = e ∙ no-lines s m words long (judged s m) (ap (λ (j : Judged). j .starts) long-is)
 
-module _ (s : List ℕ) (m : ℕ) (words : List ℕ) (state : State) (g : Going s m words state) where
+module _ (s : List ℕ) (m : ℕ) (words codes : List ℕ) (state : State) (g : Going s m words codes state) where
+  -- so few parcels have room in a file
+  pub few-parcels : state .at < length s → state .parcels ≤ 2340
+  few-parcels h = omega (arith, g .small, g .far)
+
   -- the turn that is due
   turn : state .at < length s → onStep (stepAnswer s m (take (state .lines) words) state)
       (λ next. fileFrom (length s - state .lines) s m (take (state .lines) words ++ (state .at ∷ [])) next) ≡ judged s m
@@ -111,27 +119,33 @@ module _ (s : List ℕ) (m : ℕ) (words : List ℕ) (state : State) (g : Going 
         let after = next-after (state .due) s (state .at) (lineAnswer (state .due) s (state .at)) refl (w .line) (w .accepted) in
         omega (arith, after, ap (λ (n : State). n .at) (w .there))
 
-    pub going-more : (next : State) → step ≡ Next next → Going s m (set words (state .lines) (state .at)) next
-    going-more next e =
+    pub going-more : (next : State) → step ≡ Next next → (after : List ℕ) →
+        ((n : State) → step ≡ Next n → Sown s (take (state .lines) words ++ (state .at ∷ [])) (n .parcels) after) →
+        Going s m (set words (state .lines) (state .at)) after next
+    going-more next e after sown =
         let w = over next e in
         let line = w .line in
         let now = behind s state line in
-        let after = next-after (state .due) s (state .at) (lineAnswer (state .due) s (state .at)) refl line (w .accepted) in
+        let behind-it = next-after (state .due) s (state .at) (lineAnswer (state .due) s (state .at)) refl line (w .accepted) in
+        let far = accepted-far (state .due) s (state .at) (lineAnswer (state .due) s (state .at)) refl line (w .accepted) in
         let fewer : length s + 1 - (state .lines + 1) ≡ length s - state .lines = omega arith in
         let on : fileFrom (length s - state .lines) s m (take (state .lines) words ++ (state .at ∷ [])) now ≡ judged s m =
         rw (sym es ∙ e, ← w .there) at (turn h) in
-        let more : Going s m (set words (state .lines) (state .at)) now =
+        let list = fill-front words (state .lines) m (state .at) (g .long) (w .room) (g .cleared) in
+        let more : Going s m (set words (state .lines) (state .at)) after now =
         record {
           small = g .small;
           long = length-set words (state .lines) (state .at) ∙ g .long;
-          lines = omega (arith, g .lines, after);
+          lines = omega (arith, g .lines, behind-it);
           room = omega (arith, w .room);
           parcels = omega (arith, g .parcels, parcels-le (line .kind));
           cents = omega (arith, g .cents, cash-below (line .kind) (split (textAt s (state .at))));
           cleared = fill-back words (state .lines) m (state .at) (g .long) (w .room) (g .cleared);
+          far = omega (arith, g .far, far);
+          sown = rw list (sown now (e ∙ ap Next (sym (w .there))));
           going = ap (λ (n : ℕ). fileFrom n s m (take (state .lines + 1) (set words (state .lines) (state .at))) now) fewer
               ∙ ap (λ (l : List ℕ). fileFrom (length s - state .lines) s m l now)
-              (fill-front words (state .lines) m (state .at) (g .long) (w .room) (g .cleared))
+              list
               ∙ on;
         } in
         rw (w .there) at more

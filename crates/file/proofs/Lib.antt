@@ -1,5 +1,11 @@
 pub mod Lists
 pub mod Codes
+pub mod Forks
+pub mod Slots
+pub mod Unlike
+pub mod Parting
+pub mod Sowing
+pub mod Finding
 pub mod Cashing
 pub mod Stepping
 pub mod Going

@@ -2,7 +2,7 @@
 use Prim.Native.Nat.{ℕ, _+_, _-_, _≤_, _<_}
 use mathlib.Core.Path.{_≡_, refl, sym, ap, _∙_}
 use mathlib.Core.Bool.{Bool, true, false}
-use mathlib.Core.List.{List}
+use mathlib.Core.List.{List, [], _∷_, _++_}
 use native.Mathlib.Omega.{arith}
 use lib.Dec.{leb}
 use lib.ListN.{length, take, drop}
@@ -11,7 +11,6 @@ use Rattle.text.specs.Choice.{if_then_else_}
 use Rattle.text.proofs.Choices.{came-else}
 use Rattle.refusal.specs.declared.Refusal.{Refusal}
 use Rattle.refusal.specs.declared.Refusal.the-variants.{IdentcodeRepeated, ListFull}
-use Rattle.fields.specs.declared.record.Record.{Record}
 use Rattle.fields.specs.declared.record.Due.{Due}
 use Rattle.fields.specs.declared.record.Due.the-variants.{After}
 use Rattle.line.specs.Parts.{split}
@@ -19,8 +18,11 @@ use Rattle.line.specs.Line.{textAt, lineAnswer}
 use Rattle.line.specs.declared.read.Line.{Line}
 use Rattle.line.specs.declared.read.LineAnswer.{LineAnswer}
 use Rattle.line.specs.declared.read.LineAnswer.the-variants.{Accepted, Refused}
-use Rattle.line.proofs.Accepting.{text-is}
+use Rattle.line.proofs.Accepting.{text-starts, text-inside, next-least, text-is}
+use Rattle.file.proofs.Codes.{accepted-type, accepted-code}
+use Rattle.file.proofs.Sowing.{sown-line, sown-tells}
 use Rattle.file.specs.Identcode.{repeats}
+use Rattle.file.specs.Tree.{isThereFor, grownFor, Tree, Sown}
 use Rattle.file.specs.Cash.{cashOf}
 use Rattle.file.specs.Step.{parcelsIn, behind, handedOn, onLine, stepAnswer}
 use Rattle.file.specs.declared.step.State.{State}
@@ -39,32 +41,63 @@ module _ (s : List ℕ) (words : ℕ) (starts : List ℕ) (state : State) (a : L
   unfolding onLine
   line-stops why place r e er = stepped r (er ∙ rw e)
 
-  module _ (line : Line) (el : a ≡ Accepted line) (t : Bool) (et : t ≡ repeats (line .kind) s starts (state .at)) where
+  module _ (line : Line) (el : a ≡ Accepted line) (codes : List ℕ) (g : Sown s starts (state .parcels) codes)
+      (few : state .parcels ≤ 2340) (t : Bool) (et : t ≡ isThereFor (line .kind) s codes (state .parcels) (state .at)) where
+    er : t ≡ repeats (line .kind) s starts (state .at)
+    er =
+        et ∙ sown-tells s starts (state .parcels) codes g few (state .at) (line .kind)
+        (λ k. accepted-code (state .due) s (state .at) a ea line el k)
+
     pub code-stops : t ≡ true → Stopped IdentcodeRepeated (state .at + 4) ≡ stepAnswer s words starts state
     unfolding onLine
-    code-stops e = stepped (Stopped IdentcodeRepeated (state .at + 4)) (rw (el, ← et, e))
+    code-stops e = stepped (Stopped IdentcodeRepeated (state .at + 4)) (rw (el, ← er, e))
 
     module _ (fresh : t ≡ false) where
       pub list-stops : words ≤ state .lines → Stopped ListFull (state .at) ≡ stepAnswer s words starts state
       unfolding onLine
-      list-stops h = stepped (Stopped ListFull (state .at)) (rw (el, ← et, fresh, le-leb words (state .lines) h))
+      list-stops h = stepped (Stopped ListFull (state .at)) (rw (el, ← er, fresh, le-leb words (state .lines) h))
 
-      pub line-next :
-          state .lines < words → (p c : ℕ) → p ≡ parcelsIn (line .kind) →
-          c ≡ cashOf (line .kind) (split (take (line .next - 2 - state .at) (drop (state .at) s))) →
-          Next (record {
-            at = line .next;
-            lines = state .lines + 1;
-            parcels = state .parcels + p;
-            cents = state .cents + c;
-            due =
-                After (line .kind);
-          }) ≡ stepAnswer s words starts state
+      pub line-next : state .lines < words → (next : State) → next ≡ behind s state line → Next next ≡ stepAnswer s words starts state
       unfolding onLine
-      line-next h p c ep ec =
-          let cash : c ≡ cashOf (line .kind) (split (textAt s (state .at))) = ec
-          ∙ ap (λ (x : List ℕ). cashOf (line .kind) (split x)) (text-is (state .due) s (state .at) a ea line el) in
-          stepped (Next _) (rw (el, ← et, fresh, lt-leb words (state .lines) h, ep, cash))
+      line-next h next en = stepped (Next next) (rw (el, ← er, fresh, lt-leb words (state .lines) h, en))
+
+      -- the tree behind the line
+      pub line-sown : state .at < 65536 → (after : List ℕ) → after ≡ grownFor (line .kind) s codes (state .parcels) (state .at) →
+          (now : State) → now ≡ behind s state line → (next : State) → Next now ≡ Next next →
+          Sown s (starts ++ (state .at ∷ [])) (next .parcels) after
+      line-sown small after ef now en next e =
+          let q : now ≡ next = cc in
+          rw (ef, ← q, en) (sown-line s starts (state .parcels) codes g few (state .at) (line .kind) small
+          (λ k. accepted-code (state .due) s (state .at) a ea line el k) (accepted-type (state .due) s (state .at) a ea line el)
+          (sym et ∙ fresh))
+
+-- the state behind an accepted line, as the code works it out
+module _ (s : List ℕ) (state : State) (line : Line) (el : lineAnswer (state .due) s (state .at) ≡ Accepted line) where
+  abbrev answer : LineAnswer
+  answer = lineAnswer (state .due) s (state .at)
+
+  pub behind-starts : state .at ≤ line .next - 2
+  behind-starts = text-starts (state .due) s (state .at) answer refl line el
+
+  pub behind-inside : line .next - 2 ≤ length s
+  behind-inside = text-inside (state .due) s (state .at) answer refl line el
+
+  pub behind-least : 2 ≤ line .next
+  behind-least = next-least (state .due) s (state .at) answer refl line el
+
+  pub behind-is : (p c : ℕ) → p ≡ parcelsIn (line .kind) →
+      c ≡ cashOf (line .kind) (split (take (line .next - 2 - state .at) (drop (state .at) s))) →
+      record {
+        at = line .next;
+        lines = state .lines + 1;
+        parcels = state .parcels + p;
+        cents = state .cents + c;
+        due = After (line .kind);
+      } ≡ behind s state line
+  behind-is p c ep ec =
+      let cash : c ≡ cashOf (line .kind) (split (textAt s (state .at))) =
+      ec ∙ ap (λ (x : List ℕ). cashOf (line .kind) (split x)) (text-is (state .due) s (state .at) answer refl line el) in
+      rw (ep, cash)
 
 -- a step that goes on went over an accepted line, with a word for it
 pub record Went (s : List ℕ) (words : ℕ) (starts : List ℕ) (state next : State) : Type 0 where
@@ -91,3 +124,19 @@ went s words starts state next e = go (lineAnswer (state .due) s (state .at)) re
         (if full then Stopped ListFull (state .at) else Next (behind s state line)) (Next next) stopped e in
         let b = came-else full (Stopped ListFull (state .at)) (Next (behind s state line)) (Next next) stopped (a .1) in
         record { line = line; accepted = ea; fresh = a .0; room = leb-false words (state .lines) (b .0); there = cc }
+
+-- no tree is promised behind a line that stops the judge
+pub stopped-sown : (s starts codes : List ℕ) (why : Refusal) (place : ℕ) (next : State) → Stopped why place ≡ Next next →
+    Sown s starts (next .parcels) codes
+stopped-sown s starts codes why place next e = absurd (stopped e)
+
+pub handed-sown : (s starts codes : List ℕ) (a : LineAnswer) (why : Refusal) (place : ℕ) (r : Step) → a ≡ Refused why place →
+    r ≡ handedOn a → (next : State) → r ≡ Next next → Sown s starts (next .parcels) codes
+handed-sown s starts codes a why place r ea er next e = absurd (stopped (sym (er ∙ ap handedOn ea) ∙ e))
+
+pub sown-whole : (s starts : List ℕ) (parcels : ℕ) (codes : List ℕ) → Sown s starts parcels codes → Tree s parcels codes
+sown-whole s starts parcels codes g = g .whole
+
+pub was-accepted : (due : Due) (s : List ℕ) (at : ℕ) (a : LineAnswer) (line : Line) → a ≡ lineAnswer due s at → a ≡ Accepted line →
+    lineAnswer due s at ≡ Accepted line
+was-accepted due s at a line ea el = sym ea ∙ el

@@ -1,4 +1,5 @@
 pub mod Identcode
+pub mod Tree
 pub mod Cash
 pub mod Step
 pub mod File

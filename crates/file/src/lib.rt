@@ -3,6 +3,7 @@ mod cash;
 mod identcode;
 mod list;
 mod step;
+mod tree;
 mod whole;
 
 pub use list::clear;

@@ -2,11 +2,18 @@
 ghost use mathlib.Core.Path.{_≡_};
 ghost use Prim.Native.Nat.{_*_, _<_, _≤_};
 ghost use lib.ListN.{length, take};
-ghost use Rattle.file.specs.Step.{handedOn, parcelsIn, stepAnswer};
+ghost use mathlib.Core.List.{[], _∷_, _++_};
+ghost use Rattle.line.specs.Line.{lineAnswer};
+ghost use Rattle.line.specs.declared.read.LineAnswer.the-variants.{Accepted};
+ghost use Rattle.file.specs.Step.{handedOn, parcelsIn, behind, stepAnswer};
+ghost use Rattle.file.specs.Tree.{Sown};
+ghost use Rattle.file.specs.declared.step.State.{State};
+ghost use Rattle.file.specs.declared.step.Step.the-variants.{Next};
 use crate::cash;
 use crate::identcode;
 use fields::Due;
 use fields::Record;
+use line::Line;
 use line::LineAnswer;
 use refusal::Refusal;
 
@@ -24,10 +31,12 @@ pub enum Step {
     Stopped { why: Refusal, place: usize },
 }
 
-// Judges the line where the state is; the list holds the offsets of the lines before it.
-pub fn one_line(s: &[u8], words: &[u32], state: State) -> Step
+// Judges the line where the state is; the list holds the offsets of the lines before it, and the tree their identcodes.
+pub fn one_line(s: &[u8], words: &[u32], codes: &mut [u32], state: State) -> Step
     requires { ⌜ (state .at < 65536) × (state .lines ≤ state .at) × (state .lines ≤ length (now words)) × (state .parcels ≤ state .lines) × (state .cents ≤ 99999999 * state .lines) ⌝ }
+    requires { ⌜ Sown (now s) (take (state .lines) (now words)) (state .parcels) (now codes) × (state .parcels ≤ 2340) ⌝ }
     ensures { λ r. ⌜ r ≡ stepAnswer (now (s .entry)) (length (now (words .entry))) (take (state .lines) (now (words .entry))) state ⌝ }
+    ensures { λ r. ⌜ ((next : State) → r ≡ Next next → Sown (now (s .entry)) (take (state .lines) (now (words .entry)) ++ (state .at ∷ [])) (next .parcels) (now (codes .exit))) ⌝ }
 {
     let at = state.at;
     let lines = state.lines;
@@ -37,7 +46,7 @@ pub fn one_line(s: &[u8], words: &[u32], state: State) -> Step
         return refusal_of(answer);
     };
     let kind = line.kind;
-    if identcode::is_repeated(kind, s, words, lines, at) {
+    if identcode::is_repeated(kind, s, codes, state.parcels, at) {
         return Step::Stopped {
             why: Refusal::IdentcodeRepeated,
             place: at + 4,
@@ -49,14 +58,24 @@ pub fn one_line(s: &[u8], words: &[u32], state: State) -> Step
             place: at,
         };
     }
+    Step::Next(behind_line(s, state, line))
+}
+
+// The state behind an accepted line.
+fn behind_line(s: &[u8], state: State, line: Line) -> State
+    requires { ⌜ (lineAnswer (state .due) (now s) (state .at) ≡ Accepted line) × (state .at < 65536) × (state .lines ≤ state .at) × (state .parcels ≤ state .lines) × (state .cents ≤ 99999999 * state .lines) ⌝ }
+    ensures { λ r. ⌜ r ≡ behind (now (s .entry)) state line ⌝ }
+{
+    let at = state.at;
+    let kind = line.kind;
     let end = line.next - 2;
-    Step::Next(State {
+    State {
         at: line.next,
-        lines: lines + 1,
+        lines: state.lines + 1,
         parcels: state.parcels + parcels_in(kind),
         cents: state.cents + cash::cash_of(kind, &s[at..end]),
         due: Due::After(kind),
-    })
+    }
 }
 
 // The refusal of a line, handed on.

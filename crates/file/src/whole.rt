@@ -33,12 +33,14 @@ pub fn judge(s: &[u8], words: &mut [u32]) -> FileAnswer
             place: 65535,
         };
     }
-    run(s, words)
+    // A file has at most 2,340 parcels.
+    let mut codes = [0u32; 4681];
+    run(s, words, &mut codes)
 }
 
-// The lines of a file that is not too long, with a list that is clear.
-fn run(s: &[u8], words: &mut [u32]) -> FileAnswer
-    requires { ⌜ (length (now s) ≤ 65535) × (now words ≡ replicate (length (now words)) 0) ⌝ }
+// The lines of a file that is not too long, with a list that is clear, and room for a tree of their identcodes.
+fn run(s: &[u8], words: &mut [u32], codes: &mut [u32]) -> FileAnswer
+    requires { ⌜ (length (now s) ≤ 65535) × (now words ≡ replicate (length (now words)) 0) × (4681 ≤ length (now codes)) ⌝ }
     ensures { λ r. ⌜ Judges (now (s .entry)) (length (now (words .entry))) r (now (words .exit)) ⌝ }
 {
     let mut state = State {
@@ -51,7 +53,7 @@ fn run(s: &[u8], words: &mut [u32]) -> FileAnswer
     while state.at < s.len() {
         let at = state.at;
         let lines = state.lines;
-        let step = step::one_line(s, words, state);
+        let step = step::one_line(s, words, codes, state);
         let Step::Next(next) = step else {
             list::clear(words);
             return refusal_of(step);

@@ -1,17 +1,17 @@
 -- `identcode::is_repeated` meets its contract.
-use Rattle.file.specs.Identcode.{repeats}
-use Rattle.file.proofs.Codes.{repeats-as}
+use Rattle.file.specs.Tree.{isThereFor, grownFor}
+use Rattle.file.proofs.Finding.{parcel-digits, there-as, grown-as}
 use borrow.Author.Needs.{needs}
 use Rattle.file.proofs.identcode.is_repeated.Statement.{statement}
 use Rattle.file.proofs.identcode.is_repeated.Tie as tie
 
-ruleset laws = (needs, repeats-as)
+ruleset laws = (needs, parcel-digits, there-as, grown-as)
 
 pub is-repeated-spec : {M : Type 1} → statement M
-unfolding repeats
+unfolding isThereFor grownFor
 is-repeated-spec =
     tie.close
     (tie.spec
     (λ c. search laws) (λ c. search laws) (λ c. search laws) (λ c. search laws) (λ c κs. search laws) (λ c. search laws)
     (λ c. search laws) (λ c. search laws) (λ c. search laws) (λ c. search laws) (λ c. search laws) (λ c. search laws)
-    (λ c. search laws))
+    (λ c. search laws) (λ c. search laws))
