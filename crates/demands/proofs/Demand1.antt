@@ -31,7 +31,7 @@ use Rattle.file.specs.declared.whole.FileAnswer.{FileAnswer}
 use Rattle.peliranopi.specs.Calls.{JudgeTells, LineTells, FieldTells, WriteTells, PurposeTells, NumberTells, IssueTells, IbanTells}
 
 -- A contract `answer ≡ definition of the inputs` leaves one answer. That is the contract of every public function but those that
--- write into a buffer, which follow below one by one, and those of crate feed, which only reads the input of the test programs.
+-- write into a buffer, which follow below one by one.
 pub one-answer : {A B : Type 0} (definition : A → B) (input : A) (a b : B) → a ≡ definition input → b ≡ definition input → a ≡ b
 one-answer definition input a b p q = p ∙ sym q
 
