@@ -5,7 +5,7 @@
 use Prim.Native.Nat.{ℕ}
 use mathlib.Core.Path.{_≡_, sym, ap, _∙_}
 use mathlib.Core.List.{List}
-use lib.ListN.{length}
+use lib.ListN.{length, replicate}
 use Rattle.text.specs.Placed.{placed}
 use Rattle.check_characters.specs.Number.{issueAnswer, issuedTo, Issues, checked as checkedNumber}
 use Rattle.check_characters.specs.Iban.{checked as checkedIban}
@@ -63,6 +63,10 @@ judge-unique s words a b x y p q = (p .0 ∙ sym (q .0), p .1 ∙ sym (q .1))
 -- a run placed in an output
 pub place-unique : (out : List ℕ) (at : ℕ) (src x y : List ℕ) → x ≡ placed out at src → y ≡ placed out at src → x ≡ y
 place-unique out at = one-answer (placed out at)
+
+-- a list cleared
+pub clear-unique : (words x y : List ℕ) → x ≡ replicate (length words) 0 → y ≡ replicate (length words) 0 → x ≡ y
+clear-unique words = one-answer (λ (w : List ℕ). replicate (length w) 0) words
 
 pub write-line-unique :
     (number : ℕ) (text ends out : List ℕ) (fill : ℕ) (a b : WriteAnswer) (x y : List ℕ) →
