@@ -12,7 +12,6 @@ use Rattle.text.specs.Byte.{digit}
 use Rattle.text.specs.Scan.{firstFailing}
 use Rattle.text.proofs.Scans.{walk-stops, walk-ends}
 use Rattle.feed.specs.Input.{inLine, lineEnd, valueFrom, behind, given}
-use Rattle.feed.specs.declared.Given.{Given}
 
 -- v is written in front of the byte at the place i
 module _ (s : List ℕ) (i v z : ℕ) where
