@@ -62,6 +62,7 @@ uint32_t peliranopi_find_field(const uint8_t *file, size_t file_len, size_t offs
                                size_t *start, size_t *length, size_t *place);
 
 /* Writes one line: record as a number (10 for 010, up to 60), the fields joined in one text, and where each of them ends in it.
+ * place: the number of the field for the refusals 6 to 8, counted from 1, else 0.
  * written: how many bytes.
  * output: accepted, the line stands from fill on, and every other byte is as it was; refused, all bytes are as they were. */
 uint32_t peliranopi_write_line(uint32_t record, const uint8_t *text, size_t text_len,

@@ -1,0 +1,44 @@
+/* Judges a pre-advice file from C: judge_file FILE. Prints `ok LINES PARCELS CENTS` or `no NUMBER PLACE`, as ./judge does; a file
+ * that cannot be read is told on standard error, with the exit status 2. */
+#include "peliranopi.h"
+
+#include <inttypes.h>
+#include <stdio.h>
+
+/* One byte more than a file may have, so that a longer file is seen to be one. Nothing behind it is read. */
+static uint8_t file[65536];
+static uint32_t list[4096];
+
+/* Reads the start of a file, up to the room for it; answers whether that was possible. */
+static int read_start(const char *name, size_t *length)
+{
+    FILE *stream = fopen(name, "rb");
+    if (stream == NULL)
+        return 0;
+    *length = fread(file, 1, sizeof file, stream);
+    int whole = !ferror(stream);
+    fclose(stream);
+    return whole;
+}
+
+int main(int argc, char **argv)
+{
+    if (argc != 2) {
+        fprintf(stderr, "usage: judge_file FILE\n");
+        return 2;
+    }
+    size_t length;
+    if (!read_start(argv[1], &length)) {
+        perror(argv[1]);
+        return 2;
+    }
+    size_t lines, parcels, place;
+    uint64_t cents;
+    uint32_t refusal = peliranopi_judge(file, length, list, sizeof list / sizeof list[0], &lines, &parcels, &cents, &place);
+    if (refusal == PELIRANOPI_ACCEPTED)
+        printf("ok %zu %zu %" PRIu64 "\n", lines, parcels, cents);
+    else
+        printf("no %" PRIu32 " %zu\n", refusal, place);
+    /* An answer that could not be written must not pass for one. */
+    return fflush(stdout) == 0 ? 0 : 2;
+}

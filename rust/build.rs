@@ -1,0 +1,15 @@
+//! Links libpeliranopi.a, which `rt staticlib peliranopi` writes; PELIRANOPI_LIB names another folder that has it.
+
+use std::path::PathBuf;
+
+fn main() {
+    let built = PathBuf::from(env!("CARGO_MANIFEST_DIR")).join("../target/staticlib");
+    let folder = std::env::var_os("PELIRANOPI_LIB").map_or(built, PathBuf::from);
+    println!("cargo:rerun-if-env-changed=PELIRANOPI_LIB");
+    println!(
+        "cargo:rerun-if-changed={}",
+        folder.join("libpeliranopi.a").display()
+    );
+    println!("cargo:rustc-link-search=native={}", folder.display());
+    println!("cargo:rustc-link-lib=static=peliranopi");
+}

@@ -1,0 +1,247 @@
+//! Files and their lines: judging, reading, writing, and the payment purpose.
+
+use std::ops::Range;
+
+use crate::raw;
+use crate::refusal::{accepted, Refused};
+
+/// What an accepted file holds.
+#[derive(Clone, Copy, Debug, PartialEq, Eq, Hash)]
+pub struct Totals {
+    /// How many lines.
+    pub lines: usize,
+    /// How many parcels, which are the 040 lines.
+    pub parcels: usize,
+    /// The cash to collect, in cents of euro.
+    pub cents: u64,
+}
+
+/// The records of a pre-advice file.
+#[derive(Clone, Copy, Debug, PartialEq, Eq, Hash)]
+pub enum Record {
+    /// 010, the first line.
+    Header = 10,
+    /// 020, who sends.
+    Sender = 20,
+    /// 030, one shipment and its receiver.
+    Shipment = 30,
+    /// 040, one parcel of the shipment.
+    Parcel = 40,
+    /// 050, the product.
+    Product = 50,
+    /// 060, a feature of the product, for example cash on delivery.
+    Feature = 60,
+}
+
+impl Record {
+    /// The record type as a number: 10 for 010, up to 60. The writer takes it.
+    pub fn number(self) -> u32 {
+        self as u32
+    }
+
+    /// The record with this number.
+    ///
+    /// ```
+    /// use peliranopi::Record;
+    ///
+    /// assert_eq!(Record::from_number(40), Some(Record::Parcel));
+    /// assert_eq!(Record::from_number(41), None);
+    /// ```
+    pub fn from_number(number: u32) -> Option<Record> {
+        use Record::*;
+        [Header, Sender, Shipment, Parcel, Product, Feature]
+            .into_iter()
+            .find(|record| record.number() == number)
+    }
+}
+
+/// What one line is.
+#[derive(Clone, Copy, Debug, PartialEq, Eq, Hash)]
+pub struct Line {
+    /// Its record.
+    pub record: Record,
+    /// How many fields it has behind the record type.
+    pub fields: usize,
+    /// Where the next line starts, or the file's length.
+    pub next: usize,
+}
+
+/// Judges a whole file.
+///
+/// Accepted, word i of the list is where line i starts, for each line, and every other word is 0;
+/// refused, all words are 0. A list with too few words for the lines is a refusal.
+///
+/// ```
+/// let file = include_bytes!("../../examples/preadvice.csv");
+/// let mut list = [0; 8];
+/// let totals = peliranopi::judge(file, &mut list)?;
+/// assert_eq!((totals.lines, totals.parcels, totals.cents), (6, 1, 1250));
+/// assert_eq!(list, [0, 74, 116, 178, 208, 216, 0, 0]);
+/// # Ok::<(), peliranopi::Refused>(())
+/// ```
+pub fn judge(file: &[u8], list: &mut [u32]) -> Result<Totals, Refused> {
+    let (mut lines, mut parcels, mut cents, mut place) = (0, 0, 0, 0);
+    // SAFETY: each pointer comes with the length of its own slice or points to one local number;
+    // the list and the numbers are borrowed for this call alone.
+    let number = unsafe {
+        raw::peliranopi_judge(
+            file.as_ptr(),
+            file.len(),
+            list.as_mut_ptr(),
+            list.len(),
+            &mut lines,
+            &mut parcels,
+            &mut cents,
+            &mut place,
+        )
+    };
+    accepted(number, place)?;
+    Ok(Totals {
+        lines,
+        parcels,
+        cents,
+    })
+}
+
+/// Judges the line that starts at the offset, alone: not its order, and not its identcode against
+/// others.
+///
+/// ```
+/// use peliranopi::{read_line, Record};
+///
+/// let file = include_bytes!("../../examples/preadvice.csv");
+/// let line = read_line(file, 178)?;
+/// assert_eq!((line.record, line.fields, line.next), (Record::Parcel, 3, 208));
+/// # Ok::<(), peliranopi::Refused>(())
+/// ```
+pub fn read_line(file: &[u8], offset: usize) -> Result<Line, Refused> {
+    let (mut record, mut fields, mut next, mut place) = (0, 0, 0, 0);
+    // SAFETY: the file's pointer comes with its length; the others point to one local number each.
+    let number = unsafe {
+        raw::peliranopi_read_line(
+            file.as_ptr(),
+            file.len(),
+            offset,
+            &mut record,
+            &mut fields,
+            &mut next,
+            &mut place,
+        )
+    };
+    accepted(number, place)?;
+    let record = Record::from_number(record).expect("the contract names one of the six records");
+    Ok(Line {
+        record,
+        fields,
+        next,
+    })
+}
+
+/// Finds the field with this number, counted from 1, of the line that starts at the offset. The
+/// answer is its part of the file, which may be empty. The line is judged as by [`read_line`].
+///
+/// ```
+/// let file = include_bytes!("../../examples/preadvice.csv");
+/// let identcode = peliranopi::find_field(file, 178, 1)?;
+/// assert_eq!(&file[identcode], b"1000000000000000000001");
+/// # Ok::<(), peliranopi::Refused>(())
+/// ```
+pub fn find_field(file: &[u8], offset: usize, number: usize) -> Result<Range<usize>, Refused> {
+    let (mut start, mut length, mut place) = (0, 0, 0);
+    // SAFETY: the file's pointer comes with its length; the others point to one local number each.
+    let refusal = unsafe {
+        raw::peliranopi_find_field(
+            file.as_ptr(),
+            file.len(),
+            offset,
+            number,
+            &mut start,
+            &mut length,
+            &mut place,
+        )
+    };
+    accepted(refusal, place)?;
+    Ok(start..start + length)
+}
+
+/// Writes one line into the output from the fill on, and answers how many bytes it has. The record
+/// is a number ([`Record::number`]), the text holds all fields joined, and the ends say where each
+/// of them ends in it.
+///
+/// Every other byte of the output stays as it was; on a refusal all of them do.
+///
+/// ```
+/// use peliranopi::{write_line, Record};
+///
+/// let mut output = [b'.'; 12];
+/// let written = write_line(Record::Product.number(), b"10", &[2], &mut output, 3)?;
+/// assert_eq!(written, 8);
+/// assert_eq!(&output, b"...050;10\r\n.");
+/// # Ok::<(), peliranopi::Refused>(())
+/// ```
+pub fn write_line(
+    record: u32,
+    text: &[u8],
+    ends: &[usize],
+    output: &mut [u8],
+    fill: usize,
+) -> Result<usize, Refused> {
+    let (mut written, mut place) = (0, 0);
+    // SAFETY: each pointer comes with the length of its own slice or points to one local number;
+    // the output and the numbers are borrowed for this call alone.
+    let number = unsafe {
+        raw::peliranopi_write_line(
+            record,
+            text.as_ptr(),
+            text.len(),
+            ends.as_ptr(),
+            ends.len(),
+            output.as_mut_ptr(),
+            output.len(),
+            fill,
+            &mut written,
+            &mut place,
+        )
+    };
+    accepted(number, place)?;
+    Ok(written)
+}
+
+/// Writes the payment purpose of the cash line with this number, counted from 0, at the output's
+/// start, and answers how many bytes it has: at most 35, and the output must have 35 or more.
+///
+/// The file is judged first, and the list is lent as for [`judge`]; here too its words are all 0
+/// after a refusal. Every other byte of the output stays as it was; on a refusal all of them do.
+///
+/// ```
+/// let file = include_bytes!("../../examples/preadvice.csv");
+/// let (mut list, mut output) = ([0; 8], [0; 35]);
+/// let written = peliranopi::write_purpose(file, 5, &mut list, &mut output)?;
+/// assert_eq!(&output[..written], b"1000000000000000000001/B");
+/// # Ok::<(), peliranopi::Refused>(())
+/// ```
+pub fn write_purpose(
+    file: &[u8],
+    line: usize,
+    list: &mut [u32],
+    output: &mut [u8],
+) -> Result<usize, Refused> {
+    let (mut written, mut place) = (0, 0);
+    // SAFETY: each pointer comes with the length of its own slice or points to one local number;
+    // the list, the output and the numbers are borrowed for this call alone.
+    let number = unsafe {
+        raw::peliranopi_write_purpose(
+            file.as_ptr(),
+            file.len(),
+            line,
+            list.as_mut_ptr(),
+            list.len(),
+            output.as_mut_ptr(),
+            output.len(),
+            &mut written,
+            &mut place,
+        )
+    };
+    accepted(number, place)?;
+    Ok(written)
+}

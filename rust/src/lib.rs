@@ -1,0 +1,44 @@
+//! The dispatch core of a carrier desk: judges, reads and writes Austrian Post pre-advice flat
+//! files (version 5), works out payment purposes, checks and issues DPD parcel numbers and checks
+//! IBANs.
+//!
+//! These are safe functions over the static library of Peliranopi, which is for x86-64 and whose
+//! code is proved. Each takes every input, ends, and answers or refuses; a refusal has its number in
+//! the table of README.md and a place. What the caller lends holds after a call what the function
+//! says, after a refusal too.
+//!
+//! None panics, since the contracts fix which numbers the library answers. Only another library of
+//! the same name could answer others, and then they do.
+//!
+//! ```
+//! let file = include_bytes!("../../examples/preadvice.csv");
+//! let mut list = [0; 4096];
+//!
+//! let totals = peliranopi::judge(file, &mut list)?;
+//! assert_eq!((totals.lines, totals.parcels, totals.cents), (6, 1, 1250));
+//!
+//! // Line 5, counted from 0, is a cash line; field 3 is its amount.
+//! let amount = peliranopi::find_field(file, list[5] as usize, 3)?;
+//! assert_eq!(&file[amount], b"12.50");
+//!
+//! let refused = peliranopi::judge(&file[..200], &mut list).unwrap_err();
+//! assert_eq!(
+//!     refused.to_string(),
+//!     "refusal 2 at 200: a line's first byte that is no text byte is missing or not CR LF, \
+//!      or the offset lies past the file"
+//! );
+//! # Ok::<(), peliranopi::Refused>(())
+//! ```
+
+#![deny(missing_docs)]
+#![deny(unsafe_op_in_unsafe_fn)]
+
+mod file;
+mod numbers;
+#[doc(hidden)] // for tests that compare every byte; c/peliranopi.h says what each function does
+pub mod raw;
+mod refusal;
+
+pub use file::{find_field, judge, read_line, write_line, write_purpose, Line, Record, Totals};
+pub use numbers::{check_iban, check_number, issue_number, Kind};
+pub use refusal::{Refusal, Refused};

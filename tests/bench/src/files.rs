@@ -1,0 +1,206 @@
+//! The files to measure on, each exactly as long as asked.
+
+use reference::generate::{valid_iban, Rng};
+
+/// What is drawn comes from here.
+pub const SEED: u64 = 7;
+
+/// The shortest 060 line, which fills files up, and the longest.
+const SHORTEST: usize = 18;
+const LONGEST: usize = SHORTEST + 64 + 64 + 40;
+
+const NAMES: [&str; 8] = [
+    "Muster", "Gruber", "Huber", "Bauer", "Wagner", "Pichler", "Steiner", "Hofer",
+];
+const STREETS: [&str; 6] = [
+    "Hauptstrasse",
+    "Bahnhofstrasse",
+    "Ring",
+    "Kirchengasse",
+    "Am Anger",
+    "Feldweg",
+];
+const TOWNS: [(&str, &str); 6] = [
+    ("1010", "Wien"),
+    ("8010", "Graz"),
+    ("4020", "Linz"),
+    ("5020", "Salzburg"),
+    ("6020", "Innsbruck"),
+    ("9020", "Klagenfurt"),
+];
+
+/// The kinds of file.
+#[derive(Clone, Copy)]
+pub enum Kind {
+    /// Senders, shipments with a parcel or two, products and features, most of them cash.
+    Typical,
+    /// The same with a feature code in its last line that there is not.
+    RefusedAtItsEnd,
+    /// One shipment of as many parcels as there is room for.
+    Parcels(Codes),
+}
+
+/// How the identcodes of a file of parcels follow each other.
+#[derive(Clone, Copy)]
+pub enum Codes {
+    Drawn,
+    LastDigitsRise,
+    LastDigitsFall,
+    FirstDigitsRise,
+    FirstDigitsFall,
+    LastTwoAlike,
+}
+
+/// A file of this kind and size.
+pub fn file(kind: Kind, size: usize) -> Vec<u8> {
+    match kind {
+        Kind::Typical => typical(size),
+        Kind::RefusedAtItsEnd => refused_at_its_end(size),
+        Kind::Parcels(codes) => parcels(codes, size),
+    }
+}
+
+fn typical(size: usize) -> Vec<u8> {
+    let mut rng = Rng::new(SEED);
+    let mut file = [header(), sender(&mut rng)].concat();
+    loop {
+        let mut block = Vec::new();
+        if rng.percent(5) {
+            block.extend(sender(&mut rng));
+        }
+        block.extend(shipment(&mut rng));
+        for _ in 0..rng.between(1, 2) {
+            block.extend(parcel(&rng.digits(22)));
+        }
+        block.extend(product());
+        for _ in 0..rng.between(0, 2) {
+            block.extend(feature(&mut rng));
+        }
+        if file.len() + block.len() + SHORTEST > size {
+            break;
+        }
+        file.extend(block);
+    }
+    fill_up(&mut file, size);
+    file
+}
+
+fn refused_at_its_end(size: usize) -> Vec<u8> {
+    let mut file = typical(size);
+    let end = file.windows(4).rposition(|part| part == b"\n060");
+    let code = end.expect("the last line is a feature") + 5;
+    file[code..code + 3].copy_from_slice(b"005");
+    file
+}
+
+fn parcels(codes: Codes, size: usize) -> Vec<u8> {
+    let mut rng = Rng::new(SEED);
+    let mut file = [header(), sender(&mut rng), shipment(&mut rng)].concat();
+    let room = size - file.len() - product().len() - SHORTEST;
+    let count = room / parcel(&[b'0'; 22]).len();
+    for index in 0..count {
+        file.extend(parcel(&identcode(
+            codes,
+            &mut rng,
+            index as u128,
+            count as u128,
+        )));
+    }
+    file.extend(product());
+    fill_up(&mut file, size);
+    file
+}
+
+/// The identcode of one of so many parcels.
+fn identcode(codes: Codes, rng: &mut Rng, index: u128, count: u128) -> Vec<u8> {
+    const FIRST: u128 = 10_u128.pow(21);
+    const IN_FRONT: u128 = 10_u128.pow(18);
+    let code = match codes {
+        Codes::Drawn => return rng.digits(22),
+        Codes::LastDigitsRise => FIRST + index,
+        Codes::LastDigitsFall => FIRST + count - index,
+        Codes::FirstDigitsRise => (1000 + index) * IN_FRONT,
+        Codes::FirstDigitsFall => (1000 + count - index) * IN_FRONT,
+        Codes::LastTwoAlike => FIRST + index.min(count - 2),
+    };
+    format!("{code:022}").into_bytes()
+}
+
+fn header() -> Vec<u8> {
+    b"010;0012345678;Muster;2021-02-23T13:37:50;2021-02-24T14:20:55;1005;5;;;;\r\n".to_vec()
+}
+
+fn sender(rng: &mut Rng) -> Vec<u8> {
+    let (name, street, (code, town)) = (rng.pick(&NAMES), rng.pick(&STREETS), rng.pick(&TOWNS));
+    let (house, phone) = (rng.between(1, 200), rng.between(100_000, 9_999_999));
+    format!(
+        "020;{name} GmbH;;;;AT;{code};{town};;{street};;{house};{phone};office@{name}.at;;;\r\n"
+    )
+    .into_bytes()
+}
+
+fn shipment(rng: &mut Rng) -> Vec<u8> {
+    let (name, street, (code, town)) = (rng.pick(&NAMES), rng.pick(&STREETS), rng.pick(&TOWNS));
+    let (number, house) = (rng.between(10_000_000, 99_999_999), rng.between(1, 200));
+    let (stair, phone) = (rng.between(1, 9), rng.between(100_000, 9_999_999));
+    format!(
+        "030;{number};;;;;;;;;;;;;;;Anna {name};;;;AT;{code};{town};;{street};Stiege {stair};{house};;\
+         {phone};{name}@post.at;;;;;;;;;;;\r\n"
+    )
+    .into_bytes()
+}
+
+fn parcel(code: &[u8]) -> Vec<u8> {
+    [b"040;", code, b";;\r\n"].concat()
+}
+
+fn product() -> Vec<u8> {
+    b"050;10\r\n".to_vec()
+}
+
+/// Cash to collect, a message by mail, or a feature that needs nothing.
+fn feature(rng: &mut Rng) -> Vec<u8> {
+    let name = rng.pick(&NAMES);
+    match rng.below(6) {
+        0..=3 => {
+            let (invoice, euro, cents) = (
+                rng.between(1, 99_999),
+                rng.between(1, 999),
+                rng.between(0, 99),
+            );
+            let iban = String::from_utf8(austrian_iban(rng)).expect("letters and digits");
+            format!("060;006;Rechnung {invoice};{euro}.{cents:02};EUR;{name} GmbH;{iban};BKAUATWW;;;\r\n").into_bytes()
+        }
+        4 => format!("060;054;;;;;;;;{name}@post.at;\r\n").into_bytes(),
+        _ => b"060;004;;;;;;;;;\r\n".to_vec(),
+    }
+}
+
+fn austrian_iban(rng: &mut Rng) -> Vec<u8> {
+    loop {
+        let iban = valid_iban(rng);
+        if iban.starts_with(b"AT") && iban.len() == 20 {
+            return iban;
+        }
+    }
+}
+
+/// Adds 060 lines up to exactly this size; the room is 0, or at least the shortest line.
+fn fill_up(file: &mut Vec<u8>, size: usize) {
+    while file.len() < size {
+        let room = size - file.len();
+        let length = if room <= LONGEST {
+            room
+        } else {
+            LONGEST.min(room / 2)
+        };
+        let mut left = length - SHORTEST;
+        let mut text = |width: usize| {
+            let length = left.min(width);
+            left -= length;
+            "x".repeat(length)
+        };
+        let (second, fifth, tenth) = (text(64), text(64), text(40));
+        file.extend(format!("060;004;{second};;;{fifth};;;;;{tenth}\r\n").into_bytes());
+    }
+}

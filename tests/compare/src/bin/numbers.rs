@@ -1,0 +1,53 @@
+//! Answers requests on standard input by the static library, one a line: `number SYMBOLS`, `issue BODY` or `iban SYMBOLS`. Prints
+//! for each `tracking`, `label`, the number issued or `iban`; refused, `no NUMBER PLACE`. tests/outside.py asks.
+
+use compare::{lent, library, Call, Left};
+use reference::generate::{IssueCall, Rng};
+use std::io::{BufRead, Write};
+
+fn main() -> std::io::Result<()> {
+    let mut rng = Rng::new(0);
+    let mut out = std::io::BufWriter::new(std::io::stdout().lock());
+    for line in std::io::stdin().lock().split(b'\n') {
+        let line = line?;
+        let Some(call) = request(&line) else {
+            eprintln!("numbers: no request: {}", String::from_utf8_lossy(&line));
+            std::process::exit(2);
+        };
+        let before = Left::before(&call, &mut rng);
+        writeln!(out, "{}", answer(&call, library::left(&call, before)))?;
+    }
+    out.flush()
+}
+
+/// The call that a line asks for; none where it asks for none.
+fn request(line: &[u8]) -> Option<Call> {
+    let space = line.iter().position(|byte| *byte == b' ')?;
+    let symbols = line[space + 1..].to_vec();
+    match &line[..space] {
+        b"number" => Some(Call::Check(symbols)),
+        b"issue" => Some(Call::Issue(IssueCall {
+            output: symbols.len() + 1,
+            body: symbols,
+        })),
+        b"iban" => Some(Call::Iban(symbols)),
+        _ => None,
+    }
+}
+
+/// The library's answer in words.
+fn answer(call: &Call, mut left: Left) -> String {
+    if left.answer != 0 {
+        return format!("no {} {}", left.answer, left.place);
+    }
+    match (call, &left.values[..]) {
+        (Call::Check(_), [1]) => "tracking".to_string(),
+        (Call::Check(_), [2]) => "label".to_string(),
+        (Call::Issue(_), [written]) => {
+            let number = &lent(&mut left.output)[..*written as usize];
+            String::from_utf8_lossy(number).into_owned()
+        }
+        (Call::Iban(_), []) => "iban".to_string(),
+        _ => format!("unknown {:?}", left.values),
+    }
+}

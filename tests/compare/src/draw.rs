@@ -1,0 +1,81 @@
+//! Random calls of every kind, valid and damaged, long and short. The same seed draws the same calls.
+
+use crate::Call;
+use reference::generate::{
+    damaged_iban, damaged_number, file_case, issue_call, line_call, purpose_call, valid_iban,
+    valid_number, writer_call, Rng,
+};
+
+/// The calls of the library.
+#[derive(Clone, Copy, Debug, PartialEq, Eq)]
+pub enum Kind {
+    File,
+    Line,
+    Field,
+    Write,
+    Purpose,
+    Check,
+    Issue,
+    Iban,
+}
+
+/// A call of this kind.
+pub fn call(kind: Kind, rng: &mut Rng) -> Call {
+    match kind {
+        Kind::File => file(rng),
+        Kind::Line => {
+            let call = line_call(rng);
+            Call::Line {
+                file: call.file,
+                offset: call.offset,
+            }
+        }
+        Kind::Field => Call::Field(line_call(rng)),
+        Kind::Write => Call::Write(writer_call(rng)),
+        Kind::Purpose => Call::Purpose(purpose_call(rng)),
+        Kind::Check => Call::Check(symbols(rng, valid_number, damaged_number)),
+        Kind::Issue => Call::Issue(issue_call(rng)),
+        Kind::Iban => Call::Iban(symbols(rng, valid_iban, damaged_iban)),
+    }
+}
+
+/// Mostly a generated file; some of bytes of any kind, and some far over the limit.
+fn file(rng: &mut Rng) -> Call {
+    let words = rng.below(10);
+    match rng.below(200) {
+        0..=3 => Call::File {
+            file: any_bytes(rng, 200),
+            words,
+        },
+        4 => Call::File {
+            file: vec![rng.byte(); rng.between(65_535, 200_000)],
+            words,
+        },
+        _ => {
+            let case = file_case(rng);
+            Call::File {
+                file: case.file,
+                words: case.words,
+            }
+        }
+    }
+}
+
+/// Numbers that pass and damaged ones; some of any bytes and any length, and a few very long ones.
+fn symbols(
+    rng: &mut Rng,
+    valid: fn(&mut Rng) -> Vec<u8>,
+    damaged: fn(&mut Rng) -> Vec<u8>,
+) -> Vec<u8> {
+    match rng.below(1000) {
+        0 => vec![rng.digit(); rng.between(65_535, 70_000)],
+        1..=50 => any_bytes(rng, 40),
+        51..=450 => valid(rng),
+        _ => damaged(rng),
+    }
+}
+
+fn any_bytes(rng: &mut Rng, most: usize) -> Vec<u8> {
+    let length = rng.between(0, most);
+    (0..length).map(|_| rng.byte()).collect()
+}

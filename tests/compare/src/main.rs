@@ -1,0 +1,236 @@
+//! Holds the static library against the independent implementation on random calls: compare [COMPARISONS [SEED]]. Each comparison
+//! is one call compared in full. It exits with 1 at the first difference, and where an answer never occurred that a call can give.
+
+use compare::draw::{self, Kind};
+use compare::{difference, library, promised, Call, Left};
+use reference::generate::Rng;
+use reference::profile::LIMIT;
+use std::process::exit;
+
+/// How many comparisons a run makes if nobody says otherwise. From here on every answer has to occur.
+const DEFAULT: usize = 1_000_000;
+const DEFAULT_SEED: u64 = 7;
+
+/// A kind of call, how many of a thousand comparisons are of this kind, and the refusals that it can give.
+struct Share {
+    kind: Kind,
+    name: &'static str,
+    share: usize,
+    refusals: &'static [u32],
+}
+
+const SHARES: [Share; 8] = [
+    Share {
+        kind: Kind::File,
+        name: "files",
+        share: 30,
+        refusals: &[1, 2, 3, 4, 5, 6, 7, 8, 9, 10, 11, 12],
+    },
+    Share {
+        kind: Kind::Line,
+        name: "lines",
+        share: 90,
+        refusals: &[1, 2, 3, 5, 6, 7, 8, 9],
+    },
+    Share {
+        kind: Kind::Field,
+        name: "fields",
+        share: 70,
+        refusals: &[1, 2, 3, 5, 6, 7, 8, 9, 15],
+    },
+    Share {
+        kind: Kind::Write,
+        name: "written lines",
+        share: 110,
+        refusals: &[3, 5, 6, 7, 8, 9, 13, 14],
+    },
+    Share {
+        kind: Kind::Purpose,
+        name: "purposes",
+        share: 15,
+        refusals: &[1, 2, 3, 4, 5, 6, 7, 8, 9, 10, 11, 12, 13, 15],
+    },
+    Share {
+        kind: Kind::Check,
+        name: "checked numbers",
+        share: 230,
+        refusals: &[16, 17, 18],
+    },
+    Share {
+        kind: Kind::Issue,
+        name: "issued numbers",
+        share: 225,
+        refusals: &[13, 16, 17],
+    },
+    Share {
+        kind: Kind::Iban,
+        name: "IBANs",
+        share: 230,
+        refusals: &[16, 17, 18],
+    },
+];
+
+/// How often each answer occurred, 0 being acceptance, and how many inputs were as long as a file may be.
+#[derive(Default)]
+struct Tally {
+    answers: [usize; 19],
+    full: usize,
+}
+
+impl Tally {
+    /// The answers among these refusals, and acceptance, that never occurred.
+    fn missing(&self, refusals: &[u32]) -> Vec<u32> {
+        let possible = [&[0], refusals].concat();
+        possible
+            .into_iter()
+            .filter(|answer| self.answers[*answer as usize] == 0)
+            .collect()
+    }
+
+    fn refusals(&self) -> String {
+        let occurred = (1..self.answers.len()).filter(|answer| self.answers[*answer] > 0);
+        occurred
+            .map(|answer| format!(" {answer}:{}", self.answers[answer]))
+            .collect()
+    }
+}
+
+fn main() {
+    let Some((comparisons, seed)) = arguments() else {
+        eprintln!("usage: compare [COMPARISONS [SEED]]");
+        exit(2);
+    };
+    check_itself(seed);
+    for share in &SHARES {
+        let count = (comparisons * share.share).div_ceil(1000);
+        let tally = compare_all(share, count, seed);
+        println!(
+            "test: {count} {} compared (seed {seed}): {} accepted, refusals{}",
+            share.name,
+            tally.answers[0],
+            tally.refusals()
+        );
+        if comparisons >= DEFAULT {
+            require_all(share, &tally);
+        }
+    }
+}
+
+/// Ends the run where an answer never occurred that the call can give, or no file was as long as it may be.
+fn require_all(share: &Share, tally: &Tally) {
+    let missing = tally.missing(share.refusals);
+    if !missing.is_empty() {
+        println!("test: answers that never occurred: {missing:?}");
+        exit(1);
+    }
+    if share.kind != Kind::File {
+        return;
+    }
+    println!("test: {} of these files have {LIMIT} bytes", tally.full);
+    if tally.full == 0 {
+        exit(1);
+    }
+}
+
+/// How many comparisons and with which seed; none where the arguments are not such numbers.
+fn arguments() -> Option<(usize, u64)> {
+    let arguments: Vec<String> = std::env::args().skip(1).collect();
+    match &arguments[..] {
+        [] => Some((DEFAULT, DEFAULT_SEED)),
+        [comparisons] => Some((comparisons.parse().ok()?, DEFAULT_SEED)),
+        [comparisons, seed] => Some((comparisons.parse().ok()?, seed.parse().ok()?)),
+        _ => None,
+    }
+}
+
+/// The call with this index and what is there before it. Each index has its own stream, so that one call can be drawn again alone.
+fn drawn(kind: Kind, seed: u64, index: usize) -> (Call, Left) {
+    let stream = (kind as u64) << 40 | index as u64;
+    let mut rng = Rng::new(Rng::new(seed).word().wrapping_add(stream));
+    let call = draw::call(kind, &mut rng);
+    let before = Left::before(&call, &mut rng);
+    (call, before)
+}
+
+fn compare_all(share: &Share, count: usize, seed: u64) -> Tally {
+    let mut tally = Tally::default();
+    for index in 0..count {
+        let (call, before) = drawn(share.kind, seed, index);
+        let library = library::left(&call, before.clone());
+        let promised = promised::left(&call, before);
+        if let Some(part) = difference(&library, &promised) {
+            report(share, seed, index, &call, &part, [&library, &promised]);
+            exit(1);
+        }
+        tally.answers[promised.answer as usize] += 1;
+        tally.full += usize::from(call.input().len() == LIMIT);
+    }
+    tally
+}
+
+/// Prints a difference and keeps the bytes that were read in a file.
+fn report(share: &Share, seed: u64, index: usize, call: &Call, part: &str, both: [&Left; 2]) {
+    println!(
+        "test: {} differ in {part} (seed {seed}, index {index}; {})",
+        share.name,
+        call.arguments()
+    );
+    for (name, left) in ["library", "reference"].iter().zip(both) {
+        println!(
+            "test: {name}: answer {}, place {}, values {:?}",
+            left.answer, left.place, left.values
+        );
+    }
+    let path = std::env::temp_dir().join(format!("compare-{:?}-{seed}-{index}", share.kind));
+    match std::fs::write(&path, call.input()) {
+        Ok(()) => println!("test: the input is in {}", path.display()),
+        Err(error) => println!("test: the input could not be written: {error}"),
+    }
+}
+
+/// Wrong answers and changed bytes must be noticed, and answers that never occurred too: else no comparison means anything.
+fn check_itself(seed: u64) {
+    for share in &SHARES {
+        let (call, before) = drawn(share.kind, seed, 0);
+        let left = library::left(&call, before);
+        for wrong in wrong_in_one_part(&left) {
+            assert!(
+                difference(&wrong, &left).is_some(),
+                "a wrong {:?} is not noticed",
+                share.kind
+            );
+        }
+        assert_eq!(difference(&left, &left.clone()), None);
+        assert_eq!(
+            Tally::default().missing(share.refusals).len(),
+            share.refusals.len() + 1
+        );
+    }
+}
+
+/// The same with one part changed: each number, and the first and last element of each buffer.
+fn wrong_in_one_part(left: &Left) -> Vec<Left> {
+    let mut all = Vec::new();
+    let mut changed = |change: &dyn Fn(&mut Left)| {
+        let mut wrong = left.clone();
+        change(&mut wrong);
+        all.push(wrong);
+    };
+    changed(&|wrong| wrong.answer ^= 1);
+    changed(&|wrong| wrong.place ^= 1);
+    for value in 0..left.values.len() {
+        changed(&|wrong| wrong.values[value] ^= 1);
+    }
+    for end in [true, false] {
+        let last = |length: usize| if end { length - 1 } else { 0 };
+        if !left.input.is_empty() {
+            changed(&|wrong| wrong.input[last(left.input.len())] ^= 1);
+        }
+        if !left.ends.is_empty() {
+            changed(&|wrong| wrong.ends[last(left.ends.len())] ^= 1);
+        }
+        changed(&|wrong| wrong.words[last(left.words.len())] ^= 1);
+        changed(&|wrong| wrong.output[last(left.output.len())] ^= 1);
+    }
+    all
+}

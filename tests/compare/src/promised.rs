@@ -1,0 +1,75 @@
+//! The calls as c/peliranopi.h promises them, with the answers of the independent implementation.
+
+use crate::{lent, Call, Left};
+use reference::file::judge;
+use reference::line::{find_field, read_line};
+use reference::numbers::{check_iban, check_number, issue_number, Kind};
+use reference::purpose::purpose;
+use reference::writer::write_line;
+use reference::Refusal;
+
+/// What the call must leave of what was there before it.
+pub fn left(call: &Call, mut left: Left) -> Left {
+    match values(call, &mut left) {
+        Ok(values) => {
+            left.answer = 0;
+            left.place = 0;
+            left.values = values;
+        }
+        Err(refusal) => {
+            left.answer = refusal.number;
+            left.place = refusal.place;
+            left.values = vec![0; count(call)];
+        }
+    }
+    left
+}
+
+/// How many numbers a call sets beside the place.
+fn count(call: &Call) -> usize {
+    match call {
+        Call::File { .. } | Call::Line { .. } => 3,
+        Call::Field(_) => 2,
+        Call::Write(_) | Call::Purpose(_) | Call::Check(_) | Call::Issue(_) => 1,
+        Call::Iban(_) => 0,
+    }
+}
+
+/// These numbers of an accepted call; the lent buffers are written on the way.
+fn values(call: &Call, left: &mut Left) -> Result<Vec<u64>, Refusal> {
+    let list = lent(&mut left.words);
+    let output = lent(&mut left.output);
+    match call {
+        Call::File { file, .. } => {
+            let totals = judge(file, list)?;
+            Ok(vec![
+                totals.lines as u64,
+                totals.parcels as u64,
+                totals.cents,
+            ])
+        }
+        Call::Line { file, offset } => {
+            let line = read_line(file, *offset)?;
+            Ok(vec![
+                u64::from(line.record),
+                line.fields as u64,
+                line.next as u64,
+            ])
+        }
+        Call::Field(call) => {
+            let (start, length) = find_field(&call.file, call.offset, call.number)?;
+            Ok(vec![start as u64, length as u64])
+        }
+        Call::Write(call) => {
+            let written = write_line(call.record, &call.text, &call.ends, output, call.fill)?;
+            Ok(vec![written as u64])
+        }
+        Call::Purpose(call) => Ok(vec![purpose(&call.file, call.line, list, output)? as u64]),
+        Call::Check(symbols) => match check_number(symbols)? {
+            Kind::Tracking => Ok(vec![1]),
+            Kind::Label => Ok(vec![2]),
+        },
+        Call::Issue(call) => Ok(vec![issue_number(&call.body, output)? as u64]),
+        Call::Iban(symbols) => check_iban(symbols).map(|()| Vec::new()),
+    }
+}

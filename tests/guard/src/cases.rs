@@ -1,0 +1,256 @@
+//! The calls that are run: each length of each buffer up to a bound, and generated calls, valid and
+//! damaged.
+
+use crate::call::Call;
+use reference::generate::*;
+
+/// Six lines that are accepted, the last of them a cash line.
+const EXAMPLE: &[u8] = include_bytes!("../../../examples/preadvice.csv");
+/// Where they start.
+const STARTS: [usize; 6] = [0, 74, 116, 178, 208, 216];
+const CASH_LINE: usize = 5;
+
+/// Bounds of the lengths of numbers and outputs, and of lists.
+const BYTES: usize = 64;
+const WORDS: usize = 40;
+
+pub fn all(rng: &mut Rng) -> Vec<Call> {
+    let mut calls = Vec::new();
+    numbers(rng, &mut calls);
+    issues(rng, &mut calls);
+    cut_files(rng, &mut calls);
+    lists(rng, &mut calls);
+    whole_files(rng, &mut calls);
+    files_at_the_limit(rng, &mut calls);
+    lines(rng, &mut calls);
+    fields(&mut calls);
+    writings(rng, &mut calls);
+    generated_writings(rng, &mut calls);
+    purposes(rng, &mut calls);
+    calls
+}
+
+/// The same symbols again and again, to a length.
+fn repeated(symbols: &[u8], length: usize) -> Vec<u8> {
+    symbols.iter().copied().cycle().take(length).collect()
+}
+
+fn numbers(rng: &mut Rng, calls: &mut Vec<Call>) {
+    let mut both = |symbols: Vec<u8>| {
+        let same = symbols.clone();
+        calls.push(Call::CheckNumber { symbols });
+        calls.push(Call::CheckIban { symbols: same });
+    };
+    for length in 0..=BYTES {
+        both(repeated(&valid_number(rng), length));
+        both(repeated(&valid_iban(rng), length));
+        both(rng.digits(length));
+        both((0..length).map(|_| rng.byte()).collect());
+    }
+    for _ in 0..300 {
+        both(valid_number(rng));
+        both(damaged_number(rng));
+        both(valid_iban(rng));
+        both(damaged_iban(rng));
+    }
+}
+
+/// Every length of the body with every length of the output.
+fn issues(rng: &mut Rng, calls: &mut Vec<Call>) {
+    for length in 0..=BYTES {
+        for output in 0..=BYTES {
+            let body = rng.digits(length);
+            calls.push(Call::IssueNumber(IssueCall { body, output }));
+        }
+    }
+    for _ in 0..500 {
+        calls.push(Call::IssueNumber(issue_call(rng)));
+    }
+}
+
+/// Files that end anywhere, read at each of their lines.
+fn cut_files(rng: &mut Rng, calls: &mut Vec<Call>) {
+    for whole in [
+        EXAMPLE.to_vec(),
+        valid_file_of(rng, 5),
+        valid_file_of(rng, 12),
+    ] {
+        for length in 0..=whole.len() {
+            let file = whole[..length].to_vec();
+            calls.push(Call::Judge {
+                file: file.clone(),
+                words: WORDS,
+            });
+            let offset = last_line(&file);
+            let number = rng.between(0, 41);
+            calls.push(Call::FindField(LineCall {
+                file: file.clone(),
+                offset,
+                number,
+            }));
+            calls.push(Call::ReadLine { file, offset });
+        }
+    }
+}
+
+/// Where the last line that was begun starts.
+fn last_line(file: &[u8]) -> usize {
+    let line_feed = file.iter().rposition(|byte| *byte == b'\n');
+    line_feed.map_or(0, |at| at + 1)
+}
+
+/// Lists of every length, for files with fewer, as many and more lines.
+fn lists(rng: &mut Rng, calls: &mut Vec<Call>) {
+    let files = [
+        EXAMPLE.to_vec(),
+        valid_file_of(rng, 20),
+        valid_file_of(rng, 38),
+    ];
+    for file in files {
+        for words in 0..=WORDS {
+            calls.push(Call::Judge {
+                file: file.clone(),
+                words,
+            });
+            calls.push(Call::WritePurpose(PurposeCall {
+                file: file.clone(),
+                line: CASH_LINE,
+                words,
+                output: 35,
+            }));
+        }
+    }
+}
+
+fn whole_files(rng: &mut Rng, calls: &mut Vec<Call>) {
+    for _ in 0..200 {
+        let FileCase { file, words, .. } = file_case(rng);
+        calls.push(Call::Judge { file, words });
+    }
+}
+
+/// Files of 65,534 to 65,537 bytes.
+fn files_at_the_limit(rng: &mut Rng, calls: &mut Vec<Call>) {
+    const WAYS: [Damage; 4] = [
+        Damage::GrowToLimit,
+        Damage::GrowPastLimit,
+        Damage::PadToLimit,
+        Damage::PadPastLimit,
+    ];
+    for way in WAYS {
+        let mut grown = EXAMPLE.to_vec();
+        damage(way, rng, &mut grown);
+        for length in 65_534..=65_537 {
+            let mut file = grown.clone();
+            file.resize(length, b'\r');
+            let offset = rng.pick(&[last_line(&file), length - 1, length]);
+            calls.push(Call::Judge {
+                file: file.clone(),
+                words: 4_096,
+            });
+            calls.push(Call::WritePurpose(PurposeCall {
+                file: file.clone(),
+                line: CASH_LINE,
+                words: 4_096,
+                output: 35,
+            }));
+            calls.push(Call::ReadLine { file, offset });
+        }
+    }
+}
+
+/// Every offset of the example, and generated lines.
+fn lines(rng: &mut Rng, calls: &mut Vec<Call>) {
+    let generated = (0..1_500).map(|_| line_call(rng)).collect::<Vec<_>>();
+    let offsets = (0..=EXAMPLE.len() + 1).chain([usize::MAX]);
+    let of_example = offsets.map(|offset| LineCall {
+        file: EXAMPLE.to_vec(),
+        offset,
+        number: 1,
+    });
+    for call in of_example.chain(generated) {
+        calls.push(Call::ReadLine {
+            file: call.file.clone(),
+            offset: call.offset,
+        });
+        calls.push(Call::FindField(call));
+    }
+}
+
+/// Every field number of each line of the example, and fields at the boundaries of their rules, each
+/// line being a file by itself.
+fn fields(calls: &mut Vec<Call>) {
+    for offset in STARTS {
+        for number in (0..=42).chain([usize::MAX]) {
+            calls.push(Call::FindField(LineCall {
+                file: EXAMPLE.to_vec(),
+                offset,
+                number,
+            }));
+        }
+    }
+    // One in 101, to be quick; this is prime, so the steps meet other cases in each field.
+    for case in field_cases().into_iter().step_by(101) {
+        calls.push(Call::ReadLine {
+            file: case.line(),
+            offset: 0,
+        });
+        calls.push(Call::WriteLine(case.writer_call()));
+    }
+}
+
+/// A line of each record: written into outputs of every length and around its own, and with its
+/// text and its ends cut everywhere.
+fn writings(rng: &mut Rng, calls: &mut Vec<Call>) {
+    for record in [10, 20, 30, 40, 50, 60] {
+        let whole = loop {
+            let call = valid_writer_call(rng);
+            if call.record == record {
+                break call;
+            }
+        };
+        let length = whole.text.len() + whole.ends.len() + 5;
+        for output in (0..=BYTES).chain(length - 3..=length + 8) {
+            for fill in [0, 5, output] {
+                let mut call = whole.clone();
+                (call.output, call.fill) = (output, fill);
+                calls.push(Call::WriteLine(call));
+            }
+        }
+        for count in 0..whole.ends.len() {
+            let mut call = whole.clone();
+            call.ends.truncate(count);
+            calls.push(Call::WriteLine(call.clone()));
+            call.text.truncate(call.ends.last().copied().unwrap_or(0));
+            calls.push(Call::WriteLine(call));
+        }
+        for count in 0..whole.text.len() {
+            let mut call = whole.clone();
+            call.text.truncate(count);
+            calls.push(Call::WriteLine(call));
+        }
+    }
+}
+
+fn generated_writings(rng: &mut Rng, calls: &mut Vec<Call>) {
+    for _ in 0..1_500 {
+        calls.push(Call::WriteLine(writer_call(rng)));
+    }
+}
+
+/// Outputs of every length, every line of the example, and generated calls.
+fn purposes(rng: &mut Rng, calls: &mut Vec<Call>) {
+    for output in 0..=BYTES {
+        for line in (0..=6).chain([usize::MAX]) {
+            calls.push(Call::WritePurpose(PurposeCall {
+                file: EXAMPLE.to_vec(),
+                line,
+                words: 6,
+                output,
+            }));
+        }
+    }
+    for _ in 0..300 {
+        calls.push(Call::WritePurpose(purpose_call(rng)));
+    }
+}

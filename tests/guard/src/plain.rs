@@ -1,0 +1,85 @@
+//! Answers a call by the safe functions, on plain buffers.
+
+use crate::call::{Answer, Call, BYTE, WORD};
+use peliranopi::Refused;
+
+/// The answer, with the numbers as the C header has them: 0 where the call refuses.
+pub fn answer(call: &Call) -> Answer {
+    let (mut list, mut output) = lent(call);
+    let (function, result) = result(call, &mut list, &mut output);
+    let (refusal, place, numbers) = match result {
+        Ok(numbers) => (0, 0, numbers),
+        Err((refused, count)) => (refused.why.number(), refused.place, vec![0; count]),
+    };
+    Answer {
+        function,
+        refusal,
+        place,
+        numbers,
+        list,
+        output,
+    }
+}
+
+/// The list and the output that a call lends.
+fn lent(call: &Call) -> (Vec<u32>, Vec<u8>) {
+    let (words, bytes) = match call {
+        Call::Judge { words, .. } => (*words, 0),
+        Call::WriteLine(call) => (0, call.output),
+        Call::WritePurpose(call) => (call.words, call.output),
+        Call::IssueNumber(call) => (0, call.output),
+        _ => (0, 0),
+    };
+    (vec![WORD; words], vec![BYTE; bytes])
+}
+
+/// The function's name and its numbers, or the refusal and how many numbers there are.
+type Named = (&'static str, Result<Vec<u64>, (Refused, usize)>);
+
+fn result(call: &Call, list: &mut [u32], output: &mut [u8]) -> Named {
+    match call {
+        Call::Judge { file, .. } => {
+            let totals = peliranopi::judge(file, list);
+            let numbers = totals.map(|t| [t.lines as u64, t.parcels as u64, t.cents]);
+            named("judge", numbers)
+        }
+        Call::ReadLine { file, offset } => {
+            let line = peliranopi::read_line(file, *offset);
+            let numbers = line.map(|l| [l.record as u64, l.fields as u64, l.next as u64]);
+            named("read_line", numbers)
+        }
+        Call::FindField(call) => {
+            let field = peliranopi::find_field(&call.file, call.offset, call.number);
+            named(
+                "find_field",
+                field.map(|f| [f.start as u64, f.len() as u64]),
+            )
+        }
+        Call::WriteLine(call) => {
+            let (record, fill) = (call.record, call.fill);
+            let written = peliranopi::write_line(record, &call.text, &call.ends, output, fill);
+            named("write_line", written.map(|count| [count as u64]))
+        }
+        Call::WritePurpose(call) => {
+            let written = peliranopi::write_purpose(&call.file, call.line, list, output);
+            named("write_purpose", written.map(|count| [count as u64]))
+        }
+        Call::CheckNumber { symbols } => {
+            let kind = peliranopi::check_number(symbols);
+            named("check_number", kind.map(|kind| [kind as u64]))
+        }
+        Call::IssueNumber(call) => {
+            let written = peliranopi::issue_number(&call.body, output);
+            named("issue_number", written.map(|count| [count as u64]))
+        }
+        Call::CheckIban { symbols } => {
+            let passed = peliranopi::check_iban(symbols);
+            named("check_iban", passed.map(|()| []))
+        }
+    }
+}
+
+fn named<const N: usize>(function: &'static str, numbers: Result<[u64; N], Refused>) -> Named {
+    let numbers = numbers.map(Vec::from).map_err(|refused| (refused, N));
+    (function, numbers)
+}
