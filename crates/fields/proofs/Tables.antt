@@ -1,17 +1,17 @@
 -- The code's tables are the paper's, and no field lies past them.
-use Prim.Native.Nat.{ℕ, zero, suc, _+_, _≤_, _<_}
+use Prim.Native.Nat.{ℕ, zero, suc, _+_, _<_}
 use mathlib.Core.Path.{_≡_, refl, sym, ap, _∙_}
 use mathlib.Core.Bool.{Bool, true, false, _&&_}
 use mathlib.Core.List.{List, [], _∷_}
 use native.Mathlib.Nat.{add-zero, add-suc, suc-add, zero-add, not-suc-le-zero, le-of-suc-le-suc}
 use native.Mathlib.Omega.{arith}
-use lib.Dec.{leb, eqb}
+use lib.Dec.{leb}
 use lib.ListN.{getD}
 use borrow.Author.Tests.{leb-true, lt-leb, ne-eqb}
 use Rattle.text.specs.Scan.{among}
 use Rattle.text.proofs.Choices.{and-left, and-right}
 use Rattle.fields.specs.Record.{rowOf, recordAt}
-use Rattle.fields.specs.Table.{Span, to_wide_, widthIn, widths, widthInTable, required, isRequired}
+use Rattle.fields.specs.Table.{Span, to_wide_, widthIn, widths, widthInTable, isRequired}
 use Rattle.fields.specs.declared.record.Record.{Record}
 use Rattle.fields.specs.declared.record.Record.the-variants.{Header, Sender, Shipment, Parcel, Product, Feature}
 use Rattle.fields.proofs.Records.{at-row}
@@ -42,11 +42,8 @@ module _ (kind : Record) (row n : ℕ) (er : row ≡ rowOf kind) where
   to-record : recordAt row ≡ kind
   to-record = ap recordAt er ∙ at-row kind
 
-  pub width-there : (w : ℕ) → w ≡ widthInTable (recordAt row) n → w ≡ widthInTable kind n
-  width-there w e = e ∙ ap (λ (k : Record). widthInTable k n) to-record
-
-  pub required-there : (t : Bool) → t ≡ isRequired (recordAt row) n → t ≡ isRequired kind n
-  required-there t e = e ∙ ap (λ (k : Record). isRequired k n) to-record
+  pub width-there : (w byte : ℕ) → w ≡ byte → byte ≡ widthInTable (recordAt row) n → w ≡ widthInTable kind n
+  width-there w byte ew e = ew ∙ e ∙ ap (λ (k : Record). widthInTable k n) to-record
 
 -- past the last field of every record
 abbrev spansEnd : List Span → Bool
@@ -58,16 +55,6 @@ past-spans [] n e h = refl
 past-spans (to last wide width ∷ spans) n e h =
     rw (lt-leb n last (omega (arith, leb-true last 40 (and-left (leb last 40) (spansEnd spans) e))))
     (past-spans spans n (and-right (leb last 40) (spansEnd spans) e) h)
-
-abbrev numbersEnd : List ℕ → Bool
-numbersEnd [] = true
-numbersEnd (m ∷ ms) = leb m 40 && numbersEnd ms
-
-past-numbers : (ms : List ℕ) (n : ℕ) → numbersEnd ms ≡ true → 40 < n → among n ms ≡ false
-past-numbers [] n e h = refl
-past-numbers (m ∷ ms) n e h =
-    rw (ne-eqb n m (λ q. omega (arith, leb-true m 40 (and-left (leb m 40) (numbersEnd ms) e))))
-    (past-numbers ms n (and-right (leb m 40) (numbersEnd ms) e) h)
 
 pub no-width : (kind : Record) (n : ℕ) → 40 < n → widthInTable kind n ≡ 0
 unfolding widthInTable widths
@@ -81,14 +68,17 @@ no-width kind n h = rw (ne-eqb n 0 (λ e. omega arith)) (past-spans (widths kind
     ends Product = refl
     ends Feature = refl
 
-pub not-required : (kind : Record) (n : ℕ) → 40 < n → isRequired kind n ≡ false
-unfolding isRequired required
-not-required kind n h = past-numbers (required kind) n (ends kind) h
-  where
-    ends : (kind : Record) → numbersEnd (required kind) ≡ true
-    ends Header = refl
-    ends Sender = refl
-    ends Shipment = refl
-    ends Parcel = refl
-    ends Product = refl
-    ends Feature = refl
+-- a number that is none of these
+abbrev NotIn : ℕ → List ℕ → Type 0
+NotIn n [] = Unit {0}
+NotIn n (m ∷ ms) = (n ≡ m → ⊥) × NotIn n ms
+
+pub none-among : (n : ℕ) (ms : List ℕ) → NotIn n ms → false ≡ among n ms
+none-among n [] h = refl
+none-among n (m ∷ ms) h = rw (ne-eqb n m (h .0)) (none-among n ms (h .1))
+
+pub among-as : (n case : ℕ) (ms : List ℕ) (t : Bool) → n ≡ case → t ≡ among case ms → t ≡ among n ms
+among-as n case ms t e f = rw e f
+
+pub required-as : (kind case : Record) (n : ℕ) (t : Bool) → kind ≡ case → t ≡ isRequired case n → t ≡ isRequired kind n
+required-as kind case n t e f = rw e f

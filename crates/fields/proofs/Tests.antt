@@ -1,8 +1,10 @@
 -- The one test of a field, by the cases that the code meets.
 use Prim.Native.Nat.{ℕ, _≤_, _<_}
-use mathlib.Core.Path.{_≡_, refl, sym, ap, _∙_}
-use mathlib.Core.Bool.{Bool, true, false, _&&_}
+use mathlib.Core.Path.{_≡_, refl}
+use mathlib.Core.Bool.{Bool, true, false}
 use mathlib.Core.List.{List}
+use native.Mathlib.Omega.{arith}
+use lib.Dec.{ltb}
 use lib.ListN.{length}
 use borrow.Author.Tests.{lt-ltb, le-ltb, eq-eqb, ne-eqb}
 use Rattle.refusal.specs.declared.Refusal.the-variants.{FieldTooLong, FieldEmpty, FieldForm}
@@ -11,7 +13,6 @@ use Rattle.fields.specs.Table.{isRequired}
 use Rattle.fields.specs.Field.{isCashReference, widthOf, tested}
 use Rattle.fields.specs.declared.record.Record.{Record}
 use Rattle.fields.specs.declared.record.Record.the-variants.{Header, Sender, Shipment, Parcel, Product, Feature}
-use Rattle.fields.specs.declared.field.Tested.{Tested}
 use Rattle.fields.specs.declared.field.Tested.the-variants.{Good, Bad}
 
 -- only field 2 of a 060 line is a reference
@@ -33,22 +34,25 @@ pub reference-here : (kind : Record) (n : ℕ) (beside : List ℕ) (t : Bool) �
 unfolding isCashReference
 reference-here kind n beside t ek en e = rw (ek, eq-eqb n 2 en) e
 
-module _ (kind : Record) (n : ℕ) (beside f : List ℕ) (w : ℕ) (ew : w ≡ widthOf kind n beside) where
-  pub too-long : w < length f → Bad FieldTooLong ≡ tested kind n beside f
-  unfolding tested
-  too-long h = simp (← ew, lt-ltb w (length f))
+module _ (kind : Record) (n : ℕ) (beside f : List ℕ) where
+  module _ (empty : length f ≡ 0) (t : Bool) (et : t ≡ isRequired kind n) where
+    never-long : ltb (widthOf kind n beside) (length f) ≡ false
+    never-long = le-ltb (widthOf kind n beside) (length f) (omega arith)
 
-  module _ (h : length f ≤ w) where
-    module _ (empty : length f ≡ 0) (t : Bool) (et : t ≡ isRequired kind n) where
-      pub empty-bad : t ≡ true → Bad FieldEmpty ≡ tested kind n beside f
-      unfolding tested
-      empty-bad e = simp (← ew, le-ltb w (length f), eq-eqb (length f) 0, ← et, e)
+    pub empty-bad : t ≡ true → Bad FieldEmpty ≡ tested kind n beside f
+    unfolding tested
+    empty-bad e = simp (never-long, eq-eqb (length f) 0, ← et, e)
 
-      pub empty-good : t ≡ false → Good ≡ tested kind n beside f
-      unfolding tested
-      empty-good e = simp (← ew, le-ltb w (length f), eq-eqb (length f) 0, ← et, e)
+    pub empty-good : t ≡ false → Good ≡ tested kind n beside f
+    unfolding tested
+    empty-good e = simp (never-long, eq-eqb (length f) 0, ← et, e)
 
-    module _ (filled : length f ≡ 0 → ⊥) (t : Bool) (et : t ≡ hasForm kind n beside f) where
+  module _ (w : ℕ) (ew : w ≡ widthOf kind n beside) where
+    pub too-long : w < length f → Bad FieldTooLong ≡ tested kind n beside f
+    unfolding tested
+    too-long h = simp (← ew, lt-ltb w (length f))
+
+    module _ (h : length f ≤ w) (filled : length f ≡ 0 → ⊥) (t : Bool) (et : t ≡ hasForm kind n beside f) where
       pub form-good : t ≡ true → Good ≡ tested kind n beside f
       unfolding tested
       form-good e = simp (← ew, le-ltb w (length f), ne-eqb (length f) 0, ← et, e)

@@ -15,14 +15,15 @@ pub enum Tested {
 pub fn test_field(kind: Record, number: usize, beside: &[u8], field: &[u8]) -> Tested
     ensures { λ r. ⌜ r ≡ tested kind number (now (beside .entry)) (now (field .entry)) ⌝ }
 {
-    if width_of(kind, number, beside) < field.len() {
-        return Tested::Bad(Refusal::FieldTooLong);
-    }
+    // No empty field is too long, and most fields are empty: so this is asked first.
     if field.len() == 0 {
         if table::is_required(kind, number) {
             return Tested::Bad(Refusal::FieldEmpty);
         }
         return Tested::Good;
+    }
+    if width_of(kind, number, beside) < field.len() {
+        return Tested::Bad(Refusal::FieldTooLong);
     }
     if form::has_form(kind, number, beside, field) {
         return Tested::Good;

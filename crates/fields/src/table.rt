@@ -1,5 +1,6 @@
 // The tables of document 01: how wide each field may be, and which must be filled. The first index is the kind, the second the
-// number of the field; no field has the number 0 or one above its record's last.
+// number of the field; no field has the number 0 or one above its record's last. Widths are bytes because a table is laid out anew
+// wherever it is read.
 ghost use mathlib.Core.Path.{_≡_};
 ghost use Prim.Native.Nat.{_<_};
 ghost use Rattle.fields.specs.Record.{rowOf, recordAt};
@@ -7,7 +8,7 @@ ghost use Rattle.fields.specs.Table.{widthInTable, isRequired};
 use crate::record;
 use crate::record::Record;
 
-const WIDTHS: [[usize; 41]; 6] = [
+const WIDTHS: [[u8; 41]; 6] = [
     // 010
     [
         0,
@@ -330,296 +331,6 @@ const WIDTHS: [[usize; 41]; 6] = [
     ],
 ];
 
-const REQUIRED: [[bool; 41]; 6] = [
-    // 010: 1, 2, 3, 4, 5, 6
-    [
-        false,
-        // 1
-        true,
-        // 2
-        true,
-        // 3
-        true,
-        // 4
-        true,
-        // 5
-        true,
-        // 6
-        true,
-        false,
-        false,
-        false,
-        false,
-        false,
-        false,
-        false,
-        false,
-        false,
-        false,
-        false,
-        false,
-        false,
-        false,
-        false,
-        false,
-        false,
-        false,
-        false,
-        false,
-        false,
-        false,
-        false,
-        false,
-        false,
-        false,
-        false,
-        false,
-        false,
-        false,
-        false,
-        false,
-        false,
-        false,
-    ],
-    // 020: 1, 5, 6, 7, 9, 11, 12, 13
-    [
-        false,
-        // 1
-        true,
-        false,
-        false,
-        false,
-        // 5
-        true,
-        // 6
-        true,
-        // 7
-        true,
-        false,
-        // 9
-        true,
-        false,
-        // 11
-        true,
-        // 12
-        true,
-        // 13
-        true,
-        false,
-        false,
-        false,
-        false,
-        false,
-        false,
-        false,
-        false,
-        false,
-        false,
-        false,
-        false,
-        false,
-        false,
-        false,
-        false,
-        false,
-        false,
-        false,
-        false,
-        false,
-        false,
-        false,
-        false,
-        false,
-        false,
-        false,
-    ],
-    // 030: 16, 20, 21, 22, 24, 26
-    [
-        false,
-        false,
-        false,
-        false,
-        false,
-        false,
-        false,
-        false,
-        false,
-        false,
-        false,
-        false,
-        false,
-        false,
-        false,
-        false,
-        // 16
-        true,
-        false,
-        false,
-        false,
-        // 20
-        true,
-        // 21
-        true,
-        // 22
-        true,
-        false,
-        // 24
-        true,
-        false,
-        // 26
-        true,
-        false,
-        false,
-        false,
-        false,
-        false,
-        false,
-        false,
-        false,
-        false,
-        false,
-        false,
-        false,
-        false,
-        false,
-    ],
-    // 040: 1
-    [
-        false,
-        // 1
-        true,
-        false,
-        false,
-        false,
-        false,
-        false,
-        false,
-        false,
-        false,
-        false,
-        false,
-        false,
-        false,
-        false,
-        false,
-        false,
-        false,
-        false,
-        false,
-        false,
-        false,
-        false,
-        false,
-        false,
-        false,
-        false,
-        false,
-        false,
-        false,
-        false,
-        false,
-        false,
-        false,
-        false,
-        false,
-        false,
-        false,
-        false,
-        false,
-        false,
-    ],
-    // 050: 1
-    [
-        false,
-        // 1
-        true,
-        false,
-        false,
-        false,
-        false,
-        false,
-        false,
-        false,
-        false,
-        false,
-        false,
-        false,
-        false,
-        false,
-        false,
-        false,
-        false,
-        false,
-        false,
-        false,
-        false,
-        false,
-        false,
-        false,
-        false,
-        false,
-        false,
-        false,
-        false,
-        false,
-        false,
-        false,
-        false,
-        false,
-        false,
-        false,
-        false,
-        false,
-        false,
-        false,
-    ],
-    // 060: 1
-    [
-        false,
-        // 1
-        true,
-        false,
-        false,
-        false,
-        false,
-        false,
-        false,
-        false,
-        false,
-        false,
-        false,
-        false,
-        false,
-        false,
-        false,
-        false,
-        false,
-        false,
-        false,
-        false,
-        false,
-        false,
-        false,
-        false,
-        false,
-        false,
-        false,
-        false,
-        false,
-        false,
-        false,
-        false,
-        false,
-        false,
-        false,
-        false,
-        false,
-        false,
-        false,
-        false,
-    ],
-];
-
 // How wide the table lets a field be; 0 where there is no such field.
 pub fn table_width(kind: Record, number: usize) -> usize
     ensures { λ r. ⌜ r ≡ widthInTable kind number ⌝ }
@@ -627,29 +338,76 @@ pub fn table_width(kind: Record, number: usize) -> usize
     if 40 < number {
         return 0;
     }
-    width_at(record::row(kind), number)
+    wide(width_at(record::row(kind), number))
 }
 
 // Whether a field must be filled.
 pub fn is_required(kind: Record, number: usize) -> bool
     ensures { λ r. ⌜ r ≡ isRequired kind number ⌝ }
 {
-    if 40 < number {
-        return false;
+    match kind {
+        Record::Header => is_header_duty(number),
+        Record::Sender => is_sender_duty(number),
+        Record::Shipment => is_shipment_duty(number),
+        Record::Parcel => number == 1,
+        Record::Product => number == 1,
+        Record::Feature => number == 1,
     }
-    required_at(record::row(kind), number)
 }
 
-fn width_at(row: usize, number: usize) -> usize
+fn is_header_duty(number: usize) -> bool
+    ensures { λ r. ⌜ r ≡ isRequired Record.Header number ⌝ }
+{
+    match number {
+        1 => true,
+        2 => true,
+        3 => true,
+        4 => true,
+        5 => true,
+        6 => true,
+        _ => false,
+    }
+}
+
+fn is_sender_duty(number: usize) -> bool
+    ensures { λ r. ⌜ r ≡ isRequired Record.Sender number ⌝ }
+{
+    match number {
+        1 => true,
+        5 => true,
+        6 => true,
+        7 => true,
+        9 => true,
+        11 => true,
+        12 => true,
+        13 => true,
+        _ => false,
+    }
+}
+
+fn is_shipment_duty(number: usize) -> bool
+    ensures { λ r. ⌜ r ≡ isRequired Record.Shipment number ⌝ }
+{
+    match number {
+        16 => true,
+        20 => true,
+        21 => true,
+        22 => true,
+        24 => true,
+        26 => true,
+        _ => false,
+    }
+}
+
+fn width_at(row: usize, number: usize) -> u8
     requires { ⌜ (row < 6) × (number < 41) ⌝ }
     ensures { λ r. ⌜ r ≡ widthInTable (recordAt row) number ⌝ }
 {
     WIDTHS[row][number]
 }
 
-fn required_at(row: usize, number: usize) -> bool
-    requires { ⌜ (row < 6) × (number < 41) ⌝ }
-    ensures { λ r. ⌜ r ≡ isRequired (recordAt row) number ⌝ }
+fn wide(width: u8) -> usize
+    ensures { λ r. ⌜ r ≡ width ⌝ }
 {
-    REQUIRED[row][number]
+    width as usize
 }

@@ -55,7 +55,7 @@ module _ (kind : Record) (n : ℕ) (beside f : List ℕ) where
   field-good g =
       ⊎-elim
       (λ (z : length f ≡ 0). ⊎-elim (λ (r : isRequired kind n ≡ true). absurd (g .filled r z))
-      (λ r. sym (empty-good kind n beside f (widthOf kind n beside) refl (g .fits) z (isRequired kind n) refl r))
+      (λ r. sym (empty-good kind n beside f z (isRequired kind n) refl r))
       (true-or-false (isRequired kind n)))
       (λ z. sym (form-good kind n beside f (widthOf kind n beside) refl (g .fits) z (hasForm kind n beside f) refl (g .formed z)))
       (eq-or-ne (length f) 0)

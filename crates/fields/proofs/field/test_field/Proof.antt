@@ -10,5 +10,5 @@ pub test-field-spec : {M : Type 1} → statement M
 test-field-spec =
     tie.close
     (tie.spec
-    (λ c κs. search laws) (λ c. search laws) (λ c κs. search laws) (λ c. search laws) (λ c. search laws)
-    (λ c κs. search laws) (λ c. search laws) (λ c. search laws))
+    (λ c κs. search laws) (λ c. search laws) (λ c. search laws) (λ c κs. search laws) (λ c. search laws) (λ c κs. search laws)
+    (λ c. search laws) (λ c. search laws))

@@ -8,4 +8,4 @@ use Rattle.fields.proofs.table.table_width.Tie as tie
 ruleset laws = (needs, row-below, width-there, no-width)
 
 pub table-width-spec : {M : Type 1} → statement M
-table-width-spec = tie.close (tie.spec (λ c. search laws) (λ c κs. search laws) (λ c κs. search laws) (λ c. search laws))
+table-width-spec = tie.close (tie.spec (λ c. search laws) (λ c κs. search laws) (λ c κs. search laws) (λ c κs. search laws) (λ c. search laws))

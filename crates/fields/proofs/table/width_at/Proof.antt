@@ -13,4 +13,4 @@ returns c = table-at (λ row n. widthInTable (recordAt row) n) 0 (c .before .arg
     (search needs)
 
 pub width-at-spec : {M : Type 1} → statement M
-width-at-spec = tie.close (tie.spec (λ c. search needs) (λ c. search needs) (λ c. search needs) (λ c. search needs) returns)
+width-at-spec = tie.close (tie.spec (λ c. search needs) (λ c. search needs) (λ c. search needs) returns)
