@@ -136,3 +136,8 @@ one-division (l ∷ ls) (k ∷ ks) p q e =
     let first : l ≡ k = ap (line-with (l .fields)) (o .0) ∙ ap (λ (fs : List (List ℕ)). line-with fs (k .kind)) (o .1 .0) in
     let others = one-division ls ks (p .1) (q .1) (o .1 .1) in
     ap (λ (x : FileLine). x ∷ ls) first ∙ ap (λ (xs : List FileLine). k ∷ xs) others
+
+-- the list has a word for each line
+pub starts-count : (at : ℕ) (ls : List FileLine) → length (lineStarts at ls) ≡ length ls
+starts-count at [] = refl
+starts-count at (l ∷ ls) = ap suc (starts-count (at + length (lineBytes l)) ls)

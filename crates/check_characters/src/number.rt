@@ -85,7 +85,8 @@ fn check_as(kind: Kind, s: &[u8]) -> NumberAnswer
 // Issues a number from a body that is one symbol shorter than its kind.
 fn issue_as(kind: Kind, body: &[u8], out: &mut [u8]) -> IssueAnswer
     requires { ⌜ length (now body) + 1 ≡ lengthOf kind ⌝ }
-    ensures { λ r. ⌜ (r ≡ issueAs kind (now (body .entry)) (length (now (out .entry)))) × (now (out .exit) ≡ issuedTo r (now (body .entry)) (now (out .entry))) ⌝ }
+    ensures { λ r. ⌜ (r ≡ issueAs kind (now (body .entry)) (length (now (out .entry))))
+        × (now (out .exit) ≡ issuedTo r (now (body .entry)) (now (out .entry))) ⌝ }
 {
     let n = body.len();
     let whole = n + 1;

@@ -1,17 +1,16 @@
 -- The form of a field, by the cases that the code meets.
 use Prim.Native.Nat.{ℕ}
 use mathlib.Core.Path.{_≡_, refl, sym, ap, _∙_}
-use mathlib.Core.Bool.{Bool, true, false, _&&_}
-use mathlib.Core.List.{List}
-use lib.Dec.{eqb}
-use borrow.Author.Tests.{eq-eqb, ne-eqb}
+use mathlib.Core.Bool.{Bool, true, false}
+use mathlib.Core.List.{List, [], _∷_}
+use borrow.Author.Tests.{ne-eqb}
 use Rattle.check_characters.specs.Iban as iban
 use Rattle.check_characters.specs.declared.iban.IbanAnswer.{IbanAnswer}
 use Rattle.check_characters.specs.declared.iban.IbanAnswer.the-variants.{Accepted, Refused}
 use Rattle.refusal.specs.declared.Refusal.{Refusal}
-use Rattle.fields.specs.Form.{accepted, isIban, isCash, Row, formsOf, hasFormIn, hasForm}
+use Rattle.fields.specs.Form.{field_is_, accepted, isIban, Row, formsOf, hasFormIn, hasForm}
 use Rattle.fields.specs.declared.record.Record.{Record}
-use Rattle.fields.specs.declared.record.Record.the-variants.{Header, Sender, Shipment, Parcel, Product, Feature}
+use Rattle.fields.specs.declared.record.Record.the-variants.{Product}
 
 module _ (f : List ℕ) (a : IbanAnswer) (ea : a ≡ iban.checked f) where
   pub iban-good : a ≡ Accepted → true ≡ isIban f
@@ -34,31 +33,11 @@ pub no-form : (kind : Record) (n : ℕ) (beside f : List ℕ) → kind ≡ Produ
 unfolding hasForm formsOf
 no-form kind n beside f e = rw e
 
--- a number that no arm names
-module _ (n : ℕ) (beside f : List ℕ) where
-  pub shipment-rest : (n ≡ 1 → ⊥) → (n ≡ 2 → ⊥) → (n ≡ 7 → ⊥) → (n ≡ 8 → ⊥) → (n ≡ 20 → ⊥) → (n ≡ 21 → ⊥) → (n ≡ 39 → ⊥) →
-      true ≡ hasFormIn (formsOf Shipment) n beside f
-  unfolding formsOf
-  shipment-rest h1 h2 h7 h8 h20 h21 h39 = simp (
-    ne-eqb n 1 h1,
-    ne-eqb n 2 h2,
-    ne-eqb n 7 h7,
-    ne-eqb n 8 h8,
-    ne-eqb n 20 h20,
-    ne-eqb n 21 h21,
-    ne-eqb n 39 h39,
-  )
+-- a number that no row names
+abbrev Unnamed : ℕ → List Row → Type 0
+Unnamed n [] = Unit {0}
+Unnamed n (field number is form ∷ rows) = (n ≡ number → ⊥) × Unnamed n rows
 
-  pub feature-rest : (n ≡ 1 → ⊥) → (n ≡ 2 → ⊥) → (n ≡ 3 → ⊥) → (n ≡ 4 → ⊥) → (n ≡ 6 → ⊥) → (n ≡ 7 → ⊥) → (n ≡ 8 → ⊥) → (n ≡ 9 → ⊥) →
-      true ≡ hasFormIn (formsOf Feature) n beside f
-  unfolding formsOf
-  feature-rest h1 h2 h3 h4 h6 h7 h8 h9 = simp (
-    ne-eqb n 1 h1,
-    ne-eqb n 2 h2,
-    ne-eqb n 3 h3,
-    ne-eqb n 4 h4,
-    ne-eqb n 6 h6,
-    ne-eqb n 7 h7,
-    ne-eqb n 8 h8,
-    ne-eqb n 9 h9,
-  )
+pub no-row : (rows : List Row) (n : ℕ) (beside f : List ℕ) → Unnamed n rows → true ≡ hasFormIn rows n beside f
+no-row [] n beside f h = refl
+no-row (field number is form ∷ rows) n beside f h = rw (ne-eqb n number (h .0)) (no-row rows n beside f (h .1))

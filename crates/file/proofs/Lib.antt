@@ -9,3 +9,4 @@ pub mod Finding
 pub mod Cashing
 pub mod Stepping
 pub mod Going
+pub mod Unlisted

@@ -1,44 +1,20 @@
 -- Two codes and the first digit at which they are unlike.
-use Prim.Native.Nat.{ℕ, suc, _+_, _-_, _<_, _≤_}
-use mathlib.Core.Path.{_≡_, refl, sym, ap, _∙_}
-use mathlib.Core.Bool.{Bool, true, false}
+use Prim.Native.Nat.{ℕ, _-_, _<_, _≤_}
+use mathlib.Core.Path.{_≡_, sym, ap, _∙_}
+use mathlib.Core.Bool.{true, false}
 use mathlib.Core.Logic.{⊎-elim}
-use mathlib.Core.List.{List, [], _∷_}
+use mathlib.Core.List.{List}
 use native.Mathlib.Nat.{zero-add}
 use native.Mathlib.Omega.{arith}
 use lib.Dec.{leb, eqb}
 use lib.ListN.{length, getD}
 use lib.Seq.{ext-getD}
 use borrow.Author.Tests.{le-leb, leb-true, eq-eqb, eqb-true, eqb-false}
-use Rattle.text.specs.Choice.{if_then_else_}
-use Rattle.text.specs.Scan.{firstFailing, same}
+use Rattle.text.specs.Scan.{same}
 use Rattle.text.proofs.Choices.{true-or-false, clash}
+use Rattle.text.proofs.Runs.{first-fails}
 use Rattle.text.proofs.Scans.{none-fails, all-pass, same-eq, same-refl}
 use Rattle.file.specs.Tree.{unlikeAt}
-
--- the first byte that fails a test fails it
-first-after : (ok : ℕ → ℕ → Bool) (i : ℕ) (s : List ℕ) → i ≤ firstFailing ok i s
-first-after ok i [] = omega arith
-first-after ok i (b ∷ s) = go (ok i b) (first-after ok (suc i) s)
-  where
-    go : (t : Bool) → suc i ≤ firstFailing ok (suc i) s → i ≤ (if t then firstFailing ok (suc i) s else i)
-    go true h = omega arith
-    go false h = omega arith
-
-first-fails : (ok : ℕ → ℕ → Bool) (i : ℕ) (s : List ℕ) → firstFailing ok i s < i + length s →
-    ok (firstFailing ok i s) (getD s (firstFailing ok i s - i) 0) ≡ false
-first-fails ok i [] h = absurd (omega arith)
-first-fails ok i (b ∷ s) h = go (ok i b) refl h (λ l. first-fails ok (suc i) s l)
-  where
-    go : (t : Bool) → ok i b ≡ t → (if t then firstFailing ok (suc i) s else i) < i + suc (length s) →
-        (firstFailing ok (suc i) s < suc i + length s →
-        ok (firstFailing ok (suc i) s) (getD s (firstFailing ok (suc i) s - suc i) 0) ≡ false) →
-        ok (if t then firstFailing ok (suc i) s else i) (getD (b ∷ s) ((if t then firstFailing ok (suc i) s else i) - i) 0) ≡ false
-    go true e l on =
-        let f = firstFailing ok (suc i) s in
-        let k : f - i ≡ suc (f - suc i) = omega (arith, first-after ok (suc i) s) in
-        rw k (on (omega arith))
-    go false e l on = let k : i - i ≡ 0 = omega arith in rw k e
 
 -- codes that are the same are unlike nowhere
 pub unlike-same : (a b : List ℕ) (n : ℕ) → length a ≡ n → length b ≡ n → leb n (unlikeAt a b) ≡ same a b

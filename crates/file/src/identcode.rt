@@ -12,8 +12,10 @@ use fields::Record;
 
 // Whether the line of this record that starts here repeats an identcode of the tree; one that is new is put into it.
 pub fn is_repeated(kind: Record, s: &[u8], codes: &mut [u32], parcels: usize, at: usize) -> bool
-    requires { ⌜ Tree (now s) parcels (now codes) × (parcels ≤ 2340) × (at < 65536) × (kind ≡ Parcel → digits 22 (identcodeAt (now s) at) ≡ true) ⌝ }
-    ensures { λ r. ⌜ (r ≡ isThereFor kind (now (s .entry)) (now (codes .entry)) parcels at) × (now (codes .exit) ≡ grownFor kind (now (s .entry)) (now (codes .entry)) parcels at) ⌝ }
+    requires { ⌜ Tree (now s) parcels (now codes) × (parcels ≤ 2340) × (at < 65536)
+        × (kind ≡ Parcel → digits 22 (identcodeAt (now s) at) ≡ true) ⌝ }
+    ensures { λ r. ⌜ (r ≡ isThereFor kind (now (s .entry)) (now (codes .entry)) parcels at)
+        × (now (codes .exit) ≡ grownFor kind (now (s .entry)) (now (codes .entry)) parcels at) ⌝ }
 {
     match kind {
         Record::Header => false,

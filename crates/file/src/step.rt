@@ -33,10 +33,12 @@ pub enum Step {
 
 // Judges the line where the state is; the list holds the offsets of the lines before it, and the tree their identcodes.
 pub fn one_line(s: &[u8], words: &[u32], codes: &mut [u32], state: State) -> Step
-    requires { ⌜ (state .at < 65536) × (state .lines ≤ state .at) × (state .lines ≤ length (now words)) × (state .parcels ≤ state .lines) × (state .cents ≤ 99999999 * state .lines) ⌝ }
+    requires { ⌜ (state .at < 65536) × (state .lines ≤ state .at) × (state .lines ≤ length (now words)) × (state .parcels ≤ state .lines)
+        × (state .cents ≤ 99999999 * state .lines) ⌝ }
     requires { ⌜ Sown (now s) (take (state .lines) (now words)) (state .parcels) (now codes) × (state .parcels ≤ 2340) ⌝ }
     ensures { λ r. ⌜ r ≡ stepAnswer (now (s .entry)) (length (now (words .entry))) (take (state .lines) (now (words .entry))) state ⌝ }
-    ensures { λ r. ⌜ ((next : State) → r ≡ Next next → Sown (now (s .entry)) (take (state .lines) (now (words .entry)) ++ (state .at ∷ [])) (next .parcels) (now (codes .exit))) ⌝ }
+    ensures { λ r. ⌜ ((next : State) → r ≡ Next next →
+        Sown (now (s .entry)) (take (state .lines) (now (words .entry)) ++ (state .at ∷ [])) (next .parcels) (now (codes .exit))) ⌝ }
 {
     let at = state.at;
     let lines = state.lines;
@@ -63,7 +65,8 @@ pub fn one_line(s: &[u8], words: &[u32], codes: &mut [u32], state: State) -> Ste
 
 // The state behind an accepted line.
 fn behind_line(s: &[u8], state: State, line: Line) -> State
-    requires { ⌜ (lineAnswer (state .due) (now s) (state .at) ≡ Accepted line) × (state .at < 65536) × (state .lines ≤ state .at) × (state .parcels ≤ state .lines) × (state .cents ≤ 99999999 * state .lines) ⌝ }
+    requires { ⌜ (lineAnswer (state .due) (now s) (state .at) ≡ Accepted line) × (state .at < 65536) × (state .lines ≤ state .at)
+        × (state .parcels ≤ state .lines) × (state .cents ≤ 99999999 * state .lines) ⌝ }
     ensures { λ r. ⌜ r ≡ behind (now (s .entry)) state line ⌝ }
 {
     let at = state.at;

@@ -11,7 +11,8 @@ ghost use Rattle.file.specs.Tree.{fork, digitOf, leadsTo, wordsOf, slotO
 // Whether the tree of so many parcels has the identcode of the parcel line that starts here; one that it has not is put into it.
 pub fn find_or_grow(s: &[u8], tree: &mut [u32], parcels: usize, at: usize) -> bool
     requires { ⌜ Tree (now s) parcels (now tree) × (parcels ≤ 2340) × (at < 65536) × (digits 22 (identcodeAt (now s) at) ≡ true) ⌝ }
-    ensures { λ r. ⌜ (r ≡ isThere (now (s .entry)) (now (tree .entry)) parcels at) × (now (tree .exit) ≡ grown (now (s .entry)) (now (tree .entry)) parcels at) ⌝ }
+    ensures { λ r. ⌜ (r ≡ isThere (now (s .entry)) (now (tree .entry)) parcels at)
+        × (now (tree .exit) ≡ grown (now (s .entry)) (now (tree .entry)) parcels at) ⌝ }
 {
     if parcels == 0 {
         tree[0] = at as u32;

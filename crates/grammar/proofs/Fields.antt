@@ -2,7 +2,7 @@
 use Prim.Native.Nat.{ℕ, zero, suc, _+_, _-_, _≤_, _<_}
 use mathlib.Core.Path.{_≡_, refl, sym}
 use mathlib.Core.Bool.{Bool, true, false}
-use mathlib.Core.List.{List, [], _∷_, _++_}
+use mathlib.Core.List.{List, [], _∷_}
 use mathlib.Core.Logic.{⊎-elim}
 use native.Mathlib.Nat.{add-zero, add-suc, suc-add, not-suc-le-zero, le-of-suc-le-suc}
 use native.Mathlib.Omega.{arith}
@@ -13,6 +13,7 @@ use Rattle.text.specs.Choice.{if_then_else_}
 use Rattle.text.specs.Byte.{textByte}
 use Rattle.text.specs.Scan.{all}
 use Rattle.text.proofs.Choices.{and-left, and-right, and-both, came-then, came-else, true-or-false}
+use Rattle.text.proofs.Runs.{all-append}
 use Rattle.text.proofs.Numbers.{eq-or-ne}
 use Rattle.refusal.specs.declared.Refusal.{Refusal}
 use Rattle.refusal.specs.declared.Refusal.the-variants.{FieldTooLong, FieldEmpty, FieldForm}
@@ -115,11 +116,6 @@ plain-text b e = and-left (textByte b) (inField b) e
 
 pub plain-in-field : (b : ℕ) → plain b ≡ true → inField b ≡ true
 plain-in-field b e = and-right (textByte b) (inField b) e
-
-pub all-append : (ok : ℕ → Bool) (f g : List ℕ) → all ok f ≡ true → all ok g ≡ true → all ok (f ++ g) ≡ true
-all-append ok [] g e d = d
-all-append ok (b ∷ f) g e d = and-both (ok b) (all ok (f ++ g)) (and-left (ok b) (all ok f) e)
-    (all-append ok f g (and-right (ok b) (all ok f) e) d)
 
 pub joined-text : (fs : List (List ℕ)) → allIn textByte fs ≡ true → all textByte (joined fs) ≡ true
 joined-text [] e = refl

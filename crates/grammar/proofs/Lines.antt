@@ -14,6 +14,7 @@ use Rattle.text.specs.Byte.{textByte}
 use Rattle.text.specs.Quoted.{bytes}
 use Rattle.text.specs.Scan.{all}
 use Rattle.text.proofs.Choices.{and-left, came-else}
+use Rattle.text.proofs.Runs.{run-once}
 use Rattle.refusal.specs.declared.Refusal.the-variants.{FileTooLong, NoLineEnd}
 use Rattle.forms.specs.Shape.{digits, allDigits}
 use Rattle.fields.specs.Record.{typeOf, mayCome}
@@ -28,7 +29,7 @@ use Rattle.line.specs.Line.{lineEnd, endsWell, textAt, ofText, lineAnswer}
 use Rattle.line.specs.declared.read.Line.{Line}
 use Rattle.line.specs.declared.read.LineAnswer.the-variants.{Accepted, Refused}
 use Rattle.grammar.specs.Grammar.{joined, textOf, render, fieldNo, LineOk, Reads}
-use Rattle.grammar.proofs.Ends.{run-once, ended, ends-at, ends-well, text-there}
+use Rattle.grammar.proofs.Ends.{ended, ends-at, ends-well, text-there}
 use Rattle.grammar.proofs.Texts.{refused, type-long, type-tells, text-split, text-bytes, text-accepted, accepted-text}
 
 pub render-long : (kind : Record) (fs : List (List ℕ)) → length (render kind fs) ≡ length (textOf kind fs) + 2

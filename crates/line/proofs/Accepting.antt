@@ -1,7 +1,7 @@
 -- What an accepted line tells: each test passed, and the answer names the line's own record, count and next start.
 use Prim.Native.Nat.{ℕ, _+_, _-_, _≤_, _<_}
 use mathlib.Core.Path.{_≡_, refl, sym, ap, _∙_}
-use mathlib.Core.Bool.{Bool, true, false, not}
+use mathlib.Core.Bool.{true, false, not}
 use mathlib.Core.List.{List}
 use native.Mathlib.Omega.{arith}
 use lib.Dec.{ltb}
@@ -10,8 +10,9 @@ use borrow.Author.Tests.{ltb-false, not-false}
 use Rattle.text.specs.Byte.{textByte}
 use Rattle.text.specs.Choice.{if_then_else_}
 use Rattle.text.proofs.Choices.{came-else}
+use Rattle.text.proofs.Runs.{first-least, first-most}
 use Rattle.refusal.specs.declared.Refusal.{Refusal}
-use Rattle.refusal.specs.declared.Refusal.the-variants.{FileTooLong, NoLineEnd, UnknownRecord, OutOfOrder, FieldCount, FeatureLacks}
+use Rattle.refusal.specs.declared.Refusal.the-variants.{FileTooLong, NoLineEnd, OutOfOrder, FieldCount, FeatureLacks}
 use Rattle.fields.specs.Record.{named, countFits, mayCome}
 use Rattle.fields.specs.declared.record.Record.{Record}
 use Rattle.fields.specs.declared.record.Named.{Named}
@@ -26,7 +27,6 @@ use Rattle.line.specs.declared.walk.Walk.the-variants.{Fine, Stopped}
 use Rattle.line.specs.declared.read.Line.{Line}
 use Rattle.line.specs.declared.read.LineAnswer.{LineAnswer}
 use Rattle.line.specs.declared.read.LineAnswer.the-variants.{Accepted, Refused}
-use Rattle.line.proofs.Parts.{first-least, first-most}
 
 pub refused : {why : Refusal} {place : ℕ} {l : Line} → Refused why place ≡ Accepted l → ⊥
 refused e = let z : _≡_ {A = ℕ} 0 1 = cc in omega arith
@@ -110,18 +110,18 @@ line-ok due s at l e =
 module _ (due : Due) (s : List ℕ) (at : ℕ) (l : Line) (g : LineAt due s at l) where
   text-long : length (textAt s at) ≡ lineEnd s at - at
   text-long =
-      let above = first-least textByte at (drop at s) in
-      let below = first-most textByte at (drop at s) in
+      let above = first-least (λ _ b. textByte b) at (drop at s) in
+      let below = first-most (λ _ b. textByte b) at (drop at s) in
       omega (arith, length-take (lineEnd s at - at) (drop at s), length-drop at s, g .inside)
 
   pub next-is : l .next ≡ lineEnd s at + 2
-  next-is = omega (arith, g .text .ends, text-long, first-least textByte at (drop at s))
+  next-is = omega (arith, g .text .ends, text-long, first-least (λ _ b. textByte b) at (drop at s))
 
   pub end-inside : lineEnd s at ≤ length s
-  end-inside = omega (arith, first-most textByte at (drop at s), length-drop at s, g .inside)
+  end-inside = omega (arith, first-most (λ _ b. textByte b) at (drop at s), length-drop at s, g .inside)
 
   pub end-after : at ≤ lineEnd s at
-  end-after = first-least textByte at (drop at s)
+  end-after = first-least (λ _ b. textByte b) at (drop at s)
 
 -- the text of an accepted line, as the callers take it from the answer
 module _ (due : Due) (s : List ℕ) (at : ℕ) (a : LineAnswer) (ea : a ≡ lineAnswer due s at) (l : Line) (el : a ≡ Accepted l) where

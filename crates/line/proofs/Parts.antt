@@ -1,50 +1,22 @@
 -- The parts of a line, one after the other: what is left of them at a place, the part that starts there, and where the next starts.
 use Prim.Native.Nat.{ℕ, zero, suc, _+_, _-_, _≤_, _<_}
 use mathlib.Core.Path.{_≡_, refl, sym, ap, _∙_}
-use mathlib.Core.Bool.{Bool, true, false, not}
+use mathlib.Core.Bool.{Bool, true, false}
 use mathlib.Core.List.{List, [], _∷_}
 use mathlib.Core.Logic.{⊎-elim}
-use native.Mathlib.Nat.{add-zero, add-suc, suc-add, zero-add}
-use native.Mathlib.Numerals.{add-one}
+use native.Mathlib.Nat.{add-zero, zero-add}
 use native.Mathlib.Omega.{arith}
-use lib.Dec.{leb, ltb, eqb, leb·suc-suc}
-use lib.ListN.{length, take, drop, getD, length-take, length-drop, drop-of-length-le}
-use lib.Seq.{drop-drop, take-all, getD-drop}
+use lib.Dec.{leb, ltb, leb·suc-suc}
+use lib.ListN.{length, take, drop, getD, length-take, length-drop}
+use lib.Seq.{drop-drop, getD-drop}
 use mir.Val.{Fits}
 use mir.Syntax.{w64}
-use borrow.Author.Tests.{le-leb, lt-leb, lt-ltb, le-ltb, leb-true, leb-false, ltb-true, ltb-false}
+use borrow.Author.Tests.{le-leb, lt-leb, lt-ltb, le-ltb}
 use Rattle.text.specs.Choice.{if_then_else_}
+use Rattle.text.proofs.Runs.{first-least, first-most, first-shift}
 use Rattle.text.specs.Scan.{firstFailing, count}
 use Rattle.text.proofs.Numbers.{le-or-lt}
 use Rattle.line.specs.Parts.{semicolon, intoFirst, split, partAt, nameOf, fieldsOf, startIn, startOf, inField, fieldEnd}
-
--- a walk whose test does not ask for the place
-module _ (ok : ℕ → Bool) where
-  first : ℕ → List ℕ → ℕ
-  first i s = firstFailing (λ _ b. ok b) i s
-
-  pub first-shift : (i : ℕ) (s : List ℕ) → firstFailing (λ _ b. ok b) i s ≡ i + firstFailing (λ _ b. ok b) 0 s
-  first-shift i [] = sym (add-zero i)
-  first-shift i (b ∷ s) = go (ok b) (first-shift (suc i) s) (first-shift 1 s)
-    where
-      go :
-          (t : Bool) → firstFailing (λ _ b. ok b) (suc i) s ≡ suc i + firstFailing (λ _ b. ok b) 0 s →
-          firstFailing (λ _ b. ok b) 1 s ≡ 1 + firstFailing (λ _ b. ok b) 0 s →
-          (if t then firstFailing (λ _ b. ok b) (suc i) s else i) ≡ i + (if t then firstFailing (λ _ b. ok b) 1 s else 0)
-      go true e f = omega arith
-      go false e f = sym (add-zero i)
-
-  pub first-least : (i : ℕ) (s : List ℕ) → i ≤ firstFailing (λ _ b. ok b) i s
-  first-least i s = omega (arith, first-shift i s)
-
-  pub first-most : (i : ℕ) (s : List ℕ) → firstFailing (λ _ b. ok b) i s ≤ i + length s
-  first-most i [] = omega arith
-  first-most i (b ∷ s) = go (ok b) (first-most (suc i) s)
-    where
-      go : (t : Bool) → firstFailing (λ _ b. ok b) (suc i) s ≤ suc i + length s →
-          (if t then firstFailing (λ _ b. ok b) (suc i) s else i) ≤ i + suc (length s)
-      go true h = omega arith
-      go false h = omega arith
 
 -- the first part, and what is left behind its semicolon
 firstLong : List ℕ → ℕ
@@ -79,10 +51,10 @@ rest-none line start h = rw (lt-leb start (length line) h)
 
 module _ (line : List ℕ) (start : ℕ) (inside : start ≤ length line) where
   pub end-least : start ≤ fieldEnd line start
-  end-least = first-least inField start (drop start line)
+  end-least = first-least (λ _ b. inField b) start (drop start line)
 
   pub end-most : fieldEnd line start ≤ length line
-  end-most = omega (arith, first-most inField start (drop start line), length-drop start line)
+  end-most = omega (arith, first-most (λ _ b. inField b) start (drop start line), length-drop start line)
 
   end-is : fieldEnd line start ≡ start + firstLong (drop start line)
   unfolding firstLong

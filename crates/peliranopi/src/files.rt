@@ -14,7 +14,8 @@ pub extern "C" fn peliranopi_judge(
     cents: &mut u64,
     place: &mut usize,
 ) -> u32
-    ensures { λ r. ⌜ JudgeTells (now (file .entry)) (length (now (list .entry))) r (now (lines .exit)) (now (parcels .exit)) (now (cents .exit)) (now (place .exit)) (now (list .exit)) ⌝ }
+    ensures { λ r. ⌜ JudgeTells (now (file .entry)) (length (now (list .entry))) r (now (lines .exit))
+        (now (parcels .exit)) (now (cents .exit)) (now (place .exit)) (now (list .exit)) ⌝ }
 {
     let answer = file::judge(file, list);
     match answer {
@@ -42,7 +43,8 @@ pub extern "C" fn peliranopi_write_purpose(
     written: &mut usize,
     place: &mut usize,
 ) -> u32
-    ensures { λ r. ⌜ PurposeTells (now (file .entry)) line (length (now (list .entry))) (now (output .entry)) r (now (written .exit)) (now (place .exit)) (now (list .exit)) (now (output .exit)) ⌝ }
+    ensures { λ r. ⌜ PurposeTells (now (file .entry)) line (length (now (list .entry))) (now (output .entry)) r
+        (now (written .exit)) (now (place .exit)) (now (list .exit)) (now (output .exit)) ⌝ }
 {
     let answer = purpose::write_purpose(file, line, list, output);
     match answer {

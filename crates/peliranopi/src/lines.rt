@@ -76,7 +76,8 @@ pub extern "C" fn peliranopi_write_line(
     written: &mut usize,
     place: &mut usize,
 ) -> u32
-    ensures { λ r. ⌜ WriteTells kind (now (text .entry)) (now (ends .entry)) (now (output .entry)) fill r (now (written .exit)) (now (place .exit)) (now (output .exit)) ⌝ }
+    ensures { λ r. ⌜ WriteTells kind (now (text .entry)) (now (ends .entry)) (now (output .entry)) fill r
+        (now (written .exit)) (now (place .exit)) (now (output .exit)) ⌝ }
 {
     let answer = writer::write_line(kind, text, ends, output, fill);
     match answer {

@@ -1,28 +1,20 @@
 -- The call's answer, list and output, by cases.
-use Prim.Native.Nat.{ℕ, zero, suc, _+_, _-_, _≤_, _<_}
-use mathlib.Core.Path.{_≡_, refl, sym, ap, _∙_}
-use mathlib.Core.Bool.{Bool, true, false}
-use mathlib.Core.List.{List, [], _∷_, _++_}
+use Prim.Native.Nat.{ℕ, _-_, _≤_, _<_}
+use mathlib.Core.Path.{_≡_, sym, ap, _∙_}
+use mathlib.Core.List.{List, []}
 use native.Mathlib.Omega.{arith}
-use lib.Dec.{ltb}
 use lib.ListN.{length, take, replicate}
 use lib.Seq.{take-at}
 use borrow.Author.Tests.{lt-ltb, le-ltb}
-use Rattle.text.specs.Choice.{if_then_else_}
 use Rattle.text.specs.Placed.{written}
 use Rattle.refusal.specs.declared.Refusal.{Refusal}
-use Rattle.refusal.specs.declared.Refusal.the-variants.{FileTooLong, FileEnds, OutputTooShort, NotThere}
-use Rattle.fields.specs.Record.{mayEnd}
-use Rattle.file.specs.Step.{stepAnswer}
-use Rattle.file.specs.File.{Judged, begin, ended, onStep, fileFrom, judged, listOf}
-use Rattle.file.specs.declared.step.State.{State}
-use Rattle.file.specs.declared.step.Step.{Step}
-use Rattle.file.specs.declared.step.Step.the-variants.{Next, Stopped}
+use Rattle.refusal.specs.declared.Refusal.the-variants.{OutputTooShort, NotThere}
+use Rattle.file.specs.File.{judged, listOf}
 use Rattle.file.specs.declared.whole.Totals.{Totals}
 use Rattle.file.specs.declared.whole.FileAnswer.{FileAnswer}
 use Rattle.file.specs.declared.whole.FileAnswer.the-variants.{Accepted, Refused}
-use Rattle.allowed.specs.Allowed.{FileLine, lineBytes, lineStarts}
-use Rattle.allowed.proofs.Files.{Accepts, accepted-allowed}
+use Rattle.file.proofs.Unlisted.{none-listed}
+use Rattle.allowed.proofs.Files.{Accepts, accepted-allowed, starts-count}
 use Rattle.purpose.specs.Source.{sourceOf}
 use Rattle.purpose.specs.Purpose.{cut, sourceText, textFrom, handedOn, onSource, onFile, purposeAnswer, purposeText, listAfter, outputAfter}
 use Rattle.purpose.specs.declared.source.Source.{Source}
@@ -33,54 +25,6 @@ use Rattle.purpose.specs.declared.write.PurposeAnswer.the-variants.{Writ
 
 pub handed-as : (a case : FileAnswer) (r : PurposeAnswer) → a ≡ case → r ≡ handedOn case → r ≡ handedOn a
 handed-as a case r e f = rw e f
-
--- a refused file lists no line
-module _ {why : Refusal} {place : ℕ} where
-  accepted : {totals : Totals} → Accepted totals ≡ Refused why place → ⊥
-  accepted e = let z : _≡_ {A = ℕ} 0 1 = cc in omega arith
-
-  none-ended : (s starts : List ℕ) (state : State) → ended s starts state .answer ≡ Refused why place → ended s starts state .starts ≡ []
-  none-ended s starts state = go (mayEnd (state .due))
-    where
-      whole : Judged
-      whole = record {
-        answer = Accepted (record { lines = state .lines; parcels = state .parcels; cents = state .cents });
-        starts =
-            starts;
-      }
-
-      go : (t : Bool) → (if t then whole else record { answer = Refused FileEnds (length s); starts = [] }) .answer ≡ Refused why place →
-          (if t then whole else record { answer = Refused FileEnds (length s); starts = [] }) .starts ≡ []
-      go true e = absurd (accepted e)
-      go false e = refl
-
-  none-from : (turns : ℕ) (s : List ℕ) (m : ℕ) (starts : List ℕ) (state : State) →
-      fileFrom turns s m starts state .answer ≡ Refused why place → fileFrom turns s m starts state .starts ≡ []
-  none-from zero s m starts state e = none-ended s starts state e
-  none-from (suc turns) s m starts state e =
-      go (ltb (state .at) (length s)) (stepAnswer s m starts state) (λ next. none-from turns s m (starts ++ (state .at ∷ [])) next) e
-    where
-      go :
-          (t : Bool) (step : Step) → ((next : State) → fileFrom turns s m (starts ++ (state .at ∷ [])) next .answer ≡ Refused why place →
-          fileFrom turns s m (starts ++ (state .at ∷ [])) next .starts ≡ []) →
-          (if t then onStep step (λ next. fileFrom turns s m (starts ++ (state .at ∷ [])) next) else ended s starts
-          state) .answer ≡ Refused why place →
-          (if t then onStep step (λ next. fileFrom turns s m (starts ++ (state .at ∷ [])) next) else ended s starts state) .starts ≡ []
-      go true (Next next) on e = on next e
-      go true (Stopped w p) on e = refl
-      go false step on e = none-ended s starts state e
-
-  pub none-listed : (s : List ℕ) (m : ℕ) → judged s m .answer ≡ Refused why place → judged s m .starts ≡ []
-  unfolding judged
-  none-listed s m e = go (ltb 65535 (length s)) e
-    where
-      long : Judged
-      long = record { answer = Refused FileTooLong 65535; starts = [] }
-
-      go : (t : Bool) → (if t then long else fileFrom (length s + 1) s m [] begin) .answer ≡ Refused why place →
-          (if t then long else fileFrom (length s + 1) s m [] begin) .starts ≡ []
-      go true e = refl
-      go false e = none-from (length s + 1) s m [] begin e
 
 -- the file is refused
 module _ (s : List ℕ) (m : ℕ) (a : FileAnswer) (ea : a ≡ judged s m .answer) (why : Refusal) (place : ℕ) (e : a ≡ Refused why place)
@@ -101,10 +45,6 @@ module _ (s : List ℕ) (m : ℕ) (a : FileAnswer) (ea : a ≡ judged s m .answe
 
   pub file-output : (text out : List ℕ) → out ≡ outputAfter r text out
   file-output text out = sym (ap (λ (x : PurposeAnswer). outputAfter x text out) refusal)
-
-pub starts-count : (at : ℕ) (ls : List FileLine) → length (lineStarts at ls) ≡ length ls
-starts-count at [] = refl
-starts-count at (l ∷ ls) = ap suc (starts-count (at + length (lineBytes l)) ls)
 
 -- the file is accepted
 module _ (s : List ℕ) (m : ℕ) (a : FileAnswer) (ea : a ≡ judged s m .answer) (totals : Totals) (et : a ≡ Accepted totals) where

@@ -26,7 +26,7 @@ use Rattle.grammar.specs.Grammar.{fieldNo}
 use Rattle.file.specs.File.{Judged, judged, listOf}
 use Rattle.file.specs.declared.whole.FileAnswer.the-variants.{Accepted}
 use Rattle.allowed.specs.Allowed.{FileLine, AllowedFile, lineStarts, totalsOf}
-use Rattle.allowed.proofs.Files.{allowed-accepted}
+use Rattle.allowed.proofs.Files.{allowed-accepted, starts-count}
 use Rattle.purpose.specs.Source.{isTyped, isCashLine, shipmentAbove, firstParcel, fromShipment, inShipment, forFeature, sourceOf}
 use Rattle.purpose.specs.Purpose.{cut, sourceText, textFrom, onSource, onFile, purposeAnswer, purposeText, listAfter, outputAfter, Purposes}
 use Rattle.purpose.specs.Sentence.{LineNo, CashLine, Belongs, firstFilled, namedText}
@@ -37,7 +37,6 @@ use Rattle.purpose.specs.declared.source.Sourced.the-variants.{From, Now
 use Rattle.purpose.specs.declared.write.PurposeAnswer.{PurposeAnswer}
 use Rattle.purpose.specs.declared.write.PurposeAnswer.the-variants.{Written, NotWritten}
 use Rattle.purpose.proofs.Seeking.{past-lines, no-cash-line}
-use Rattle.purpose.proofs.Answering.{starts-count}
 use Rattle.purpose.proofs.Placed.{line-there, line-counted, parts-at, kind-told, is-typed, not-typed}
 
 -- the nearest above is the only one between itself and the line

@@ -13,7 +13,8 @@ use line::text_at;
 // Writes the text that this source supplies, and answers how many bytes.
 pub fn write_source(s: &[u8], source: Source, out: &mut [u8]) -> usize
     requires { ⌜ 35 ≤ length (now out) ⌝ }
-    ensures { λ r. ⌜ (r ≡ length (cut (sourceText (now (s .entry)) source))) × (now (out .exit) ≡ written (now (out .entry)) 0 (cut (sourceText (now (s .entry)) source))) ⌝ }
+    ensures { λ r. ⌜ (r ≡ length (cut (sourceText (now (s .entry)) source)))
+        × (now (out .exit) ≡ written (now (out .entry)) 0 (cut (sourceText (now (s .entry)) source))) ⌝ }
 {
     match source {
         Source::Field { at, number } => write_upto(out, 0, field_in(text_at(s, at), number)),
@@ -28,7 +29,8 @@ pub fn write_source(s: &[u8], source: Source, out: &mut [u8]) -> usize
 // Writes two texts with a slash between them.
 fn write_joined(out: &mut [u8], a: &[u8], b: &[u8]) -> usize
     requires { ⌜ 35 ≤ length (now out) ⌝ }
-    ensures { λ r. ⌜ (r ≡ length (cut (now (a .entry) ++ bytes "/" ++ now (b .entry)))) × (now (out .exit) ≡ written (now (out .entry)) 0 (cut (now (a .entry) ++ bytes "/" ++ now (b .entry)))) ⌝ }
+    ensures { λ r. ⌜ (r ≡ length (cut (now (a .entry) ++ bytes "/" ++ now (b .entry))))
+        × (now (out .exit) ≡ written (now (out .entry)) 0 (cut (now (a .entry) ++ bytes "/" ++ now (b .entry)))) ⌝ }
 {
     let slash = write_upto(out, 0, a);
     let second = write_upto(out, slash, b"/");
@@ -38,7 +40,8 @@ fn write_joined(out: &mut [u8], a: &[u8], b: &[u8]) -> usize
 // Writes src from the place at on, as much of it as the first 35 bytes have room for, and answers where it ends.
 fn write_upto(out: &mut [u8], at: usize, src: &[u8]) -> usize
     requires { ⌜ (at ≤ 35) × (35 ≤ length (now out)) ⌝ }
-    ensures { λ r. ⌜ (r ≡ at + length (take (35 - at) (now (src .entry)))) × (r ≤ 35) × (now (out .exit) ≡ written (now (out .entry)) at (take (35 - at) (now (src .entry)))) ⌝ }
+    ensures { λ r. ⌜ (r ≡ at + length (take (35 - at) (now (src .entry)))) × (r ≤ 35)
+        × (now (out .exit) ≡ written (now (out .entry)) at (take (35 - at) (now (src .entry)))) ⌝ }
 {
     let part = text::clip(src, 0, 35 - at);
     text::place(out, at, part);

@@ -12,7 +12,9 @@ use fields::Record;
 // Puts the line at the front of a room. Answers how long it is.
 pub fn put_line(room: &mut [u8], kind: Record, text: &[u8], ends: &[usize]) -> usize
     requires { ⌜ (length (now text) + length (now ends) + 5 ≤ length (now room)) × (endsHold (now ends) (length (now text)) ≡ true) ⌝ }
-    ensures { λ r. ⌜ (r ≡ length (render kind (between (now (text .entry)) (now (ends .entry))))) × (r ≡ length (now (text .entry)) + length (now (ends .entry)) + 5) × (now (room .exit) ≡ placed (now (room .entry)) 0 (render kind (between (now (text .entry)) (now (ends .entry))))) ⌝ }
+    ensures { λ r. ⌜ (r ≡ length (render kind (between (now (text .entry)) (now (ends .entry)))))
+        × (r ≡ length (now (text .entry)) + length (now (ends .entry)) + 5)
+        × (now (room .exit) ≡ placed (now (room .entry)) 0 (render kind (between (now (text .entry)) (now (ends .entry))))) ⌝ }
 {
     put_type(room, kind);
     put_fields(room, text, ends);

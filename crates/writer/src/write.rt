@@ -83,8 +83,10 @@ fn write_fields(
     out: &mut [u8],
     fill: usize,
 ) -> WriteAnswer
-    requires { ⌜ (length (now text) + length (now ends) + 5 ≤ length (now line)) × (endsHold (now ends) (length (now text)) ≡ true) × (walked kind 1 (typeOf kind) (between (now text) (now ends)) ≡ Fine) ⌝ }
-    ensures { λ r. ⌜ (r ≡ ofFields kind (between (now (text .entry)) (now (ends .entry))) (length (now (out .entry))) fill) × (now (out .exit) ≡ lineTo r kind (between (now (text .entry)) (now (ends .entry))) (now (out .entry)) fill) ⌝ }
+    requires { ⌜ (length (now text) + length (now ends) + 5 ≤ length (now line)) × (endsHold (now ends) (length (now text)) ≡ true)
+        × (walked kind 1 (typeOf kind) (between (now text) (now ends)) ≡ Fine) ⌝ }
+    ensures { λ r. ⌜ (r ≡ ofFields kind (between (now (text .entry)) (now (ends .entry))) (length (now (out .entry))) fill)
+        × (now (out .exit) ≡ lineTo r kind (between (now (text .entry)) (now (ends .entry))) (now (out .entry)) fill) ⌝ }
 {
     let long = put::put_line(line, kind, text, ends);
     if line::lacks_field(kind, &line[..long - 2]) {

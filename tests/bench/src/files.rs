@@ -49,6 +49,9 @@ pub enum Codes {
     FirstDigitsRise,
     FirstDigitsFall,
     LastTwoAlike,
+    /// Each way through the library's tree of identcodes passes 99 forks: those of the first hundred codes, nine for each of the
+    /// last eleven digits.
+    DeepTree,
 }
 
 /// A file of this kind and size.
@@ -122,8 +125,22 @@ fn identcode(codes: Codes, rng: &mut Rng, index: u128, count: u128) -> Vec<u8> {
         Codes::FirstDigitsRise => (1000 + index) * IN_FRONT,
         Codes::FirstDigitsFall => (1000 + count - index) * IN_FRONT,
         Codes::LastTwoAlike => FIRST + index.min(count - 2),
+        Codes::DeepTree => deep(index),
     };
     format!("{code:022}").into_bytes()
+}
+
+/// Behind a code of zeros, nine codes for each of the last eleven digits, from the right, with nines behind it; then codes that end in
+/// eleven nines.
+fn deep(index: u128) -> u128 {
+    if index == 0 {
+        return 0;
+    }
+    if index > 99 {
+        return (index + 1) * 10_u128.pow(11) - 1;
+    }
+    let digit = 10_u128.pow((index as u32 - 1) / 9);
+    ((index - 1) % 9 + 2) * digit - 1
 }
 
 fn header() -> Vec<u8> {

@@ -24,7 +24,7 @@ const MILLION: usize = 1_000_000;
 const ROUNDS: usize = 30;
 const ROUNDS_OF_A_MILLION: usize = 5;
 
-const KINDS: [(&str, Kind); 8] = [
+const KINDS: [(&str, Kind); 9] = [
     ("typical", Kind::Typical),
     ("typical, refused at its last line", Kind::RefusedAtItsEnd),
     ("parcels, identcodes drawn", Kind::Parcels(Codes::Drawn)),
@@ -48,6 +48,7 @@ const KINDS: [(&str, Kind); 8] = [
         "parcels, last two alike",
         Kind::Parcels(Codes::LastTwoAlike),
     ),
+    ("parcels, deep tree", Kind::Parcels(Codes::DeepTree)),
 ];
 
 fn main() {

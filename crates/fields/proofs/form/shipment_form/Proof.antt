@@ -1,11 +1,11 @@
 -- `form::shipment_form` meets its contract: each arm is a row of the table.
 use Rattle.fields.specs.Form.{formsOf}
-use Rattle.fields.proofs.Forms.{row-arm, shipment-rest}
+use Rattle.fields.proofs.Forms.{row-arm, no-row}
 use borrow.Author.Needs.{needs}
 use Rattle.fields.proofs.form.shipment_form.Statement.{statement}
 use Rattle.fields.proofs.form.shipment_form.Tie as tie
 
-ruleset laws = (needs, row-arm, shipment-rest)
+ruleset laws = (needs, row-arm)
 
 pub shipment-form-spec : {M : Type 1} → statement M
 unfolding formsOf
@@ -14,4 +14,4 @@ shipment-form-spec =
     (tie.spec
     (λ c κs. search laws) (λ c κs. search laws) (λ c κs. search laws) (λ c κs. search laws) (λ c κs. search laws)
     (λ c κs. search laws) (λ c. search laws) (λ c. search laws) (λ c. search laws) (λ c. search laws) (λ c. search laws)
-    (λ c. search laws) (λ c. search laws) (λ c. search laws))
+    (λ c. search laws) (λ c. search laws) (λ c. search (no-row) depth 14))
