@@ -1,6 +1,7 @@
 -- How the judge finds an identcode among those of the lines so far: a tree, kept in a row of words. A word below 65,536 is a leaf, the
 -- offset of a parcel line. Any other is a fork: it names a digit of the identcode, a byte, and a pair of words. A code whose digit
--- there is below the byte goes on at the first of the pair, any other at the second.
+-- there is below the byte goes on at the first of the pair, any other at the second. No promise to a caller speaks of the tree: it
+-- answers what Identcode says, and `Sown` at the end is what ties the two.
 use Prim.Native.Nat.{ℕ, zero, suc, _+_, _*_, _-_, _/_, _%_, _<_, _≤_}
 use mathlib.Core.Path.{_≡_}
 use mathlib.Core.Bool.{Bool, true, false}

@@ -1,37 +1,14 @@
 -- `files::peliranopi_judge` meets its contract.
-use Rattle.file.specs.File.{fileVerdict}
-use Rattle.file.specs.declared.whole.FileAnswer.{FileAnswer}
-use Rattle.peliranopi.specs.Told.{numberIn, placeIn, linesIn, parcelsIn, centsIn}
-use Rattle.peliranopi.proofs.Telling.{told}
+use Rattle.peliranopi.proofs.Telling.{file-number, file-place, file-lines, file-parcels, file-cents}
 use borrow.Author.Needs.{needs}
 use Rattle.peliranopi.proofs.files.peliranopi_judge.Statement.{statement}
 use Rattle.peliranopi.proofs.files.peliranopi_judge.Tie as tie
 
-returns : tie.Need-returns
-returns c =
-    search (
-      needs,
-      told (λ (a : FileAnswer). numberIn (fileVerdict a)),
-      told (λ (a : FileAnswer). placeIn (fileVerdict a)),
-      told linesIn,
-      told parcelsIn,
-      told centsIn,
-    )
-
-returns-2 : tie.Need-returns-2
-returns-2 c =
-    search (
-      needs,
-      told (λ (a : FileAnswer). numberIn (fileVerdict a)),
-      told (λ (a : FileAnswer). placeIn (fileVerdict a)),
-      told linesIn,
-      told parcelsIn,
-      told centsIn,
-    )
+ruleset laws = (needs, file-number, file-place, file-lines, file-parcels, file-cents)
 
 pub peliranopi-judge-spec : {M : Type 1} → statement M
 peliranopi-judge-spec =
     tie.close
     (tie.spec
-    (λ c κs. search needs) (λ c. search needs) (λ c κs. search needs) (λ c. search needs) (λ c κs. search needs)
-    (λ c. search needs) returns (λ c. search needs) returns-2)
+    (λ c κs. search laws) (λ c. search laws) (λ c κs. search laws) (λ c. search laws) (λ c κs. search laws) (λ c. search laws)
+    (λ c. search laws) (λ c. search laws) (λ c. search laws))

@@ -1,35 +1,14 @@
 -- `lines::peliranopi_find_field` meets its contract.
-use Rattle.line.specs.Find.{fieldVerdict}
-use Rattle.line.specs.declared.find.FieldAnswer.{FieldAnswer}
-use Rattle.peliranopi.specs.Told.{numberIn, placeIn, startIn, lengthIn}
-use Rattle.peliranopi.proofs.Telling.{told}
+use Rattle.peliranopi.proofs.Telling.{field-number, field-place, field-start, field-length}
 use borrow.Author.Needs.{needs}
 use Rattle.peliranopi.proofs.lines.peliranopi_find_field.Statement.{statement}
 use Rattle.peliranopi.proofs.lines.peliranopi_find_field.Tie as tie
 
-returns : tie.Need-returns
-returns c =
-    search (
-      needs,
-      told (λ (a : FieldAnswer). numberIn (fieldVerdict a)),
-      told (λ (a : FieldAnswer). placeIn (fieldVerdict a)),
-      told startIn,
-      told lengthIn,
-    )
-
-returns-2 : tie.Need-returns-2
-returns-2 c =
-    search (
-      needs,
-      told (λ (a : FieldAnswer). numberIn (fieldVerdict a)),
-      told (λ (a : FieldAnswer). placeIn (fieldVerdict a)),
-      told startIn,
-      told lengthIn,
-    )
+ruleset laws = (needs, field-number, field-place, field-start, field-length)
 
 pub peliranopi-find-field-spec : {M : Type 1} → statement M
 peliranopi-find-field-spec =
     tie.close
     (tie.spec
-    (λ c κs. search needs) (λ c. search needs) (λ c κs. search needs) (λ c. search needs) (λ c κs. search needs)
-    returns returns-2)
+    (λ c κs. search laws) (λ c. search laws) (λ c κs. search laws) (λ c. search laws) (λ c κs. search laws) (λ c. search laws)
+    (λ c. search laws))

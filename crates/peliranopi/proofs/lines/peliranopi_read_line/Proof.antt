@@ -1,37 +1,14 @@
 -- `lines::peliranopi_read_line` meets its contract.
-use Rattle.line.specs.Line.{lineVerdict}
-use Rattle.line.specs.declared.read.LineAnswer.{LineAnswer}
-use Rattle.peliranopi.specs.Told.{numberIn, placeIn, recordIn, countIn, nextIn}
-use Rattle.peliranopi.proofs.Telling.{told}
+use Rattle.peliranopi.proofs.Telling.{line-number, line-place, line-record, line-count, line-next}
 use borrow.Author.Needs.{needs}
 use Rattle.peliranopi.proofs.lines.peliranopi_read_line.Statement.{statement}
 use Rattle.peliranopi.proofs.lines.peliranopi_read_line.Tie as tie
 
-returns : tie.Need-returns
-returns c =
-    search (
-      needs,
-      told (λ (a : LineAnswer). numberIn (lineVerdict a)),
-      told (λ (a : LineAnswer). placeIn (lineVerdict a)),
-      told recordIn,
-      told countIn,
-      told nextIn,
-    )
-
-returns-2 : tie.Need-returns-2
-returns-2 c =
-    search (
-      needs,
-      told (λ (a : LineAnswer). numberIn (lineVerdict a)),
-      told (λ (a : LineAnswer). placeIn (lineVerdict a)),
-      told recordIn,
-      told countIn,
-      told nextIn,
-    )
+ruleset laws = (needs, line-number, line-place, line-record, line-count, line-next)
 
 pub peliranopi-read-line-spec : {M : Type 1} → statement M
 peliranopi-read-line-spec =
     tie.close
     (tie.spec
-    (λ c κs. search needs) (λ c. search needs) (λ c κs. search needs) (λ c κs. search needs) (λ c. search needs)
-    (λ c κs. search needs) returns returns-2)
+    (λ c κs. search laws) (λ c. search laws) (λ c κs. search laws) (λ c κs. search laws) (λ c. search laws) (λ c κs. search laws)
+    (λ c. search laws) (λ c. search laws))

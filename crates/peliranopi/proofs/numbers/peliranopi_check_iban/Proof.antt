@@ -1,31 +1,14 @@
 -- `numbers::peliranopi_check_iban` meets its contract.
-use Rattle.check_characters.specs.Iban.{ibanVerdict}
-use Rattle.check_characters.specs.declared.iban.IbanAnswer.{IbanAnswer}
-use Rattle.peliranopi.specs.Told.{numberIn, placeIn}
-use Rattle.peliranopi.proofs.Telling.{told}
+use Rattle.peliranopi.proofs.Telling.{iban-number, iban-place}
 use borrow.Author.Needs.{needs}
 use Rattle.peliranopi.proofs.numbers.peliranopi_check_iban.Statement.{statement}
 use Rattle.peliranopi.proofs.numbers.peliranopi_check_iban.Tie as tie
 
-returns : tie.Need-returns
-returns c =
-    search (
-      needs,
-      told (λ (a : IbanAnswer). numberIn (ibanVerdict a)),
-      told (λ (a : IbanAnswer). placeIn (ibanVerdict a)),
-    )
-
-returns-2 : tie.Need-returns-2
-returns-2 c =
-    search (
-      needs,
-      told (λ (a : IbanAnswer). numberIn (ibanVerdict a)),
-      told (λ (a : IbanAnswer). placeIn (ibanVerdict a)),
-    )
+ruleset laws = (needs, iban-number, iban-place)
 
 pub peliranopi-check-iban-spec : {M : Type 1} → statement M
 peliranopi-check-iban-spec =
     tie.close
     (tie.spec
-    (λ c κs. search needs) (λ c. search needs) (λ c κs. search needs) (λ c. search needs) (λ c κs. search needs)
-    returns returns-2)
+    (λ c κs. search laws) (λ c. search laws) (λ c κs. search laws) (λ c. search laws) (λ c κs. search laws) (λ c. search laws)
+    (λ c. search laws))

@@ -1,33 +1,14 @@
 -- `numbers::peliranopi_check_number` meets its contract.
-use Rattle.check_characters.specs.Number.{checkVerdict}
-use Rattle.check_characters.specs.declared.number.NumberAnswer.{NumberAnswer}
-use Rattle.peliranopi.specs.Told.{numberIn, placeIn, kindIn}
-use Rattle.peliranopi.proofs.Telling.{told}
+use Rattle.peliranopi.proofs.Telling.{check-number, check-place, check-kind}
 use borrow.Author.Needs.{needs}
 use Rattle.peliranopi.proofs.numbers.peliranopi_check_number.Statement.{statement}
 use Rattle.peliranopi.proofs.numbers.peliranopi_check_number.Tie as tie
 
-returns : tie.Need-returns
-returns c =
-    search (
-      needs,
-      told (λ (a : NumberAnswer). numberIn (checkVerdict a)),
-      told (λ (a : NumberAnswer). placeIn (checkVerdict a)),
-      told kindIn,
-    )
-
-returns-2 : tie.Need-returns-2
-returns-2 c =
-    search (
-      needs,
-      told (λ (a : NumberAnswer). numberIn (checkVerdict a)),
-      told (λ (a : NumberAnswer). placeIn (checkVerdict a)),
-      told kindIn,
-    )
+ruleset laws = (needs, check-number, check-place, check-kind)
 
 pub peliranopi-check-number-spec : {M : Type 1} → statement M
 peliranopi-check-number-spec =
     tie.close
     (tie.spec
-    (λ c κs. search needs) (λ c. search needs) (λ c κs. search needs) (λ c κs. search needs) (λ c. search needs)
-    (λ c κs. search needs) returns returns-2)
+    (λ c κs. search laws) (λ c. search laws) (λ c κs. search laws) (λ c κs. search laws) (λ c. search laws) (λ c κs. search laws)
+    (λ c. search laws) (λ c. search laws))
