@@ -1,13 +1,11 @@
 -- A file is accepted exactly when it is allowed and the list has a word for each line; list, parcels and cash are its own lines'.
 use Prim.Native.Nat.{ℕ, suc, _+_, _≤_}
-use mathlib.Core.Path.{_≡_, refl, sym, ap, subst, _∙_}
-use mathlib.Core.Bool.{Bool, true, false}
+use mathlib.Core.Path.{_≡_, refl, sym, ap, _∙_}
 use mathlib.Core.List.{List, [], _∷_, _++_, append-assoc, append-nil}
-use mathlib.Core.Logic.{_↔_}
 use native.Mathlib.Nat.{zero-add}
 use native.Mathlib.Omega.{arith}
 use lib.Dec.{ltb}
-use lib.ListN.{length, drop, length-append}
+use lib.ListN.{length, length-append}
 use borrow.Author.Tests.{ltb-false, le-ltb}
 use Rattle.text.proofs.Choices.{came-else}
 use Rattle.refusal.specs.declared.Refusal.{Refusal}
@@ -15,15 +13,14 @@ use Rattle.refusal.specs.declared.Refusal.the-variants.{FileTooLong}
 use Rattle.fields.specs.declared.record.Record.{Record}
 use Rattle.fields.specs.declared.record.Due.{Due}
 use Rattle.fields.specs.declared.record.Due.the-variants.{First, After}
-use Rattle.grammar.specs.Grammar.{render, LineOk}
 use Rattle.grammar.proofs.Lines.{render-long, one-line}
 use Rattle.file.specs.File.{Judged, begin, fileFrom, judged}
 use Rattle.file.specs.declared.whole.Totals.{Totals}
-use Rattle.file.specs.declared.whole.FileAnswer.{FileAnswer}
 use Rattle.file.specs.declared.whole.FileAnswer.the-variants.{Accepted, Refused}
-use Rattle.allowed.specs.Allowed.{FileLine, lineBytes, fileBytes, LinesOk, InOrder, codeOf, identcodes, NoneTwice, AllowedFile, parcelCount, cashTotal, totalsOf, lineStarts}
+use Rattle.allowed.specs.Allowed.{FileLine, lineBytes, fileBytes, LinesOk, InOrder, codeOf, identcodes, NoneTwice}
+use Rattle.allowed.specs.Allowed.{AllowedFile, parcelCount, cashTotal, totalsOf, lineStarts}
 use Rattle.allowed.proofs.Twice.{none-more, fresh-before}
-use Rattle.allowed.proofs.Runs.{AllowedFrom, judgedWith, Ran, ran, runs}
+use Rattle.allowed.proofs.Runs.{AllowedFrom, judgedWith, ran, runs}
 
 -- the lines that are left, asked of each as it comes or of all of them
 record Whole (left : List ℕ) (codes : List (List ℕ)) (due : Due) (ls : List FileLine) : Type 0 where

@@ -1,40 +1,35 @@
 -- The judge from a state on: what it accepts is what is allowed from there on, and the other way round.
 use Prim.Native.Nat.{ℕ, zero, suc, _+_, _-_, _≤_, _<_}
 use mathlib.Core.Path.{_≡_, refl, sym, ap, subst, _∙_}
-use mathlib.Core.Bool.{Bool, true, false}
-use mathlib.Core.List.{List, [], _∷_, _++_, append-assoc, append-nil}
+use mathlib.Core.Bool.{true, false}
+use mathlib.Core.List.{List, [], _∷_, _++_, append-nil}
 use mathlib.Core.Logic.{⊎-elim}
 use native.Mathlib.Nat.{add-zero}
 use native.Mathlib.Omega.{arith}
-use lib.Dec.{ltb, leb}
-use lib.ListN.{length, take, drop, length-append, length-drop, drop-of-length-le}
+use lib.Dec.{ltb}
+use lib.ListN.{length, drop, length-drop, drop-of-length-le}
 use lib.Seq.{append-snoc}
-use borrow.Author.Tests.{ltb-true, ltb-false, lt-ltb, le-ltb, lt-leb}
-use Rattle.text.specs.Choice.{if_then_else_}
+use borrow.Author.Tests.{ltb-false, lt-ltb, le-ltb, lt-leb}
 use Rattle.text.proofs.Choices.{came-then, true-or-false}
-use Rattle.text.proofs.Numbers.{le-or-lt}
 use Rattle.refusal.specs.declared.Refusal.{Refusal}
 use Rattle.refusal.specs.declared.Refusal.the-variants.{FileEnds}
-use Rattle.fields.specs.Record.{typeOf, mayCome, mayEnd}
+use Rattle.fields.specs.Record.{mayCome, mayEnd}
 use Rattle.fields.specs.declared.record.Due.{Due}
 use Rattle.fields.specs.declared.record.Due.the-variants.{After}
-use Rattle.line.specs.Parts.{split, fieldsOf}
-use Rattle.line.specs.Line.{textAt, lineAnswer}
+use Rattle.line.specs.Parts.{fieldsOf}
+use Rattle.line.specs.Line.{textAt}
 use Rattle.line.specs.declared.read.Line.{Line}
-use Rattle.line.specs.declared.read.LineAnswer.the-variants.{Accepted as AcceptedLine}
-use Rattle.grammar.specs.Grammar.{render, LineOk, Reads}
-use Rattle.grammar.proofs.Lines.{accepted-reads, reads-accepted, read-inside, next-inside, next-far, rest-is, read-parts}
-use Rattle.file.specs.Identcode.{repeats}
+use Rattle.grammar.specs.Grammar.{LineOk, Reads}
+use Rattle.grammar.proofs.Lines.{accepted-reads, reads-accepted, next-inside, next-far, rest-is, read-parts}
 use Rattle.file.specs.Cash.{cashOf}
-use Rattle.file.specs.Step.{parcelsIn, behind, onLine, stepAnswer}
+use Rattle.file.specs.Step.{behind, onLine, stepAnswer}
 use Rattle.file.specs.File.{Judged, ended, onStep, fileFrom}
 use Rattle.file.specs.declared.step.State.{State}
 use Rattle.file.specs.declared.step.Step.{Step}
 use Rattle.file.specs.declared.step.Step.the-variants.{Next, Stopped}
 use Rattle.file.specs.declared.whole.Totals.{Totals}
-use Rattle.file.specs.declared.whole.FileAnswer.{FileAnswer}
 use Rattle.file.specs.declared.whole.FileAnswer.the-variants.{Accepted, Refused}
-use Rattle.file.proofs.Stepping.{Went, went}
+use Rattle.file.proofs.Stepping.{went}
 use Rattle.allowed.specs.Allowed.{FileLine, lineBytes, codeOf, parcelCount, cashTotal, lineStarts}
 use Rattle.allowed.proofs.Codes.{Seen, seen-more, Fresh, fresh-not, not-fresh}
 

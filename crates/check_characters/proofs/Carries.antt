@@ -1,8 +1,7 @@
 -- The carry: its step by cases, its range, the walk over a run of symbols, and the check character.
 use Prim.Native.Nat.{ℕ, suc, _+_, _-_, _*_, _%_, _≤_, _<_}
 use mathlib.Core.Path.{_≡_, refl, sym, ap, _∙_}
-use mathlib.Core.Bool.{Bool, true, false}
-use mathlib.Core.List.{List, [], _∷_, _++_}
+use mathlib.Core.List.{List, [], _∷_}
 use native.Mathlib.Omega.{arith}
 use native.Mathlib.Numerals.{add-one}
 use lib.Dec.{leb, eqb}
@@ -11,7 +10,7 @@ use lib.Seq.{drop-cons}
 use mir.Val.{Fits}
 use mir.Syntax.{w8}
 use borrow.Author.Tests.{eq-eqb, ne-eqb, eqb-true, leb-true}
-use Rattle.text.proofs.Finite.{every, every-at}
+use Rattle.text.proofs.Finite.{every-at}
 use Rattle.check_characters.specs.Symbol.{valueOf, symbolOf}
 use Rattle.check_characters.specs.Mod37.{thirtySixFor0, step, carryFrom, carry, closes, firstValue, checkOf}
 use Rattle.check_characters.proofs.Symbols.{value-le}

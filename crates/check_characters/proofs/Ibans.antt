@@ -6,7 +6,7 @@ use mathlib.Core.List.{List}
 use native.Mathlib.Omega.{arith}
 use lib.Dec.{eqb}
 use lib.ListN.{length, getD}
-use borrow.Author.Tests.{eq-eqb, ne-eqb, lt-ltb, le-ltb, le-leb, lt-leb}
+use borrow.Author.Tests.{ne-eqb, lt-ltb, le-ltb, le-leb, lt-leb}
 use Rattle.refusal.specs.declared.Refusal.the-variants.{WrongLength, WrongSymbol, WrongCheck}
 use Rattle.text.specs.Byte.{digit, capital, symbol}
 use Rattle.check_characters.specs.Symbol.{valueOf}

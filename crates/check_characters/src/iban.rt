@@ -2,7 +2,7 @@
 ghost use mathlib.Core.Path.{_≡_};
 ghost use Prim.Native.Nat.{_≤_};
 ghost use lib.ListN.{length};
-ghost use Rattle.check_characters.specs.Iban.{allowed, wrongSymbol, checkDigits, barred, soundOf, checked};
+ghost use Rattle.check_characters.specs.Iban.{allowed, wrongSymbol, barred, soundOf, checked};
 use crate::remainder;
 use crate::symbol;
 use refusal::Refusal;

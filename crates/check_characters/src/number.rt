@@ -2,7 +2,7 @@
 ghost use mathlib.Core.Path.{_≡_};
 ghost use Prim.Native.Nat.{_+_, _<_, _≤_};
 ghost use lib.ListN.{length};
-ghost use Rattle.check_characters.specs.Number.{lengthOf, allowed, wrongSymbol, checkedAs, checked, issueAs, issueAnswer, issuedTo, Issues};
+ghost use Rattle.check_characters.specs.Number.{lengthOf, allowed, wrongSymbol, checkedAs, checked, issueAs, issuedTo, Issues};
 use crate::carry;
 use crate::symbol;
 use refusal::Refusal;

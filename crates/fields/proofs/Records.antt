@@ -1,6 +1,6 @@
 -- The records by cases: their rows, their counts, and which may follow which.
-use Prim.Native.Nat.{ℕ, _≤_, _<_}
-use mathlib.Core.Path.{_≡_, refl, sym, ap, _∙_}
+use Prim.Native.Nat.{ℕ, _<_}
+use mathlib.Core.Path.{_≡_, refl, _∙_}
 use mathlib.Core.Bool.{Bool, true, false, _&&_, _||_}
 use mathlib.Core.List.{List}
 use native.Mathlib.Omega.{arith}
@@ -9,10 +9,8 @@ use Rattle.text.specs.Scan.{same}
 use Rattle.fields.specs.Record.{typeOf, named, countFits, rowOf, recordAt, mayFollow, mayCome, mayEnd}
 use Rattle.fields.specs.declared.record.Record.{Record}
 use Rattle.fields.specs.declared.record.Record.the-variants.{Header, Sender, Shipment, Parcel, Product, Feature}
-use Rattle.fields.specs.declared.record.Named.{Named}
 use Rattle.fields.specs.declared.record.Named.the-variants.{Known, Unknown}
 use Rattle.fields.specs.declared.record.Due.{Due}
-use Rattle.fields.specs.declared.record.Due.the-variants.{Any, First, After}
 
 pub row-below : (row : ℕ) (kind : Record) → row ≡ rowOf kind → row < 6
 row-below row Header e = omega arith

@@ -3,7 +3,7 @@
 // wherever it is read.
 ghost use mathlib.Core.Path.{_≡_};
 ghost use Prim.Native.Nat.{_<_};
-ghost use Rattle.fields.specs.Record.{rowOf, recordAt};
+ghost use Rattle.fields.specs.Record.{recordAt};
 ghost use Rattle.fields.specs.Table.{widthInTable, isRequired};
 use crate::record;
 use crate::record::Record;

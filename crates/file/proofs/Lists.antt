@@ -1,10 +1,11 @@
 -- The lent list: cleared word by word, and what a list holds behind its first words.
 use Prim.Native.Nat.{ℕ, suc, _+_, _-_, _≤_, _<_}
-use mathlib.Core.Path.{_≡_, refl, sym, ap, _∙_}
+use mathlib.Core.Path.{_≡_, sym, ap, _∙_}
 use mathlib.Core.List.{List, [], _∷_, _++_, append-nil}
 use native.Mathlib.Numerals.{add-one}
 use native.Mathlib.Omega.{arith}
-use lib.ListN.{length, take, drop, set, getD, replicate, length-set, length-take, length-replicate, replicate-append-replicate, drop-of-length-le, take-append-drop}
+use lib.ListN.{length, take, drop, set, getD, replicate, length-take, length-replicate, replicate-append-replicate}
+use lib.ListN.{drop-of-length-le, take-append-drop}
 use lib.Seq.{drop-cons, set-at, append-snoc, drop-set-lt, take-suc-set}
 
 -- the words passed are 0, the others as they were

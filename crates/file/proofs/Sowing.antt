@@ -22,7 +22,8 @@ use Rattle.fields.specs.declared.record.Record.{Record}
 use Rattle.fields.specs.declared.record.Record.the-variants.{Header, Sender, Shipment, Parcel, Product, Feature}
 use Rattle.file.specs.Identcode.{identcodeAt, sameParcel, onEarlier, repeats}
 use Rattle.file.specs.Step.{parcelsIn}
-use Rattle.file.specs.Tree.{fork, digitOf, pairOf, wordsOf, slotOf, unlikeAt, parted, leafCode, isThere, grown, isThereFor, grownFor, Sound, Tree, Sown}
+use Rattle.file.specs.Tree.{fork, digitOf, pairOf, wordsOf, slotOf, unlikeAt, parted, leafCode, isThere, grown, isThereFor}
+use Rattle.file.specs.Tree.{grownFor, Sound, Tree, Sown}
 use Rattle.file.proofs.Forks.{fork-pair, fork-byte, fork-digit, fork-is}
 use Rattle.file.proofs.Slots.{comes-to}
 use Rattle.file.proofs.Unlike.{unlike-same, unlike-not, unlike-there}

@@ -1,6 +1,5 @@
 -- Document 01, 'Whole file': "the cash total in cents, which is the sum of 060.3 over lines with code 006 or 022 and currency `EUR`".
 use Prim.Native.Nat.{ℕ}
-use mathlib.Core.Bool.{Bool, _&&_}
 use mathlib.Core.List.{List, []}
 use lib.ListN.{getD}
 use Rattle.text.specs.Choice.{if_then_else_}

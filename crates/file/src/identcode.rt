@@ -2,7 +2,6 @@
 ghost use mathlib.Core.Path.{_≡_};
 ghost use mathlib.Core.Bool.{true};
 ghost use Prim.Native.Nat.{_<_, _≤_};
-ghost use lib.ListN.{length};
 ghost use Rattle.fields.specs.declared.record.Record.the-variants.{Parcel};
 ghost use Rattle.forms.specs.Shape.{digits};
 ghost use Rattle.file.specs.Identcode.{identcodeAt};

@@ -3,10 +3,10 @@
 ghost use mathlib.Core.Path.{_≡_};
 ghost use mathlib.Core.Bool.{true};
 ghost use Prim.Native.Nat.{_+_, _<_, _≤_};
-ghost use lib.ListN.{length, getD};
+ghost use lib.ListN.{length};
 ghost use Rattle.forms.specs.Shape.{digits};
 ghost use Rattle.file.specs.Identcode.{identcodeAt};
-ghost use Rattle.file.specs.Tree.{fork, digitOf, leadsTo, wordsOf, slotOf, unlikeAt, parted, isThere, grown, Tree};
+ghost use Rattle.file.specs.Tree.{fork, digitOf, leadsTo, slotOf, unlikeAt, parted, isThere, grown, Tree};
 
 // Whether the tree of so many parcels has the identcode of the parcel line that starts here; one that it has not is put into it.
 pub fn find_or_grow(s: &[u8], tree: &mut [u32], parcels: usize, at: usize) -> bool

@@ -8,7 +8,6 @@ use lib.Dec.{leb, eqb}
 use lib.ListN.{length, length-append}
 use borrow.Author.Tests.{leb-true, eqb-true}
 use Rattle.text.specs.Choice.{if_then_else_}
-use Rattle.text.specs.Quoted.{bytes}
 use Rattle.text.proofs.Choices.{and-left, and-right}
 use Rattle.fields.specs.Record.{typeOf, countFits, mayCome}
 use Rattle.fields.specs.Table.{Span, to_wide_, widthIn, widths, widthInTable}

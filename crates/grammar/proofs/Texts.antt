@@ -30,7 +30,8 @@ use Rattle.line.specs.declared.read.Line.{Line}
 use Rattle.line.specs.declared.read.LineAnswer.the-variants.{Accepted, Refused}
 use Rattle.grammar.specs.Grammar.{joined, textOf, plain, FieldsOk, LineOk}
 use Rattle.grammar.proofs.Splits.{split-some, join-split, allIn, split-joined}
-use Rattle.grammar.proofs.Fields.{fine-fields, fields-fine, fields-plain, all-also, all-in-also, plain-text, plain-in-field, joined-text, split-plain}
+use Rattle.grammar.proofs.Fields.{fine-fields, fields-fine, fields-plain, all-also, all-in-also, plain-text}
+use Rattle.grammar.proofs.Fields.{plain-in-field, joined-text, split-plain}
 
 pub refused : {why : Refusal} {place : ℕ} {line : Line} → Refused why place ≡ Accepted line → ⊥
 refused e = let z : _≡_ {A = ℕ} 0 1 = cc in omega arith

@@ -1,16 +1,14 @@
 -- One field, by the cases that the code meets.
 use Prim.Native.Nat.{ℕ, _+_, _-_, _≤_, _<_}
-use mathlib.Core.Path.{_≡_, refl, sym, ap, _∙_}
-use mathlib.Core.Bool.{Bool, true, false, not, _||_}
+use mathlib.Core.Path.{_≡_, ap, _∙_}
 use mathlib.Core.List.{List}
-use native.Mathlib.Omega.{arith}
 use lib.ListN.{length, take, drop}
 use borrow.Author.Tests.{lt-ltb, le-ltb, eq-eqb, ne-eqb}
 use Rattle.refusal.specs.declared.Refusal.{Refusal}
 use Rattle.refusal.specs.declared.Refusal.the-variants.{NotThere}
 use Rattle.fields.specs.declared.record.Due.the-variants.{Any}
 use Rattle.line.specs.Parts.{startOf, partAt}
-use Rattle.line.specs.Line.{lineEnd, textAt, lineAnswer}
+use Rattle.line.specs.Line.{lineAnswer}
 use Rattle.line.specs.Find.{handedOn, inLine, fieldAnswer}
 use Rattle.line.proofs.Accepting.{text-is}
 use Rattle.line.specs.declared.read.Line.{Line}

@@ -1,14 +1,14 @@
 -- One line, by the cases of its refusals.
 use Prim.Native.Nat.{ℕ, _+_, _-_, _≤_, _<_}
-use mathlib.Core.Path.{_≡_, refl, sym, ap, _∙_}
+use mathlib.Core.Path.{_≡_, ap, _∙_}
 use mathlib.Core.Bool.{Bool, true, false, not}
-use mathlib.Core.List.{List, []}
+use mathlib.Core.List.{List}
 use native.Mathlib.Omega.{arith}
 use lib.Dec.{eqb}
 use lib.ListN.{length, take, drop, length-take, length-drop}
-use borrow.Author.Tests.{lt-ltb, le-ltb, not-true, not-false}
+use borrow.Author.Tests.{lt-ltb, le-ltb}
 use Rattle.text.specs.Quoted.{bytes}
-use Rattle.text.specs.Scan.{count, same, paired}
+use Rattle.text.specs.Scan.{count, same}
 use Rattle.text.proofs.Scans.{pair-unlike}
 use Rattle.refusal.specs.declared.Refusal.{Refusal}
 use Rattle.refusal.specs.declared.Refusal.the-variants.{FileTooLong, NoLineEnd, UnknownRecord, OutOfOrder, FieldCount, FeatureLacks}

@@ -1,7 +1,7 @@
 -- The walk over the fields, one turn of it.
 use Prim.Native.Nat.{ℕ, suc, _+_, _-_, _≤_, _<_}
-use mathlib.Core.Path.{_≡_, refl, sym, ap, _∙_}
-use mathlib.Core.List.{List, [], _∷_}
+use mathlib.Core.Path.{_≡_, sym, ap, _∙_}
+use mathlib.Core.List.{List}
 use native.Mathlib.Numerals.{add-one}
 use native.Mathlib.Omega.{arith}
 use lib.ListN.{length, take, drop}
@@ -14,7 +14,7 @@ use Rattle.line.specs.Parts.{nameOf, fieldsOf, fieldEnd}
 use Rattle.line.specs.Walk.{onTest, walk}
 use Rattle.line.specs.declared.walk.Walk.{Walk}
 use Rattle.line.specs.declared.walk.Walk.the-variants.{Fine, Stopped}
-use Rattle.line.proofs.Parts.{rest, rest-none, rest-step, part-long, end-least, end-most, name-there, fields-there}
+use Rattle.line.proofs.Parts.{rest, rest-none, rest-step, part-long, end-least, name-there, fields-there}
 
 -- what is left of the walk at a place, with the part in front of it from the place beside on, is the whole
 abbrev pub Left : Record → List ℕ → ℕ → ℕ → ℕ → ℕ → Walk → Type 0

@@ -1,6 +1,6 @@
 -- Document 01, "One field adds a field number, then 15 for 0 or above the count, and answers start and length."
 use Prim.Native.Nat.{ℕ, _+_}
-use mathlib.Core.Bool.{Bool, _||_}
+use mathlib.Core.Bool.{_||_}
 use mathlib.Core.List.{List}
 use lib.Dec.{ltb, eqb}
 use lib.ListN.{length}

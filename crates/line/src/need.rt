@@ -1,6 +1,5 @@
 // What a feature needs: the fields of its line that must be filled.
 ghost use mathlib.Core.Path.{_≡_};
-ghost use mathlib.Core.Bool.{_&&_, _||_};
 ghost use Rattle.line.specs.Parts.{split};
 ghost use Rattle.line.specs.Need.{isFilled, serves, isServed, lacks};
 use crate::part::field_in;

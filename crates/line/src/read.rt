@@ -1,6 +1,6 @@
 // One line at an offset of the file: its end, its record, its fields, in the order of the refusals.
 ghost use mathlib.Core.Path.{_≡_};
-ghost use Prim.Native.Nat.{_+_, _<_, _≤_};
+ghost use Prim.Native.Nat.{_+_, _<_};
 ghost use lib.ListN.{length};
 ghost use Rattle.line.specs.Parts.{nameOf};
 ghost use Rattle.line.specs.Line.{ofText, ofKind, lineAnswer};

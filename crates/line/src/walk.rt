@@ -1,6 +1,6 @@
 // The fields of a line, tested from left to right.
 ghost use mathlib.Core.Path.{_≡_};
-ghost use Prim.Native.Nat.{_+_, _≤_, _<_};
+ghost use Prim.Native.Nat.{_+_, _<_};
 ghost use lib.ListN.{length};
 ghost use Rattle.line.specs.Parts.{nameOf, fieldsOf};
 ghost use Rattle.line.specs.Walk.{walk};

@@ -18,7 +18,8 @@ use Rattle.writer.specs.Write.{writtenTo, writeVerdict}
 use Rattle.writer.specs.declared.write.WriteAnswer.{WriteAnswer}
 use Rattle.purpose.specs.Purpose.{listAfter, outputAfter, purposeVerdict}
 use Rattle.purpose.specs.declared.write.PurposeAnswer.{PurposeAnswer}
-use Rattle.peliranopi.specs.Told.{numberIn, placeIn, linesIn, parcelsIn, centsIn, recordIn, countIn, nextIn, startIn, lengthIn, writtenIn, purposeIn, issuedIn, kindIn}
+use Rattle.peliranopi.specs.Told.{numberIn, placeIn, linesIn, parcelsIn, centsIn, recordIn, countIn, nextIn, startIn}
+use Rattle.peliranopi.specs.Told.{lengthIn, writtenIn, purposeIn, issuedIn, kindIn}
 
 -- a value that is told of an answer is that of the answer's definition, where the answer's case is known
 abbrev pub Told : {A : Type 0} → (A → ℕ) → Type 0

@@ -9,32 +9,11 @@ use Rattle.check_characters.specs.Iban.{ibanVerdict, checked as checkedIban}
 use Rattle.fields.specs.declared.record.Due.the-variants.{Any}
 use Rattle.line.specs.Line.{lineAnswer, lineVerdict}
 use Rattle.line.specs.Find.{fieldAnswer, fieldVerdict}
-use Rattle.line.specs.declared.read.LineAnswer.{LineAnswer}
-use Rattle.line.specs.declared.find.FieldAnswer.{FieldAnswer}
 use Rattle.file.specs.File.{judged, listOf, fileVerdict}
-use Rattle.file.specs.declared.whole.FileAnswer.{FileAnswer}
 use Rattle.writer.specs.Write.{recordNumbered, between, writeAnswer, writtenTo, writeVerdict}
-use Rattle.writer.specs.declared.write.WriteAnswer.{WriteAnswer}
 use Rattle.purpose.specs.Purpose.{purposeAnswer, purposeText, listAfter, outputAfter, purposeVerdict}
-use Rattle.purpose.specs.declared.write.PurposeAnswer.{PurposeAnswer}
-use Rattle.check_characters.specs.declared.number.NumberAnswer.{NumberAnswer}
-use Rattle.check_characters.specs.declared.number.IssueAnswer.{IssueAnswer}
-use Rattle.peliranopi.specs.Told.{
-  numberIn,
-  placeIn,
-  linesIn,
-  parcelsIn,
-  centsIn,
-  recordIn,
-  countIn,
-  nextIn,
-  startIn,
-  lengthIn,
-  writtenIn,
-  purposeIn,
-  issuedIn,
-  kindIn,
-}
+use Rattle.peliranopi.specs.Told.{numberIn, placeIn, linesIn, parcelsIn, centsIn, recordIn, countIn, nextIn, startIn}
+use Rattle.peliranopi.specs.Told.{lengthIn, writtenIn, purposeIn, issuedIn, kindIn}
 
 -- what every call tells: its number, and the place
 abbrev pub Tells : Verdict → ℕ → ℕ → Type 0

@@ -1,7 +1,7 @@
 -- Document 01, 'Payment purpose' (document 000, 5.6.4): which field, or which two, supply the text. A file's lines are known here by
 -- where they start.
 use Prim.Native.Nat.{ℕ, zero, suc, _+_}
-use mathlib.Core.Bool.{Bool, not, _&&_}
+use mathlib.Core.Bool.{Bool, _&&_}
 use mathlib.Core.List.{List, [], _∷_}
 use lib.Dec.{leb}
 use lib.ListN.{length, drop, getD}

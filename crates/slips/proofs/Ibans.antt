@@ -3,9 +3,9 @@ use Prim.Native.Nat.{ℕ, suc, _+_, _-_, _*_, _/_, _%_, _^_, _≤_, _<_}
 use mathlib.Core.Path.{_≡_, refl, sym, ap, _∙_}
 use mathlib.Core.Bool.{Bool, true, false, not, _&&_, _||_}
 use mathlib.Core.List.{List, [], _∷_, _++_, append-assoc}
-use mathlib.Core.Logic.{_⊎_, inl, inr, ⊎-elim}
+use mathlib.Core.Logic.{_⊎_, inl, ⊎-elim}
 use native.Mathlib.Omega.{arith}
-use native.Mathlib.Nat.{pow-succ', zero-add, mul-add}
+use native.Mathlib.Nat.{pow-succ', zero-add}
 use native.Mathlib.Numerals.{add-one}
 use lib.Dec.{eqb, ltb, leb}
 use lib.ListN.{length, getD, take, drop, length-append}
@@ -18,16 +18,18 @@ use Rattle.text.specs.Byte.{digit, capital}
 use Rattle.text.proofs.Choices.{and-left, and-right, or-cases, came-then, came-else, clash}
 use Rattle.text.proofs.Bytes.{digit-range, capital-range, capital-low}
 use Rattle.text.proofs.Scans.{none-fails, all-pass}
-use Rattle.text.proofs.Finite.{every, every-at, tells, told-apart}
+use Rattle.text.proofs.Finite.{every-at, tells, told-apart}
 use Rattle.check_characters.specs.Symbol.{valueOf}
-use Rattle.check_characters.specs.Iban.{allowed, wrongSymbol, digitsOf, spread, decimalFrom, decimal, moved, ibanNumber, checkDigits, barred, soundOf, checked}
+use Rattle.check_characters.specs.Iban.{allowed, wrongSymbol, digitsOf, spread, decimalFrom, decimal, moved, ibanNumber}
+use Rattle.check_characters.specs.Iban.{checkDigits, barred, soundOf, checked}
 use Rattle.check_characters.specs.declared.iban.IbanAnswer.the-variants.{Accepted, Refused}
 use Rattle.check_characters.proofs.Symbols.{value-le, value-digit, value-capital}
 use Rattle.check_characters.proofs.Digits.{mod-scale, spread-append}
 use Rattle.slips.specs.Slips.{AgreeBut, OneClass, swapped}
-use Rattle.slips.specs.Exactly.{Shaped, SoundIban}
+use Rattle.slips.specs.Exactly.{SoundIban}
 use Rattle.slips.proofs.Places.{in-pieces, agree-there, pair-at, swap-alike}
-use Rattle.slips.proofs.Remainders.{decimal-append, weight, weighed, after, remainderFrom, remainder-spread, remainder-append, weight-tells, cancel, tell-remainders, tell-order, tell-value}
+use Rattle.slips.proofs.Remainders.{decimal-append, weight, weighed, after, remainderFrom, remainder-spread}
+use Rattle.slips.proofs.Remainders.{remainder-append, weight-tells, cancel, tell-remainders, tell-order, tell-value}
 
 refused : {why : Refusal} {place : ℕ} → Refused why place ≡ Accepted → ⊥
 refused e = let z : _≡_ {A = ℕ} 0 1 = cc in omega arith

@@ -1,35 +1,33 @@
 -- Issuing and checking are each other's inverse: what is issued is accepted, and an accepted number is what its body issues.
-use Prim.Native.Nat.{ℕ, suc, _+_, _-_, _%_, _≤_, _<_}
+use Prim.Native.Nat.{ℕ, _+_, _-_, _%_, _≤_, _<_}
 use mathlib.Core.Path.{_≡_, refl, sym, ap, _∙_}
-use mathlib.Core.Bool.{Bool, true, false}
+use mathlib.Core.Bool.{true, false}
 use mathlib.Core.List.{List, [], _∷_, _++_}
 use mathlib.Core.Logic.{⊎-elim}
 use native.Mathlib.Omega.{arith}
-use native.Mathlib.Nat.{zero-add}
 use lib.Dec.{eqb, ltb}
 use lib.ListN.{length, getD, take, drop, length-append, length-take, List·getD-append}
 use lib.Seq.{take-at, getD-take, getD-at, append-snoc}
-use borrow.Author.Tests.{eqb-true, eq-eqb, ltb-false, le-ltb}
+use borrow.Author.Tests.{eqb-true, ltb-false}
 use Rattle.refusal.specs.declared.Refusal.{Refusal}
 use Rattle.refusal.specs.declared.Refusal.the-variants.{OutputTooShort, WrongLength, WrongSymbol}
 use Rattle.text.specs.Byte.{symbol}
 use Rattle.text.specs.Choice.{if_then_else_}
 use Rattle.text.proofs.Choices.{came-then, came-else, true-or-false}
 use Rattle.text.proofs.Numbers.{le-or-lt}
-use Rattle.text.proofs.Finite.{every, every-at}
-use Rattle.text.proofs.Scans.{none-fails, all-pass}
+use Rattle.text.proofs.Finite.{every-at}
 use Rattle.check_characters.specs.Symbol.{valueOf, symbolOf}
-use Rattle.check_characters.specs.Mod37.{step, carry, closes, passes, firstValue, checkOf}
+use Rattle.check_characters.specs.Mod37.{carry, checkOf}
 use Rattle.check_characters.specs.Number.{lengthOf, allowed, wrongSymbol, issueAs, issueAnswer, issuedTo, Issues}
 use Rattle.check_characters.specs.declared.number.Kind.{Kind}
 use Rattle.check_characters.specs.declared.number.Kind.the-variants.{Tracking, Label}
 use Rattle.check_characters.specs.declared.number.IssueAnswer.{IssueAnswer}
 use Rattle.check_characters.specs.declared.number.IssueAnswer.the-variants.{Issued, NotIssued}
-use Rattle.check_characters.proofs.Carries.{Carry, carry-of, check-value}
+use Rattle.check_characters.proofs.Carries.{carry-of, check-value}
 use Rattle.check_characters.proofs.Shapes.{has-last, tracking-check, label-check}
 use Rattle.check_characters.proofs.Issuing.{issue-fits, issue-tracking, issue-label}
 use Rattle.slips.specs.Exactly.{Shaped, SoundNumber, bodyOf}
-use Rattle.slips.proofs.Numbers.{all-and-last, shaped-of, of-shaped, passes-two, two-passes, carry-append, two-of-one, one-symbol}
+use Rattle.slips.proofs.Numbers.{all-and-last, shaped-of, of-shaped, two-passes, carry-append, two-of-one, one-symbol}
 
 not-issued : {why : Refusal} {place n : ℕ} → NotIssued why place ≡ Issued n → ⊥
 not-issued e = let z : _≡_ {A = ℕ} 0 1 = cc in omega arith

@@ -1,7 +1,7 @@
 -- DPD numbers: accepted exactly when sound; no two differ in one symbol; when neighbours may be swapped.
 use Prim.Native.Nat.{ℕ, suc, _+_, _-_, _%_, _≤_, _<_}
 use mathlib.Core.Path.{_≡_, refl, sym, ap, _∙_}
-use mathlib.Core.Bool.{Bool, true, false}
+use mathlib.Core.Bool.{true, false}
 use mathlib.Core.List.{List, [], _∷_, _++_}
 use mathlib.Core.Logic.{_↔_, _⊎_, inl, inr, ⊎-elim}
 use native.Mathlib.Omega.{arith}
@@ -9,7 +9,7 @@ use native.Mathlib.Nat.{zero-add}
 use lib.Dec.{eqb, ltb}
 use lib.ListN.{length, getD, take, drop, length-append}
 use lib.Seq.{split-at, take-suc, take-all, getD-at}
-use borrow.Author.Tests.{eqb-true, eqb-false, eq-eqb, ltb-false, le-ltb}
+use borrow.Author.Tests.{eqb-true, eq-eqb, ltb-false, le-ltb}
 use Rattle.refusal.specs.declared.Refusal.{Refusal}
 use Rattle.refusal.specs.declared.Refusal.the-variants.{WrongLength, WrongSymbol, WrongCheck}
 use Rattle.text.specs.Byte.{digit, capital, symbol}
@@ -23,10 +23,9 @@ use Rattle.check_characters.specs.Mod37.{step, carryFrom, carry, passes}
 use Rattle.check_characters.specs.Number.{lengthOf, allowed, wrongSymbol, checkedAs, checked}
 use Rattle.check_characters.specs.declared.number.Kind.{Kind}
 use Rattle.check_characters.specs.declared.number.Kind.the-variants.{Tracking, Label}
-use Rattle.check_characters.specs.declared.number.NumberAnswer.{NumberAnswer}
 use Rattle.check_characters.specs.declared.number.NumberAnswer.the-variants.{Accepted, Refused}
 use Rattle.check_characters.proofs.Symbols.{value-le, value-digit, value-capital}
-use Rattle.check_characters.proofs.Carries.{Carry, step-more, step-carry, carry-range, carry-of}
+use Rattle.check_characters.proofs.Carries.{Carry, step-more, step-carry, carry-of}
 use Rattle.check_characters.proofs.Shapes.{has-last, tracking-digit, tracking-check, label-symbol, label-digit, label-check}
 use Rattle.check_characters.proofs.Checking.{checked-tracking, checked-label}
 use Rattle.slips.specs.Slips.{AgreeBut, swapped, OneFollows}

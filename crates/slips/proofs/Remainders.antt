@@ -10,7 +10,7 @@ use Rattle.text.specs.Byte.{capital}
 use Rattle.text.proofs.Finite.{tells, told-apart}
 use Rattle.check_characters.specs.Symbol.{valueOf}
 use Rattle.check_characters.specs.Iban.{digitsOf, spread, decimalFrom}
-use Rattle.check_characters.proofs.Digits.{mod-scale, decimal-mod}
+use Rattle.check_characters.proofs.Digits.{mod-scale}
 
 pub decimal-append : (a : ℕ) (p q : List ℕ) → decimalFrom a (p ++ q) ≡ decimalFrom (decimalFrom a p) q
 decimal-append a [] q = refl

@@ -8,7 +8,7 @@ use native.Mathlib.Numerals.{add-one}
 use native.Mathlib.Omega.{arith}
 use lib.Dec.{leb}
 use lib.ListN.{length, set, take, drop, getD, length-append, length-drop, take-append-drop, drop-of-length-le}
-use lib.Seq.{paste, paste-zero, paste-suc, take-all, take-nil, take-at, drop-at, drop-drop, length-take-le}
+use lib.Seq.{paste, paste-suc, take-all, take-nil, take-at, drop-at, drop-drop, length-take-le}
 use borrow.Author.Tests.{le-leb, lt-leb, leb-true}
 use Rattle.text.specs.Choice.{if_then_else_}
 use Rattle.text.specs.Placed.{written, placed}

@@ -2,7 +2,6 @@
 // the desk stands on.
 ghost use mathlib.Core.Path.{_≡_};
 ghost use Prim.Native.Nat.{_+_, _≤_};
-ghost use mathlib.Core.List.{_++_};
 ghost use lib.ListN.{length, take, drop};
 ghost use Rattle.text.specs.Byte.{digit, capital, small, symbol, textByte, purposeByte};
 ghost use Rattle.text.specs.Scan.{among, same};

@@ -27,7 +27,8 @@ use Rattle.line.specs.declared.walk.Walk.the-variants.{Fine, Stopped}
 use Rattle.grammar.specs.Grammar.{render, fieldNo, LineOk, Reads}
 use Rattle.grammar.proofs.Sizes.{render-reads, render-accepted}
 use Rattle.grammar.proofs.Finding.{found, field-exactly}
-use Rattle.writer.specs.Write.{recordNumbered, risesTo, endsHold, fieldsFrom, between, walked, ofFields, afterWalk, ofRecord, writeAnswer, writtenTo, Writes, inOne, endsFrom, Writable, ReadsBack}
+use Rattle.writer.specs.Write.{recordNumbered, risesTo, endsHold, fieldsFrom, between, walked, ofFields, afterWalk}
+use Rattle.writer.specs.Write.{ofRecord, writeAnswer, writtenTo, Writes, inOne, endsFrom, Writable, ReadsBack}
 use Rattle.writer.specs.declared.write.WriteAnswer.{WriteAnswer}
 use Rattle.writer.specs.declared.write.WriteAnswer.the-variants.{Written, NotWritten}
 use Rattle.writer.proofs.Ends.{between-count}

@@ -1,5 +1,4 @@
 -- `table::width_at` meets its contract: the table is what the paper's widths give.
-use Prim.Native.Nat.{ℕ}
 use Rattle.fields.specs.Record.{recordAt}
 use Rattle.fields.specs.Table.{widths, widthInTable}
 use Rattle.fields.proofs.Tables.{table-at}

@@ -1,11 +1,13 @@
 -- `tree::find_or_grow` meets its contract.
-use Rattle.file.proofs.Finding.{none-there, first-grown, here-long, pair-in, pair-small, slot-low, slot-in, both-long, code-there, tree-stays, digit-earlier, digit-here, code-new, tree-grows}
+use Rattle.file.proofs.Finding.{none-there, first-grown, here-long, pair-in, pair-small, slot-low, slot-in, both-long}
+use Rattle.file.proofs.Finding.{code-there, tree-stays, digit-earlier, digit-here, code-new, tree-grows}
 use borrow.Author.Needs.{needs}
 use Rattle.file.proofs.tree.find_or_grow.Statement.{statement}
 use Rattle.file.proofs.tree.find_or_grow.Tie as tie
 
-ruleset laws =
-    (needs, none-there, first-grown, here-long, pair-in, pair-small, slot-low, slot-in, both-long, code-there, tree-stays, digit-earlier, digit-here, code-new, tree-grows)
+ruleset places = (here-long, pair-in, pair-small, slot-low, slot-in, both-long, digit-earlier, digit-here)
+
+ruleset laws = (needs, places, none-there, first-grown, code-there, tree-stays, code-new, tree-grows)
 
 part-requires : tie.Need-part-requires
 part-requires c κs = (search laws, search laws, search laws, search laws, search laws)

@@ -1,6 +1,5 @@
 -- `walk::walk_fields` meets its contract: what is left of the walk is the whole.
 use Prim.Native.Nat.{_≤_, _+_, _-_}
-use mathlib.Core.Path.{_≡_}
 use lib.ListN.{length}
 use Rattle.line.specs.Parts.{nameOf, fieldsOf}
 use Rattle.line.specs.Walk.{walk}

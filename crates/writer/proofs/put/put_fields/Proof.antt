@@ -30,12 +30,15 @@ put-fields-spec =
     Inv-loop μ-loop (λ c. search laws) (λ c. search laws) (λ c. search laws) (λ c. search laws) (λ c. search laws)
     (λ c. search laws) (λ c κs. search laws) (λ c. search laws) (λ c. search laws) (λ c. search laws) (λ c. search laws)
     (λ c. search laws) (λ c κs. search laws) (λ c. search laws) (λ c. search laws)
-    (λ c. (
+    (λ c.
+    let test = c .before .before .before .before .before .before .before .before .before .before .before in
+    let turn = test .before in
+    let typed = c .before .before .before .before .before .before .before in (
       search needs,
       search (needs, end-inside),
       search (needs, still-long),
       search (needs, rest-rises),
-      put-on _ _ _ _ _ _
-          (c .before .before .before .before .before .before .before .before .before .before .before .before .loop .inv .4) (c .before .before .before .before .before .before .before .before .before .before .before .loop-test .taken) (c .before .before .before .before .before .before .before .before .before .before .before .before .loop .inv .3) _ (c .before .before .before .before .before .before .before .before .before .before .before .before .loop .inv .2) (c .before .before .before .before .before .before .before .before .before .before .before .before .before .before .before .before .pre .0) _ _ (c .before .before .before .before .before .before .before .place .ensures) (c .before .before .place2 .ensures),
+      put-on _ _ _ _ _ _ (turn .loop .inv .4) (test .loop-test .taken) (turn .loop .inv .3) _ (turn .loop .inv .2)
+          (turn .before .before .before .before .pre .0) _ _ (typed .place .ensures) (c .before .before .place2 .ensures),
     ))
     (λ c. search laws) (λ c. search laws))

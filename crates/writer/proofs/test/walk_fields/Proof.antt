@@ -29,12 +29,13 @@ walk-fields-spec =
     Inv-loop μ-loop (λ c. search laws) (λ c. search laws) (λ c. search laws) (λ c. search laws) (λ c. search laws)
     (λ c. search laws) (λ c. search laws) (λ c. search laws) (λ c. search laws) (λ c. search laws) (λ c κs. search laws)
     (λ c. search laws) (λ c. search laws) (λ c. search laws) (λ c. search laws) (λ c. search laws) (λ c. search laws)
-    (λ c. (
+    (λ c.
+    let test = c .before .before .before .before .before .before in (
       search needs,
       search (needs, end-rises),
       search (needs, end-inside),
       search (needs, rest-rises),
-      walk-on _ _ _ _ _ _ _
-          (c .before .before .before .before .before .before .before .loop .inv .4) (c .before .before .before .before .before .before .loop-test .taken) _ (c .before .before .test-to-write .ensures) (c .enum-told .given .1),
+      walk-on _ _ _ _ _ _ _ (test .before .loop .inv .4) (test .loop-test .taken) _ (c .before .before .test-to-write .ensures)
+          (c .enum-told .given .1),
     ))
     (λ c. search laws))
