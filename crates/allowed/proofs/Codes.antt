@@ -9,6 +9,8 @@ use Rattle.text.specs.Scan.{same}
 use Rattle.fields.specs.Record.{typeOf}
 use Rattle.fields.specs.declared.record.Record.{Record}
 use Rattle.fields.specs.declared.record.Record.the-variants.{Header, Sender, Shipment, Parcel, Product, Feature}
+use Rattle.fields.specs.Profile.{profile}
+use Rattle.grammar.proofs.Sizes.{sound}
 use Rattle.grammar.specs.Grammar.{render, LineOk, fieldNo}
 use Rattle.file.specs.Identcode.{identcodeAt, sameParcel, onEarlier, repeats}
 use Rattle.file.proofs.Codes.{type-there, code-there}
@@ -22,13 +24,13 @@ module _ (s : List ℕ) (earlier : ℕ) (fs : List (List ℕ)) (rest : List ℕ)
   unfolding sameParcel
   other-type kind there e = rw (type-there s earlier kind fs rest there, e)
 
-  pub same-code : (kind : Record) → drop earlier s ≡ render kind fs ++ rest → LineOk kind fs →
+  pub same-code : (kind : Record) → drop earlier s ≡ render kind fs ++ rest → LineOk profile kind fs →
       sameParcel s earlier at ≡ oneOfCodes (identcodeAt s at) (codeOf kind fs)
   unfolding sameParcel
   same-code Header there ok = other-type Header there refl
   same-code Sender there ok = other-type Sender there refl
   same-code Shipment there ok = other-type Shipment there refl
-  same-code Parcel there ok = rw (type-there s earlier Parcel fs rest there, code-there s earlier fs rest there ok)
+  same-code Parcel there ok = rw (type-there s earlier Parcel fs rest there, code-there sound s earlier fs rest there ok)
       (sym (or-false (same (fieldNo fs 1) (identcodeAt s at))))
   same-code Product there ok = other-type Product there refl
   same-code Feature there ok = other-type Feature there refl
@@ -42,7 +44,7 @@ codes-append code [] ys = refl
 codes-append code (x ∷ xs) ys = rw (codes-append code xs ys) (sym (or-assoc (same x code) (oneOfCodes code xs) (oneOfCodes code ys)))
 
 pub seen-more : (s starts : List ℕ) (codes : List (List ℕ)) (earlier : ℕ) (kind : Record) (fs : List (List ℕ)) (rest : List ℕ) →
-    Seen s starts codes → drop earlier s ≡ render kind fs ++ rest → LineOk kind fs →
+    Seen s starts codes → drop earlier s ≡ render kind fs ++ rest → LineOk profile kind fs →
     Seen s (starts ++ (earlier ∷ [])) (codes ++ codeOf kind fs)
 seen-more s starts codes earlier kind fs rest seen there ok at =
     earlier-more s starts earlier at
@@ -56,22 +58,22 @@ Fresh seen [] = Unit {0}
 Fresh seen (c ∷ cs) = (oneOfCodes c seen ≡ false) × Fresh seen cs
 
 module _ (s starts : List ℕ) (codes : List (List ℕ)) (at : ℕ) (fs : List (List ℕ)) (rest : List ℕ) (seen : Seen s starts codes) where
-  pub fresh-not : (kind : Record) → drop at s ≡ render kind fs ++ rest → LineOk kind fs → repeats kind s starts at ≡ false →
+  pub fresh-not : (kind : Record) → drop at s ≡ render kind fs ++ rest → LineOk profile kind fs → repeats kind s starts at ≡ false →
       Fresh codes (codeOf kind fs)
   unfolding repeats
   fresh-not Header there ok e = tt
   fresh-not Sender there ok e = tt
   fresh-not Shipment there ok e = tt
-  fresh-not Parcel there ok e = (rw (code-there s at fs rest there ok) at (sym (seen at) ∙ e), tt)
+  fresh-not Parcel there ok e = (rw (code-there sound s at fs rest there ok) at (sym (seen at) ∙ e), tt)
   fresh-not Product there ok e = tt
   fresh-not Feature there ok e = tt
 
-  pub not-fresh : (kind : Record) → drop at s ≡ render kind fs ++ rest → LineOk kind fs → Fresh codes (codeOf kind fs) →
+  pub not-fresh : (kind : Record) → drop at s ≡ render kind fs ++ rest → LineOk profile kind fs → Fresh codes (codeOf kind fs) →
       repeats kind s starts at ≡ false
   unfolding repeats
   not-fresh Header there ok f = refl
   not-fresh Sender there ok f = refl
   not-fresh Shipment there ok f = refl
-  not-fresh Parcel there ok f = seen at ∙ rw (code-there s at fs rest there ok) (f .0)
+  not-fresh Parcel there ok f = seen at ∙ rw (code-there sound s at fs rest there ok) (f .0)
   not-fresh Product there ok f = refl
   not-fresh Feature there ok f = refl

@@ -16,13 +16,14 @@ use Rattle.refusal.specs.declared.Refusal.the-variants.{FileEnds}
 use Rattle.fields.specs.Record.{mayCome, mayEnd}
 use Rattle.fields.specs.declared.record.Due.{Due}
 use Rattle.fields.specs.declared.record.Due.the-variants.{After}
+use Rattle.fields.specs.Profile.{profile}
 use Rattle.line.specs.Parts.{fieldsOf}
 use Rattle.line.specs.Line.{textAt}
 use Rattle.line.specs.declared.read.Line.{Line}
 use Rattle.grammar.specs.Grammar.{LineOk, Reads}
 use Rattle.grammar.proofs.Lines.{accepted-reads, reads-accepted, next-inside, next-far, rest-is, read-parts}
 use Rattle.file.specs.Cash.{cashOf}
-use Rattle.file.specs.Step.{behind, onLine, stepAnswer}
+use Rattle.file.specs.Step.{behind, onLine, stepAnswer, toldBy}
 use Rattle.file.specs.File.{Judged, ended, onStep, fileFrom}
 use Rattle.file.specs.declared.step.State.{State}
 use Rattle.file.specs.declared.step.Step.{Step}
@@ -37,7 +38,7 @@ use Rattle.allowed.proofs.Codes.{Seen, seen-more, Fresh, fresh-not, not
 abbrev pub AllowedFrom : List ℕ → List (List ℕ) → Due → List FileLine → Type 0
 AllowedFrom left codes due [] = (left ≡ []) × (mayEnd due ≡ true)
 AllowedFrom left codes due (l ∷ ls) =
-    (rest : List ℕ) × (left ≡ lineBytes l ++ rest) × LineOk (l .kind) (l .fields) × (mayCome due (l .kind) ≡ true) ×
+    (rest : List ℕ) × (left ≡ lineBytes l ++ rest) × LineOk profile (l .kind) (l .fields) × (mayCome due (l .kind) ≡ true) ×
     Fresh codes (codeOf (l .kind) (l .fields)) ×
     AllowedFrom rest (codes ++ codeOf (l .kind) (l .fields)) (After (l .kind)) ls
 
@@ -74,7 +75,7 @@ said-same {a} {b} {p} {q} {c} {d} {x} {y} e f g h =
     ap (λ (n : ℕ). said n p c x) e ∙ ap (λ (n : ℕ). said b n c x) f ∙ ap (λ (n : ℕ). said b q n x) g ∙ ap (said b q d) h
 
 -- one line more
-module _ (s starts : List ℕ) (state : State) (line : Line) (fs : List (List ℕ)) (g : Reads (state .due) s (state .at) line fs)
+module _ (s starts : List ℕ) (state : State) (line : Line) (fs : List (List ℕ)) (g : Reads (toldBy state) s (state .at) line fs)
     (ls : List FileLine) where
   judged-more : judgedWith (starts ++ (state .at ∷ [])) (behind s state line) ls ≡ judgedWith starts state
       (record { kind = line .kind; fields = fs } ∷ ls)
@@ -126,7 +127,7 @@ module _ (s : List ℕ) (m : ℕ) (small : length s ≤ 65535) (totals : Totals)
       let w = went s m starts state next es in
       let line = w .line in
       let fs = fieldsOf (textAt s (state .at)) in
-      let g = accepted-reads (state .due) s (state .at) line (w .accepted) in
+      let g = accepted-reads (toldBy state) s (state .at) line (w .accepted) in
       let codes′ = codes ++ codeOf (line .kind) fs in
       let r = more (starts ++ (state .at ∷ [])) codes′ (behind s state line) (omega (arith, next-far g)) (next-inside g)
       (omega (arith, w .room)) (seen-more s starts codes (state .at) (line .kind) fs (g .rest) seen (g .stands) (g .allowed)) (rw
@@ -165,7 +166,7 @@ module _ (s : List ℕ) (m : ℕ) (small : length s ≤ 65535) where
 
   step-there :
       (starts : List ℕ) (codes : List (List ℕ)) (state : State) (line : Line) (fs : List (List ℕ))
-      (g : Reads (state .due) s (state .at) line fs) → Seen s starts codes → Fresh codes (codeOf (line .kind) fs) → state .lines < m →
+      (g : Reads (toldBy state) s (state .at) line fs) → Seen s starts codes → Fresh codes (codeOf (line .kind) fs) → state .lines < m →
       stepAnswer s m starts state ≡ Next (behind s state line)
   unfolding stepAnswer onLine
   step-there starts codes state line fs g seen fresh room =
@@ -183,7 +184,7 @@ module _ (s : List ℕ) (m : ℕ) (small : length s ≤ 65535) where
   runs (l ∷ ls) zero starts codes state few inside room seen a = absurd (omega arith)
   runs (l ∷ ls) (suc turns) starts codes state few inside room seen a =
       let line : Line = record { kind = l .kind; count = length (l .fields); next = state .at + length (lineBytes l) } in
-      let g : Reads (state .due) s (state .at) (record {
+      let g : Reads (toldBy state) s (state .at) (record {
         kind = l .kind;
         count = length (l .fields);
         next =

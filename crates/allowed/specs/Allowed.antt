@@ -5,12 +5,14 @@ use mathlib.Core.Path.{_≡_}
 use mathlib.Core.Bool.{Bool, true, false, _||_}
 use mathlib.Core.List.{List, [], _∷_, _++_}
 use lib.ListN.{length}
+use Rattle.text.specs.Choice.{if_then_else_}
 use Rattle.text.specs.Scan.{same}
-use Rattle.fields.specs.Record.{typeOf, mayCome, mayEnd}
+use Rattle.fields.specs.Record.{typeOf, _isA_, mayCome, mayEnd}
 use Rattle.fields.specs.declared.record.Record.{Record}
-use Rattle.fields.specs.declared.record.Record.the-variants.{Header, Sender, Shipment, Parcel, Product, Feature}
+use Rattle.fields.specs.declared.record.Record.the-variants.{Parcel}
 use Rattle.fields.specs.declared.record.Due.{Due}
 use Rattle.fields.specs.declared.record.Due.the-variants.{First, After}
+use Rattle.fields.specs.Profile.{profile}
 use Rattle.grammar.specs.Grammar.{render, LineOk, fieldNo}
 use Rattle.file.specs.Cash.{cashOf}
 use Rattle.file.specs.Step.{parcelsIn}
@@ -32,7 +34,7 @@ fileBytes (l ∷ ls) = lineBytes l ++ fileBytes ls
 -- each line keeps its rules
 abbrev pub LinesOk : List FileLine → Type 0
 LinesOk [] = Unit {0}
-LinesOk (l ∷ ls) = LineOk (l .kind) (l .fields) × LinesOk ls
+LinesOk (l ∷ ls) = LineOk profile (l .kind) (l .fields) × LinesOk ls
 
 -- "Record order": each record may come where it comes, and "The end is allowed only there."
 abbrev pub InOrder : Due → List FileLine → Type 0
@@ -41,12 +43,7 @@ InOrder due (l ∷ ls) = (mayCome due (l .kind) ≡ true) × InOrder (After (l .
 
 -- the identcodes (040.1) of lines
 abbrev pub codeOf : Record → List (List ℕ) → List (List ℕ)
-codeOf Header fs = []
-codeOf Sender fs = []
-codeOf Shipment fs = []
-codeOf Parcel fs = fieldNo fs 1 ∷ []
-codeOf Product fs = []
-codeOf Feature fs = []
+codeOf kind fs = if kind isA Parcel then fieldNo fs 1 ∷ [] else []
 
 abbrev pub identcodes : List FileLine → List (List ℕ)
 identcodes [] = []
@@ -57,7 +54,7 @@ abbrev pub oneOfCodes : List ℕ → List (List ℕ) → Bool
 oneOfCodes code [] = false
 oneOfCodes code (c ∷ cs) = same c code || oneOfCodes code cs
 
--- "No identcode (040.1) occurs twice in a file": none stands among those behind it
+-- "No identcode sound (040.1) occurs twice in a file": none stands among those behind it
 abbrev pub NoneTwice : List (List ℕ) → Type 0
 NoneTwice [] = Unit {0}
 NoneTwice (c ∷ cs) = (oneOfCodes c cs ≡ false) × NoneTwice cs

@@ -12,11 +12,11 @@ use Rattle.check_characters.specs.Iban.{checked as checkedIban}
 use Rattle.check_characters.specs.declared.number.NumberAnswer.{NumberAnswer}
 use Rattle.check_characters.specs.declared.number.IssueAnswer.{IssueAnswer}
 use Rattle.check_characters.specs.declared.iban.IbanAnswer.{IbanAnswer}
+use Rattle.fields.specs.Profile.{profile}
 use Rattle.fields.specs.Field.{tested}
 use Rattle.fields.specs.declared.record.Record.{Record}
-use Rattle.fields.specs.declared.record.Due.the-variants.{Any}
 use Rattle.fields.specs.declared.field.Tested.{Tested}
-use Rattle.line.specs.Line.{lineAnswer}
+use Rattle.line.specs.Line.{lineAnswer, alone}
 use Rattle.line.specs.Find.{fieldAnswer}
 use Rattle.line.specs.declared.read.LineAnswer.{LineAnswer}
 use Rattle.line.specs.declared.find.FieldAnswer.{FieldAnswer}
@@ -47,15 +47,15 @@ issue-number-unique body out a b x y p q =
 pub check-iban-unique : (s : List ℕ) (a b : IbanAnswer) → a ≡ checkedIban s → b ≡ checkedIban s → a ≡ b
 check-iban-unique s = one-answer checkedIban s
 
-pub read-line-unique : (s : List ℕ) (at : ℕ) (a b : LineAnswer) → a ≡ lineAnswer Any s at → b ≡ lineAnswer Any s at → a ≡ b
-read-line-unique s = one-answer (lineAnswer Any s)
+pub read-line-unique : (s : List ℕ) (at : ℕ) (a b : LineAnswer) → a ≡ lineAnswer (alone profile) s at → b ≡ lineAnswer (alone profile) s at → a ≡ b
+read-line-unique s = one-answer (lineAnswer (alone profile) s)
 
-pub find-field-unique : (s : List ℕ) (at n : ℕ) (a b : FieldAnswer) → a ≡ fieldAnswer s at n → b ≡ fieldAnswer s at n → a ≡ b
-find-field-unique s at = one-answer (fieldAnswer s at)
+pub find-field-unique : (s : List ℕ) (at n : ℕ) (a b : FieldAnswer) → a ≡ fieldAnswer profile s at n → b ≡ fieldAnswer profile s at n → a ≡ b
+find-field-unique s at = one-answer (fieldAnswer profile s at)
 
-pub test-field-unique : (kind : Record) (n : ℕ) (beside f : List ℕ) (a b : Tested) → a ≡ tested kind n beside f →
-    b ≡ tested kind n beside f → a ≡ b
-test-field-unique kind n beside = one-answer (tested kind n beside)
+pub test-field-unique : (kind : Record) (n : ℕ) (beside f : List ℕ) (a b : Tested) → a ≡ tested (profile kind) n beside f →
+    b ≡ tested (profile kind) n beside f → a ≡ b
+test-field-unique kind n beside = one-answer (tested (profile kind) n beside)
 
 pub judge-unique : (s : List ℕ) (words : ℕ) (a b : FileAnswer) (x y : List ℕ) → Judges s words a x → Judges s words b y → (a ≡ b) × (x ≡ y)
 judge-unique s words a b x y p q = (p .0 ∙ sym (q .0), p .1 ∙ sym (q .1))

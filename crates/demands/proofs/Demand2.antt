@@ -13,8 +13,9 @@ use Rattle.check_characters.specs.declared.number.NumberAnswer.the-variants.{Ac
 use Rattle.check_characters.specs.declared.number.IssueAnswer.{IssueAnswer}
 use Rattle.check_characters.specs.declared.number.IssueAnswer.the-variants.{Issued}
 use Rattle.check_characters.specs.declared.iban.IbanAnswer.the-variants.{Accepted as AcceptedIban}
-use Rattle.fields.specs.declared.record.Due.the-variants.{Any}
-use Rattle.line.specs.Line.{lineAnswer}
+use Rattle.fields.specs.Profile.{profile}
+use Rattle.grammar.proofs.Sizes.{sound}
+use Rattle.line.specs.Line.{lineAnswer, alone}
 use Rattle.line.specs.Find.{fieldAnswer}
 use Rattle.line.specs.declared.read.Line.{Line}
 use Rattle.line.specs.declared.read.LineAnswer.the-variants.{Accepted as AcceptedLine}
@@ -77,13 +78,13 @@ one-division-into-lines s ls ks a b = one-division ls ks (a .lines) (b .lines) (
 
 -- A line alone is accepted exactly when the bytes from the offset on are the rendering of an allowed line; the answer names its
 -- record, its count and where the next line starts.
-pub line-exactly : (s : List ℕ) (at : ℕ) (line : Line) → (lineAnswer Any s at ≡ AcceptedLine line) ↔
-    ((fs : List (List ℕ)) × Reads Any s at line fs)
-line-exactly s at line = lines.line-exactly Any s at line
+pub line-exactly : (s : List ℕ) (at : ℕ) (line : Line) → (lineAnswer (alone profile) s at ≡ AcceptedLine line) ↔
+    ((fs : List (List ℕ)) × Reads (alone profile) s at line fs)
+line-exactly s at line = lines.line-exactly (alone profile) s at line
 
 -- Of an accepted line each field is found where it stands, and no other.
-pub field-exactly : (s : List ℕ) (at : ℕ) (line : Line) (fs : List (List ℕ)) (n start long : ℕ) → Reads Any s at line fs →
-    (fieldAnswer s at n ≡ Found start long) ↔ Finds (line .kind) fs s at n start long
+pub field-exactly : (s : List ℕ) (at : ℕ) (line : Line) (fs : List (List ℕ)) (n start long : ℕ) → Reads (alone profile) s at line fs →
+    (fieldAnswer profile s at n ≡ Found start long) ↔ Finds (line .kind) fs s at n start long
 field-exactly s at line fs n start long g = finding.field-exactly g n start long
 
 -- "A written line reads back to its fields": the bytes that were written, by themselves, are accepted as the line of that record and
@@ -96,7 +97,7 @@ written-reads-back = writing.reads-back
 
 -- "an accepted line written again gives its own bytes", wherever there is room for it
 pub accepted-writes-again :
-    (s : List ℕ) (at : ℕ) (line : Line) (fs : List (List ℕ)) → Reads Any s at line fs →
+    (s : List ℕ) (at : ℕ) (line : Line) (fs : List (List ℕ)) → Reads (alone profile) s at line fs →
     (number : ℕ) (out : List ℕ) (fill : ℕ) → recordNumbered number ≡ Known (line .kind) → fill + (line .next - at) ≤ length out →
     (answer : WriteAnswer) (after : List ℕ) → Writes number (inOne fs) (endsFrom 0 fs) out fill answer after →
     (answer ≡ Written (line .next - at)) × (after ≡ written out fill (take (line .next - at) (drop at s)))

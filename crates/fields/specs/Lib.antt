@@ -1,4 +1,4 @@
 pub mod Record
-pub mod Table
 pub mod Form
+pub mod Profile
 pub mod Field

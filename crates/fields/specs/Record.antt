@@ -13,14 +13,30 @@ use Rattle.fields.specs.declared.record.Named.the-variants.{Known, Unkno
 use Rattle.fields.specs.declared.record.Due.{Due}
 use Rattle.fields.specs.declared.record.Due.the-variants.{Any, First, After}
 
+-- a record: its type, how many fields it has at least and at most, and what may come behind it
+pub record Head : Type 0 where
+  pub type : List ℕ
+  pub fewest : ℕ
+  pub most : ℕ
+  pub next : List Record
+
+infix 90 type_has_to_leads_
+abbrev pub type_has_to_leads_ : List ℕ → ℕ → ℕ → List Record → Head
+type name has fewest to most leads next = record { type = name; fewest = fewest; most = most; next = next }
+
+-- "Fields per record: 010 has 10, 020 has 16, 030 has 40, 040 has 3 to 24, 050 has 1 to 24, 060 has 10." "010 first and once; then 020;
+-- after 020 a 030; after 030 a 040; after 040 another 040 or a 050; after 050 or 060 a 060, a 030, a 020 or the end."
+abbrev pub headOf : Record → Head
+headOf Header = type (bytes "010") has 10 to 10 leads (Sender ∷ [])
+headOf Sender = type (bytes "020") has 16 to 16 leads (Shipment ∷ [])
+headOf Shipment = type (bytes "030") has 40 to 40 leads (Parcel ∷ [])
+headOf Parcel = type (bytes "040") has 3 to 24 leads (Parcel ∷ Product ∷ [])
+headOf Product = type (bytes "050") has 1 to 24 leads (Feature ∷ Shipment ∷ Sender ∷ [])
+headOf Feature = type (bytes "060") has 10 to 10 leads (Feature ∷ Shipment ∷ Sender ∷ [])
+
 -- "The first field is the record type."
 abbrev pub typeOf : Record → List ℕ
-typeOf Header = bytes "010"
-typeOf Sender = bytes "020"
-typeOf Shipment = bytes "030"
-typeOf Parcel = bytes "040"
-typeOf Product = bytes "050"
-typeOf Feature = bytes "060"
+typeOf kind = headOf kind .type
 
 -- the record that a type names
 unfoldable pub named : List ℕ → Named
@@ -33,14 +49,8 @@ named name =
     else if same name (typeOf Feature) then Known Feature
     else Unknown
 
--- "Fields per record: 010 has 10, 020 has 16, 030 has 40, 040 has 3 to 24, 050 has 1 to 24, 060 has 10."
 abbrev pub countFits : Record → ℕ → Bool
-countFits Header n = eqb n 10
-countFits Sender n = eqb n 16
-countFits Shipment n = eqb n 40
-countFits Parcel n = leb 3 n && leb n 24
-countFits Product n = leb 1 n && leb n 24
-countFits Feature n = eqb n 10
+countFits kind n = leb (headOf kind .fewest) n && leb n (headOf kind .most)
 
 -- the records in their order, by number
 abbrev pub rowOf : Record → ℕ
@@ -60,22 +70,16 @@ recordAt n =
     else if eqb n 4 then Product
     else Feature
 
+infix 60 _isA_
+abbrev pub _isA_ : Record → Record → Bool
+kind isA one = eqb (rowOf kind) (rowOf one)
+
 abbrev pub oneOf : Record → List Record → Bool
 oneOf kind [] = false
-oneOf kind (r ∷ rs) = eqb (rowOf kind) (rowOf r) || oneOf kind rs
-
--- "010 first and once; then 020; after 020 a 030; after 030 a 040; after 040 another 040 or a 050; after 050 or 060 a 060, a 030,
--- a 020 or the end."
-abbrev pub followers : Record → List Record
-followers Header = Sender ∷ []
-followers Sender = Shipment ∷ []
-followers Shipment = Parcel ∷ []
-followers Parcel = Parcel ∷ Product ∷ []
-followers Product = Feature ∷ Shipment ∷ Sender ∷ []
-followers Feature = Feature ∷ Shipment ∷ Sender ∷ []
+oneOf kind (r ∷ rs) = kind isA r || oneOf kind rs
 
 unfoldable pub mayFollow : Record → Record → Bool
-mayFollow before kind = oneOf kind (followers before)
+mayFollow before kind = oneOf kind (headOf before .next)
 
 -- a line judged alone may be any record
 unfoldable pub mayCome : Due → Record → Bool

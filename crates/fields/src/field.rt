@@ -1,6 +1,8 @@
 // The one test of a field: too long, empty where it must be filled, or not in its form.
 ghost use mathlib.Core.Path.{_≡_};
-ghost use Rattle.fields.specs.Field.{isCashReference, widthOf, tested};
+ghost use Rattle.fields.specs.Field.{tested};
+ghost use Rattle.fields.specs.Profile.{instead, narrowed, widthOf, profile};
+ghost use Rattle.fields.specs.Form.{isCash};
 use crate::form;
 use crate::record::Record;
 use crate::table;
@@ -13,7 +15,7 @@ pub enum Tested {
 
 // Tests the field with this number; beside it stands the field in front of it.
 pub fn test_field(kind: Record, number: usize, beside: &[u8], field: &[u8]) -> Tested
-    ensures { λ r. ⌜ r ≡ tested kind number (now (beside .entry)) (now (field .entry)) ⌝ }
+    ensures { λ r. ⌜ r ≡ tested (profile kind) number (now (beside .entry)) (now (field .entry)) ⌝ }
 {
     // No empty field is too long, and most fields are empty: so this is asked first.
     if field.len() == 0 {
@@ -33,27 +35,28 @@ pub fn test_field(kind: Record, number: usize, beside: &[u8], field: &[u8]) -> T
 
 // How wide the field may be.
 fn width_of(kind: Record, number: usize, beside: &[u8]) -> usize
-    ensures { λ r. ⌜ r ≡ widthOf kind number (now (beside .entry)) ⌝ }
+    ensures { λ r. ⌜ r ≡ widthOf (profile kind) number (now (beside .entry)) ⌝ }
 {
-    if is_cash_reference(kind, number, beside) {
-        return 35;
-    }
-    table::table_width(kind, number)
-}
-
-// Whether this is the reference of a feature that collects cash, which is narrower than the table has it.
-fn is_cash_reference(kind: Record, number: usize, beside: &[u8]) -> bool
-    ensures { λ r. ⌜ r ≡ isCashReference kind number (now (beside .entry)) ⌝ }
-{
+    let width = table::table_width(kind, number);
     if number != 2 {
-        return false;
+        return width;
     }
     match kind {
-        Record::Header => false,
-        Record::Sender => false,
-        Record::Shipment => false,
-        Record::Parcel => false,
-        Record::Product => false,
-        Record::Feature => form::is_cash(beside),
+        Record::Header => width,
+        Record::Sender => width,
+        Record::Shipment => width,
+        Record::Parcel => width,
+        Record::Product => width,
+        Record::Feature => reference_width(width, beside),
     }
+}
+
+// The reference of a feature that collects cash is narrower than the table has it.
+fn reference_width(width: usize, beside: &[u8]) -> usize
+    ensures { λ r. ⌜ r ≡ narrowed (instead 35 isCash) width (now (beside .entry)) ⌝ }
+{
+    if form::is_cash(beside) {
+        return 35;
+    }
+    width
 }

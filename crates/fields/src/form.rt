@@ -1,12 +1,13 @@
 // The form of each filled field, record by record. Beside a field stands the one in front of it.
 ghost use mathlib.Core.Path.{_≡_};
-ghost use Rattle.fields.specs.Form.{postCode, isCash, reference, isIban, formsOf, hasFormIn, hasForm};
+ghost use Rattle.fields.specs.Form.{postCode, isCash, reference, isIban};
+ghost use Rattle.fields.specs.Profile.{profile, hasForm};
 use crate::record::Record;
 use check_characters::IbanAnswer;
 
 // Whether a filled field has its form.
 pub fn has_form(kind: Record, number: usize, beside: &[u8], field: &[u8]) -> bool
-    ensures { λ r. ⌜ r ≡ hasForm kind number (now (beside .entry)) (now (field .entry)) ⌝ }
+    ensures { λ r. ⌜ r ≡ hasForm (profile kind) number (now (beside .entry)) (now (field .entry)) ⌝ }
 {
     match kind {
         Record::Header => header_form(number, beside, field),
@@ -29,7 +30,7 @@ pub fn is_cash(code: &[u8]) -> bool
 }
 
 fn header_form(number: usize, beside: &[u8], field: &[u8]) -> bool
-    ensures { λ r. ⌜ r ≡ hasFormIn (formsOf Record.Header) number (now (beside .entry)) (now (field .entry)) ⌝ }
+    ensures { λ r. ⌜ r ≡ hasForm (profile Record.Header) number (now (beside .entry)) (now (field .entry)) ⌝ }
 {
     match number {
         1 => forms::shape::is_customer(field),
@@ -42,7 +43,7 @@ fn header_form(number: usize, beside: &[u8], field: &[u8]) -> bool
 }
 
 fn sender_form(number: usize, beside: &[u8], field: &[u8]) -> bool
-    ensures { λ r. ⌜ r ≡ hasFormIn (formsOf Record.Sender) number (now (beside .entry)) (now (field .entry)) ⌝ }
+    ensures { λ r. ⌜ r ≡ hasForm (profile Record.Sender) number (now (beside .entry)) (now (field .entry)) ⌝ }
 {
     match number {
         5 => forms::shape::is_capitals(field, 2),
@@ -52,7 +53,7 @@ fn sender_form(number: usize, beside: &[u8], field: &[u8]) -> bool
 }
 
 fn shipment_form(number: usize, beside: &[u8], field: &[u8]) -> bool
-    ensures { λ r. ⌜ r ≡ hasFormIn (formsOf Record.Shipment) number (now (beside .entry)) (now (field .entry)) ⌝ }
+    ensures { λ r. ⌜ r ≡ hasForm (profile Record.Shipment) number (now (beside .entry)) (now (field .entry)) ⌝ }
 {
     match number {
         1 => forms::shape::all_digits(field),
@@ -67,7 +68,7 @@ fn shipment_form(number: usize, beside: &[u8], field: &[u8]) -> bool
 }
 
 fn parcel_form(number: usize, beside: &[u8], field: &[u8]) -> bool
-    ensures { λ r. ⌜ r ≡ hasFormIn (formsOf Record.Parcel) number (now (beside .entry)) (now (field .entry)) ⌝ }
+    ensures { λ r. ⌜ r ≡ hasForm (profile Record.Parcel) number (now (beside .entry)) (now (field .entry)) ⌝ }
 {
     match number {
         1 => forms::shape::is_digits(field, 22),
@@ -76,7 +77,7 @@ fn parcel_form(number: usize, beside: &[u8], field: &[u8]) -> bool
 }
 
 fn feature_form(number: usize, beside: &[u8], field: &[u8]) -> bool
-    ensures { λ r. ⌜ r ≡ hasFormIn (formsOf Record.Feature) number (now (beside .entry)) (now (field .entry)) ⌝ }
+    ensures { λ r. ⌜ r ≡ hasForm (profile Record.Feature) number (now (beside .entry)) (now (field .entry)) ⌝ }
 {
     match number {
         1 => forms::feature::is_feature(field),

@@ -62,12 +62,12 @@ pub fn count_fits(kind: Record, count: usize) -> bool
     ensures { λ r. ⌜ r ≡ countFits kind count ⌝ }
 {
     match kind {
-        Record::Header => count == 10,
-        Record::Sender => count == 16,
-        Record::Shipment => count == 40,
+        Record::Header => is_between(10, count, 10),
+        Record::Sender => is_between(16, count, 16),
+        Record::Shipment => is_between(40, count, 40),
         Record::Parcel => is_between(3, count, 24),
         Record::Product => is_between(1, count, 24),
-        Record::Feature => count == 10,
+        Record::Feature => is_between(10, count, 10),
     }
 }
 

@@ -11,13 +11,16 @@ use Rattle.forms.specs.Shape.{digits}
 use Rattle.fields.specs.Record.{typeOf}
 use Rattle.fields.specs.declared.record.Record.{Record}
 use Rattle.fields.specs.declared.record.Record.the-variants.{Header, Sender, Shipment, Parcel, Product, Feature}
-use Rattle.fields.specs.declared.record.Due.{Due}
+use Rattle.fields.specs.Profile.{Rules, profile}
+use Rattle.grammar.proofs.Sizes.{sound}
 use Rattle.line.specs.Parts.{fieldsOf}
 use Rattle.line.specs.Line.{textAt, lineAnswer}
+use Rattle.fields.specs.declared.record.Due.{Due}
+use Rattle.line.specs.Told.{Told}
 use Rattle.line.specs.declared.read.Line.{Line}
 use Rattle.line.specs.declared.read.LineAnswer.{LineAnswer}
 use Rattle.line.specs.declared.read.LineAnswer.the-variants.{Accepted}
-use Rattle.grammar.specs.Grammar.{joined, render, LineOk, fieldNo}
+use Rattle.grammar.specs.Grammar.{Sound, joined, render, LineOk, fieldNo}
 use Rattle.grammar.proofs.Lines.{identcode, accepted-reads}
 use Rattle.grammar.proofs.Texts.{type-long}
 use Rattle.file.specs.Identcode.{identcodeAt}
@@ -31,52 +34,58 @@ type-there s at kind fs rest there =
     ∙ append-assoc (typeOf kind) (joined fs ++ bytes "\r\n") rest)
     ∙ take-at (typeOf kind) (joined fs ++ bytes "\r\n" ++ rest) 3 (type-long kind)
 
-pub code-there : (s : List ℕ) (at : ℕ) (fs : List (List ℕ)) (rest : List ℕ) → drop at s ≡ render Parcel fs ++ rest → LineOk Parcel fs →
+pub code-there : {rules : Rules} → Sound rules → (s : List ℕ) (at : ℕ) (fs : List (List ℕ)) (rest : List ℕ) → drop at s ≡ render Parcel fs ++ rest → LineOk rules Parcel fs →
     identcodeAt s at ≡ fieldNo fs 1
-code-there s at [] rest there ok = absurd (false≢true (ok .counted))
-code-there s at (f ∷ fs) rest there ok =
+code-there w s at [] rest there ok = absurd (false≢true (ok .counted))
+code-there w s at (f ∷ fs) rest there ok =
     ap (take 22) (sym (drop-drop 4 at s) ∙ ap (drop 4) there ∙ regroup)
-    ∙ take-at f (joined fs ++ bytes "\r\n" ++ rest) 22 (identcode Parcel (f ∷ fs) refl ok .1)
+    ∙ take-at f (joined fs ++ bytes "\r\n" ++ rest) 22 (identcode w Parcel (f ∷ fs) refl ok .1)
   where
     regroup : ((f ++ joined fs) ++ bytes "\r\n") ++ rest ≡ f ++ (joined fs ++ bytes "\r\n" ++ rest)
     regroup = simp append-assoc
 
 -- a parcel line has at least 28 bytes: its type, a semicolon, 22 digits and its end
-parcel-long : (fs : List (List ℕ)) → LineOk Parcel fs → 28 ≤ length (render Parcel fs)
-parcel-long [] ok = absurd (false≢true (ok .counted))
-parcel-long (f ∷ fs) ok =
+parcel-long : {rules : Rules} → Sound rules → (fs : List (List ℕ)) → LineOk rules Parcel fs → 28 ≤ length (render Parcel fs)
+parcel-long w [] ok = absurd (false≢true (ok .counted))
+parcel-long w (f ∷ fs) ok =
     omega (
       arith,
       length-append (typeOf Parcel ++ joined (f ∷ fs)) (bytes "\r\n"),
       length-append (typeOf Parcel) (joined (f ∷ fs)),
       length-append f (joined fs),
-      identcode Parcel (f ∷ fs) refl ok .1,
+      identcode w Parcel (f ∷ fs) refl ok .1,
     )
 
-record-far : (kind : Record) (fs : List (List ℕ)) → LineOk kind fs → 28 * parcelsIn kind ≤ length (render kind fs)
-record-far Header fs ok = omega arith
-record-far Sender fs ok = omega arith
-record-far Shipment fs ok = omega arith
-record-far Parcel fs ok = parcel-long fs ok
-record-far Product fs ok = omega arith
-record-far Feature fs ok = omega arith
+record-far : {rules : Rules} → Sound rules → (kind : Record) (fs : List (List ℕ)) → LineOk rules kind fs → 28 * parcelsIn kind ≤ length (render kind fs)
+record-far w Header fs ok = omega arith
+record-far w Sender fs ok = omega arith
+record-far w Shipment fs ok = omega arith
+record-far w Parcel fs ok = parcel-long w fs ok
+record-far w Product fs ok = omega arith
+record-far w Feature fs ok = omega arith
 
 -- what an accepted line tells of its identcode
-module _ (due : Due) (s : List ℕ) (at : ℕ) (a : LineAnswer) (ea : a ≡ lineAnswer due s at) (line : Line) (el : a ≡ Accepted line) where
+module _ (told : Told) (s : List ℕ) (at : ℕ) (a : LineAnswer) (ea : a ≡ lineAnswer told s at) (line : Line) (el : a ≡ Accepted line) where
   pub accepted-type : take 3 (drop at s) ≡ typeOf (line .kind)
   accepted-type =
-      let g = accepted-reads due s at line (sym ea ∙ el) in
+      let g = accepted-reads told s at line (sym ea ∙ el) in
       type-there s at (line .kind) (fieldsOf (textAt s at)) (g .rest) (g .stands)
 
-  pub accepted-code : line .kind ≡ Parcel → digits 22 (identcodeAt s at) ≡ true
-  accepted-code k =
-      let g = accepted-reads due s at line (sym ea ∙ el) in
+  pub accepted-code : Sound (told .rules) → line .kind ≡ Parcel → digits 22 (identcodeAt s at) ≡ true
+  accepted-code w k =
+      let g = accepted-reads told s at line (sym ea ∙ el) in
       let fs = fieldsOf (textAt s at) in
       let there : drop at s ≡ render Parcel fs ++ g .rest = g .stands ∙ ap (λ (r : Record). render r fs ++ g .rest) k in
-      let ok : LineOk Parcel fs = rw k at (g .allowed) in
-      ap (digits 22) (code-there s at fs (g .rest) there ok) ∙ identcode Parcel fs refl ok .0
+      let ok : LineOk (told .rules) Parcel fs = rw k at (g .allowed) in
+      ap (digits 22) (code-there w s at fs (g .rest) there ok) ∙ identcode w Parcel fs refl ok .0
 
-  pub accepted-far : at + 28 * parcelsIn (line .kind) ≤ line .next
-  accepted-far =
-      let g = accepted-reads due s at line (sym ea ∙ el) in
-      omega (arith, g .next, record-far (line .kind) (fieldsOf (textAt s at)) (g .allowed))
+  pub accepted-far : Sound (told .rules) → at + 28 * parcelsIn (line .kind) ≤ line .next
+  accepted-far w =
+      let g = accepted-reads told s at line (sym ea ∙ el) in
+      omega (arith, g .next, record-far w (line .kind) (fieldsOf (textAt s at)) (g .allowed))
+
+-- the same, under the rules of a version
+pub profile-code : (due : Due) (s : List ℕ) (at : ℕ) (a : LineAnswer) →
+    a ≡ lineAnswer (record { rules = profile; due = due }) s at → (line : Line) → a ≡ Accepted line → line .kind ≡ Parcel →
+    digits 22 (identcodeAt s at) ≡ true
+profile-code due s at a ea line el k = accepted-code (record { rules = profile; due = due }) s at a ea line el sound k

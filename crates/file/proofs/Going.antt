@@ -14,7 +14,8 @@ use Rattle.fields.specs.declared.record.Record.the-variants.{Header, Sender, Sh
 use Rattle.line.specs.Line.{lineAnswer, textAt}
 use Rattle.line.specs.Parts.{split}
 use Rattle.line.proofs.Accepting.{next-after}
-use Rattle.file.specs.Step.{parcelsIn, behind, stepAnswer}
+use Rattle.grammar.proofs.Sizes.{sound}
+use Rattle.file.specs.Step.{toldBy, parcelsIn, behind, stepAnswer}
 use Rattle.file.specs.File.{Judged, begin, ended, onStep, fileFrom, judged, listOf, handed}
 use Rattle.file.specs.declared.step.State.{State}
 use Rattle.file.specs.declared.step.Step.{Step}
@@ -116,7 +117,7 @@ module _ (s : List ℕ) (m : ℕ) (words codes : List ℕ) (state : State) (g : 
     pub less-left : (next : State) → step ≡ Next next → length s - next .at < length s - state .at
     less-left next e =
         let w = over next e in
-        let after = next-after (state .due) s (state .at) (lineAnswer (state .due) s (state .at)) refl (w .line) (w .accepted) in
+        let after = next-after (toldBy state) s (state .at) (lineAnswer (toldBy state) s (state .at)) refl (w .line) (w .accepted) in
         omega (arith, after, ap (λ (n : State). n .at) (w .there))
 
     pub going-more : (next : State) → step ≡ Next next → (after : List ℕ) →
@@ -126,8 +127,8 @@ module _ (s : List ℕ) (m : ℕ) (words codes : List ℕ) (state : State) (g : 
         let w = over next e in
         let line = w .line in
         let now = behind s state line in
-        let behind-it = next-after (state .due) s (state .at) (lineAnswer (state .due) s (state .at)) refl line (w .accepted) in
-        let far = accepted-far (state .due) s (state .at) (lineAnswer (state .due) s (state .at)) refl line (w .accepted) in
+        let behind-it = next-after (toldBy state) s (state .at) (lineAnswer (toldBy state) s (state .at)) refl line (w .accepted) in
+        let far = accepted-far (toldBy state) s (state .at) (lineAnswer (toldBy state) s (state .at)) refl line (w .accepted) sound in
         let fewer : length s + 1 - (state .lines + 1) ≡ length s - state .lines = omega arith in
         let on : fileFrom (length s - state .lines) s m (take (state .lines) words ++ (state .at ∷ [])) now ≡ judged s m =
         rw (sym es ∙ e, ← w .there) at (turn h) in

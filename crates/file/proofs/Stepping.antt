@@ -11,10 +11,11 @@ use Rattle.text.specs.Choice.{if_then_else_}
 use Rattle.text.proofs.Choices.{came-else}
 use Rattle.refusal.specs.declared.Refusal.{Refusal}
 use Rattle.refusal.specs.declared.Refusal.the-variants.{IdentcodeRepeated, ListFull}
-use Rattle.fields.specs.declared.record.Due.{Due}
+use Rattle.fields.specs.declared.record.Record.{Record}
 use Rattle.fields.specs.declared.record.Due.the-variants.{After}
 use Rattle.line.specs.Parts.{split}
 use Rattle.line.specs.Line.{textAt, lineAnswer}
+use Rattle.line.specs.Told.{Told}
 use Rattle.line.specs.declared.read.Line.{Line}
 use Rattle.line.specs.declared.read.LineAnswer.{LineAnswer}
 use Rattle.line.specs.declared.read.LineAnswer.the-variants.{Accepted, Refused}
@@ -24,7 +25,8 @@ use Rattle.file.proofs.Sowing.{sown-line, sown-tells}
 use Rattle.file.specs.Identcode.{repeats}
 use Rattle.file.specs.Tree.{isThereFor, grownFor, Tree, Sown}
 use Rattle.file.specs.Cash.{cashOf}
-use Rattle.file.specs.Step.{parcelsIn, behind, handedOn, onLine, stepAnswer}
+use Rattle.grammar.proofs.Sizes.{sound}
+use Rattle.file.specs.Step.{toldBy, parcelsIn, behind, handedOn, onLine, stepAnswer}
 use Rattle.file.specs.declared.step.State.{State}
 use Rattle.file.specs.declared.step.Step.{Step}
 use Rattle.file.specs.declared.step.Step.the-variants.{Next, Stopped}
@@ -32,7 +34,7 @@ use Rattle.file.specs.declared.step.Step.the-variants.{Next, Stopped}
 pub handed-as : (a case : LineAnswer) (r : Step) → a ≡ case → r ≡ handedOn case → r ≡ handedOn a
 handed-as a case r e f = rw e f
 
-module _ (s : List ℕ) (words : ℕ) (starts : List ℕ) (state : State) (a : LineAnswer) (ea : a ≡ lineAnswer (state .due) s (state .at)) where
+module _ (s : List ℕ) (words : ℕ) (starts : List ℕ) (state : State) (a : LineAnswer) (ea : a ≡ lineAnswer (toldBy state) s (state .at)) where
   stepped : (r : Step) → r ≡ onLine a s words starts state → r ≡ stepAnswer s words starts state
   unfolding stepAnswer
   stepped r e = e ∙ ap (λ (x : LineAnswer). onLine x s words starts state) ea
@@ -46,7 +48,7 @@ module _ (s : List ℕ) (words : ℕ) (starts : List ℕ) (state : State) (a : L
     er : t ≡ repeats (line .kind) s starts (state .at)
     er =
         et ∙ sown-tells s starts (state .parcels) codes g few (state .at) (line .kind)
-        (λ k. accepted-code (state .due) s (state .at) a ea line el k)
+        (λ k. accepted-code (toldBy state) s (state .at) a ea line el sound k)
 
     pub code-stops : t ≡ true → Stopped IdentcodeRepeated (state .at + 4) ≡ stepAnswer s words starts state
     unfolding onLine
@@ -68,22 +70,22 @@ module _ (s : List ℕ) (words : ℕ) (starts : List ℕ) (state : State) (a : L
       line-sown small after ef now en next e =
           let q : now ≡ next = cc in
           rw (ef, ← q, en) (sown-line s starts (state .parcels) codes g few (state .at) (line .kind) small
-          (λ k. accepted-code (state .due) s (state .at) a ea line el k) (accepted-type (state .due) s (state .at) a ea line el)
+          (λ k. accepted-code (toldBy state) s (state .at) a ea line el sound k) (accepted-type (toldBy state) s (state .at) a ea line el)
           (sym et ∙ fresh))
 
 -- the state behind an accepted line, as the code works it out
-module _ (s : List ℕ) (state : State) (line : Line) (el : lineAnswer (state .due) s (state .at) ≡ Accepted line) where
+module _ (s : List ℕ) (state : State) (line : Line) (el : lineAnswer (toldBy state) s (state .at) ≡ Accepted line) where
   abbrev answer : LineAnswer
-  answer = lineAnswer (state .due) s (state .at)
+  answer = lineAnswer (toldBy state) s (state .at)
 
   pub behind-starts : state .at ≤ line .next - 2
-  behind-starts = text-starts (state .due) s (state .at) answer refl line el
+  behind-starts = text-starts (toldBy state) s (state .at) answer refl line el
 
   pub behind-inside : line .next - 2 ≤ length s
-  behind-inside = text-inside (state .due) s (state .at) answer refl line el
+  behind-inside = text-inside (toldBy state) s (state .at) answer refl line el
 
   pub behind-least : 2 ≤ line .next
-  behind-least = next-least (state .due) s (state .at) answer refl line el
+  behind-least = next-least (toldBy state) s (state .at) answer refl line el
 
   pub behind-is : (p c : ℕ) → p ≡ parcelsIn (line .kind) →
       c ≡ cashOf (line .kind) (split (take (line .next - 2 - state .at) (drop (state .at) s))) →
@@ -92,17 +94,17 @@ module _ (s : List ℕ) (state : State) (line : Line) (el : lineAnswer (state .d
         lines = state .lines + 1;
         parcels = state .parcels + p;
         cents = state .cents + c;
-        due = After (line .kind);
+          due = After (line .kind);
       } ≡ behind s state line
   behind-is p c ep ec =
       let cash : c ≡ cashOf (line .kind) (split (textAt s (state .at))) =
-      ec ∙ ap (λ (x : List ℕ). cashOf (line .kind) (split x)) (text-is (state .due) s (state .at) answer refl line el) in
+      ec ∙ ap (λ (x : List ℕ). cashOf (line .kind) (split x)) (text-is (toldBy state) s (state .at) answer refl line el) in
       rw (ep, cash)
 
 -- a step that goes on went over an accepted line, with a word for it
 pub record Went (s : List ℕ) (words : ℕ) (starts : List ℕ) (state next : State) : Type 0 where
   pub line : Line
-  pub accepted : lineAnswer (state .due) s (state .at) ≡ Accepted line
+  pub accepted : lineAnswer (toldBy state) s (state .at) ≡ Accepted line
   pub fresh : repeats (line .kind) s starts (state .at) ≡ false
   pub room : state .lines < words
   pub there : behind s state line ≡ next
@@ -113,9 +115,9 @@ stopped e = let z : _≡_ {A = ℕ} 0 1 = cc in omega arith
 pub went : (s : List ℕ) (words : ℕ) (starts : List ℕ) (state next : State) → stepAnswer s words starts state ≡ Next next →
     Went s words starts state next
 unfolding stepAnswer onLine
-went s words starts state next e = go (lineAnswer (state .due) s (state .at)) refl e
+went s words starts state next e = go (lineAnswer (toldBy state) s (state .at)) refl e
   where
-    go : (a : LineAnswer) → lineAnswer (state .due) s (state .at) ≡ a → onLine a s words starts state ≡ Next next →
+    go : (a : LineAnswer) → lineAnswer (toldBy state) s (state .at) ≡ a → onLine a s words starts state ≡ Next next →
         Went s words starts state next
     go (Refused why place) ea e = absurd (stopped e)
     go (Accepted line) ea e =
@@ -137,6 +139,10 @@ handed-sown s starts codes a why place r ea er next e = absurd (stopped (sym (er
 pub sown-whole : (s starts : List ℕ) (parcels : ℕ) (codes : List ℕ) → Sown s starts parcels codes → Tree s parcels codes
 sown-whole s starts parcels codes g = g .whole
 
-pub was-accepted : (due : Due) (s : List ℕ) (at : ℕ) (a : LineAnswer) (line : Line) → a ≡ lineAnswer due s at → a ≡ Accepted line →
-    lineAnswer due s at ≡ Accepted line
-was-accepted due s at a line ea el = sym ea ∙ el
+pub was-accepted : (told : Told) (s : List ℕ) (at : ℕ) (a : LineAnswer) (line : Line) → a ≡ lineAnswer told s at → a ≡ Accepted line →
+    lineAnswer told s at ≡ Accepted line
+was-accepted told s at a line ea el = sym ea ∙ el
+
+-- an arm of a match is a case of the rule
+pub parcels-as : (kind case : Record) (n : ℕ) → kind ≡ case → n ≡ parcelsIn case → n ≡ parcelsIn kind
+parcels-as kind case n e f = rw e f

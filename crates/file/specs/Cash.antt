@@ -7,8 +7,9 @@ use Rattle.text.specs.Quoted.{bytes}
 use Rattle.text.specs.Scan.{same}
 use Rattle.forms.specs.Amount.{cents, amount}
 use Rattle.fields.specs.Form.{isCash}
+use Rattle.fields.specs.Record.{_isA_}
 use Rattle.fields.specs.declared.record.Record.{Record}
-use Rattle.fields.specs.declared.record.Record.the-variants.{Header, Sender, Shipment, Parcel, Product, Feature}
+use Rattle.fields.specs.declared.record.Record.the-variants.{Feature}
 
 -- an amount in cents
 abbrev pub centsOf : List ℕ → ℕ
@@ -21,9 +22,4 @@ cashIn parts =
     else 0
 
 unfoldable pub cashOf : Record → List (List ℕ) → ℕ
-cashOf Header parts = 0
-cashOf Sender parts = 0
-cashOf Shipment parts = 0
-cashOf Parcel parts = 0
-cashOf Product parts = 0
-cashOf Feature parts = cashIn parts
+cashOf kind parts = if kind isA Feature then cashIn parts else 0

@@ -5,8 +5,9 @@ use mathlib.Core.List.{List, [], _∷_}
 use lib.ListN.{take, drop}
 use Rattle.text.specs.Quoted.{bytes}
 use Rattle.text.specs.Scan.{same}
+use Rattle.fields.specs.Record.{_isA_}
 use Rattle.fields.specs.declared.record.Record.{Record}
-use Rattle.fields.specs.declared.record.Record.the-variants.{Header, Sender, Shipment, Parcel, Product, Feature}
+use Rattle.fields.specs.declared.record.Record.the-variants.{Parcel}
 
 -- the identcode of the parcel line that starts here: the 22 digits behind `040;`
 abbrev pub identcodeAt : List ℕ → ℕ → List ℕ
@@ -22,9 +23,4 @@ onEarlier s [] at = false
 onEarlier s (earlier ∷ starts) at = sameParcel s earlier at || onEarlier s starts at
 
 unfoldable pub repeats : Record → List ℕ → List ℕ → ℕ → Bool
-repeats Header s starts at = false
-repeats Sender s starts at = false
-repeats Shipment s starts at = false
-repeats Parcel s starts at = onEarlier s starts at
-repeats Product s starts at = false
-repeats Feature s starts at = false
+repeats kind s starts at = kind isA Parcel && onEarlier s starts at

@@ -4,9 +4,12 @@ use mathlib.Core.List.{List}
 use lib.Dec.{leb}
 use Rattle.text.specs.Choice.{if_then_else_}
 use Rattle.refusal.specs.declared.Refusal.the-variants.{IdentcodeRepeated, ListFull, NotThere}
+use Rattle.fields.specs.Record.{_isA_}
 use Rattle.fields.specs.declared.record.Record.{Record}
-use Rattle.fields.specs.declared.record.Record.the-variants.{Header, Sender, Shipment, Parcel, Product, Feature}
+use Rattle.fields.specs.declared.record.Record.the-variants.{Parcel}
 use Rattle.fields.specs.declared.record.Due.the-variants.{After}
+use Rattle.fields.specs.Profile.{profile}
+use Rattle.line.specs.Told.{Told}
 use Rattle.line.specs.Parts.{split}
 use Rattle.line.specs.Line.{textAt, lineAnswer}
 use Rattle.line.specs.declared.read.Line.{Line}
@@ -20,12 +23,7 @@ use Rattle.file.specs.declared.step.Step.the-variants.{Next, Stopped}
 
 -- "number of 040 lines": what one line adds
 abbrev pub parcelsIn : Record → ℕ
-parcelsIn Header = 0
-parcelsIn Sender = 0
-parcelsIn Shipment = 0
-parcelsIn Parcel = 1
-parcelsIn Product = 0
-parcelsIn Feature = 0
+parcelsIn kind = if kind isA Parcel then 1 else 0
 
 -- the state behind an accepted line
 abbrev pub behind : List ℕ → State → Line → State
@@ -51,5 +49,9 @@ onLine (Accepted line) s words starts state =
     else if leb words (state .lines) then Stopped ListFull (state .at)
     else Next (behind s state line)
 
+-- what the judge of the next line is told
+abbrev pub toldBy : State → Told
+toldBy state = record { rules = profile; due = state .due }
+
 unfoldable pub stepAnswer : List ℕ → ℕ → List ℕ → State → Step
-stepAnswer s words starts state = onLine (lineAnswer (state .due) s (state .at)) s words starts state
+stepAnswer s words starts state = onLine (lineAnswer (toldBy state) s (state .at)) s words starts state

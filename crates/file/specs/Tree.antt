@@ -4,15 +4,16 @@
 -- answers what Identcode says, and `Sown` at the end is what ties the two.
 use Prim.Native.Nat.{ℕ, zero, suc, _+_, _*_, _-_, _/_, _%_, _<_, _≤_}
 use mathlib.Core.Path.{_≡_}
-use mathlib.Core.Bool.{Bool, true, false}
+use mathlib.Core.Bool.{Bool, true, false, _&&_}
 use mathlib.Core.List.{List}
 use lib.Dec.{leb, ltb, eqb}
 use lib.ListN.{length, getD, set}
 use Rattle.text.specs.Choice.{if_then_else_}
 use Rattle.text.specs.Scan.{firstFailing}
 use Rattle.forms.specs.Shape.{digits}
+use Rattle.fields.specs.Record.{_isA_}
 use Rattle.fields.specs.declared.record.Record.{Record}
-use Rattle.fields.specs.declared.record.Record.the-variants.{Header, Sender, Shipment, Parcel, Product, Feature}
+use Rattle.fields.specs.declared.record.Record.the-variants.{Parcel}
 use Rattle.file.specs.Identcode.{identcodeAt, onEarlier}
 
 -- a fork's digit, byte and pair, in one word
@@ -79,20 +80,10 @@ grown s tree parcels at =
 
 -- only a parcel has an identcode
 unfoldable pub isThereFor : Record → List ℕ → List ℕ → ℕ → ℕ → Bool
-isThereFor Header s tree parcels at = false
-isThereFor Sender s tree parcels at = false
-isThereFor Shipment s tree parcels at = false
-isThereFor Parcel s tree parcels at = isThere s tree parcels at
-isThereFor Product s tree parcels at = false
-isThereFor Feature s tree parcels at = false
+isThereFor kind s tree parcels at = kind isA Parcel && isThere s tree parcels at
 
 unfoldable pub grownFor : Record → List ℕ → List ℕ → ℕ → ℕ → List ℕ
-grownFor Header s tree parcels at = tree
-grownFor Sender s tree parcels at = tree
-grownFor Shipment s tree parcels at = tree
-grownFor Parcel s tree parcels at = grown s tree parcels at
-grownFor Product s tree parcels at = tree
-grownFor Feature s tree parcels at = tree
+grownFor kind s tree parcels at = if kind isA Parcel then grown s tree parcels at else tree
 
 -- a word that stands at this place among so many: a leaf is a parcel line with an identcode of 22 digits, a fork's pair lies
 -- behind it

@@ -5,7 +5,7 @@ ghost use lib.ListN.{length, take};
 ghost use mathlib.Core.List.{[], _∷_, _++_};
 ghost use Rattle.line.specs.Line.{lineAnswer};
 ghost use Rattle.line.specs.declared.read.LineAnswer.the-variants.{Accepted};
-ghost use Rattle.file.specs.Step.{handedOn, parcelsIn, behind, stepAnswer};
+ghost use Rattle.file.specs.Step.{toldBy, handedOn, parcelsIn, behind, stepAnswer};
 ghost use Rattle.file.specs.Tree.{Sown};
 ghost use Rattle.file.specs.declared.step.State.{State};
 ghost use Rattle.file.specs.declared.step.Step.the-variants.{Next};
@@ -17,7 +17,7 @@ use line::Line;
 use line::LineAnswer;
 use refusal::Refusal;
 
-// Where the judge is: the next line's offset, what the lines so far have, and what may come next.
+// Where the judge is: the next line's offset, what the lines so far have, and what the next line's judge is told.
 pub struct State {
     pub at: usize,
     pub lines: usize,
@@ -65,7 +65,7 @@ pub fn one_line(s: &[u8], words: &[u32], codes: &mut [u32], state: State) -> Ste
 
 // The state behind an accepted line.
 fn behind_line(s: &[u8], state: State, line: Line) -> State
-    requires { ⌜ (lineAnswer (state .due) (now s) (state .at) ≡ Accepted line) × (state .at < 65536) × (state .lines ≤ state .at)
+    requires { ⌜ (lineAnswer (toldBy state) (now s) (state .at) ≡ Accepted line) × (state .at < 65536) × (state .lines ≤ state .at)
         × (state .parcels ≤ state .lines) × (state .cents ≤ 99999999 * state .lines) ⌝ }
     ensures { λ r. ⌜ r ≡ behind (now (s .entry)) state line ⌝ }
 {

@@ -18,9 +18,8 @@ use Rattle.text.proofs.Numbers.{eq-or-ne}
 use Rattle.refusal.specs.declared.Refusal.{Refusal}
 use Rattle.refusal.specs.declared.Refusal.the-variants.{FieldTooLong, FieldEmpty, FieldForm}
 use Rattle.fields.specs.Record.{typeOf}
-use Rattle.fields.specs.Table.{isRequired}
-use Rattle.fields.specs.Form.{hasForm}
-use Rattle.fields.specs.Field.{widthOf, tested}
+use Rattle.fields.specs.Profile.{isRequired, hasForm, Row, profile, widthOf, Rules}
+use Rattle.fields.specs.Field.{tested}
 use Rattle.fields.specs.declared.record.Record.{Record}
 use Rattle.fields.specs.declared.field.Tested.{Tested}
 use Rattle.fields.specs.declared.field.Tested.the-variants.{Good, Bad}
@@ -38,68 +37,68 @@ bad e = let z : _≡_ {A = ℕ} 0 1 = cc in omega arith
 stopped : {why : Refusal} {place : ℕ} → Stopped why place ≡ Fine → ⊥
 stopped e = let z : _≡_ {A = ℕ} 0 1 = cc in omega arith
 
-module _ (kind : Record) (n : ℕ) (beside f : List ℕ) where
-  pub good-field : all plain f ≡ true → tested kind n beside f ≡ Good → FieldOk kind n beside f
+module _ (rows : List Row) (n : ℕ) (beside f : List ℕ) where
+  pub good-field : all plain f ≡ true → tested rows n beside f ≡ Good → FieldOk rows n beside f
   unfolding tested
   good-field p e =
-      let empty = if isRequired kind n then Bad FieldEmpty else Good in
-      let form = if hasForm kind n beside f then Good else Bad FieldForm in
-      let a = came-else (ltb (widthOf kind n beside) (length f)) (Bad FieldTooLong) (if eqb (length f) 0 then empty else form) Good bad e in
+      let empty = if isRequired rows n then Bad FieldEmpty else Good in
+      let form = if hasForm rows n beside f then Good else Bad FieldForm in
+      let a = came-else (ltb (widthOf rows n beside) (length f)) (Bad FieldTooLong) (if eqb (length f) 0 then empty else form) Good bad e in
       record {
         clean = p;
-        fits = ltb-false (widthOf kind n beside) (length f) (a .0);
+        fits = ltb-false (widthOf rows n beside) (length f) (a .0);
         filled = λ r z. bad (simp (eq-eqb (length f) 0 z, r) at (a .1));
-        formed = λ z. came-then (hasForm kind n beside f) Good (Bad FieldForm) Good bad (simp (ne-eqb (length f) 0 z) at (a .1)) .0;
+        formed = λ z. came-then (hasForm rows n beside f) Good (Bad FieldForm) Good bad (simp (ne-eqb (length f) 0 z) at (a .1)) .0;
       }
 
-  pub field-good : FieldOk kind n beside f → tested kind n beside f ≡ Good
+  pub field-good : FieldOk rows n beside f → tested rows n beside f ≡ Good
   field-good g =
       ⊎-elim
-      (λ (z : length f ≡ 0). ⊎-elim (λ (r : isRequired kind n ≡ true). absurd (g .filled r z))
-      (λ r. sym (empty-good kind n beside f z (isRequired kind n) refl r))
-      (true-or-false (isRequired kind n)))
-      (λ z. sym (form-good kind n beside f (widthOf kind n beside) refl (g .fits) z (hasForm kind n beside f) refl (g .formed z)))
+      (λ (z : length f ≡ 0). ⊎-elim (λ (r : isRequired rows n ≡ true). absurd (g .filled r z))
+      (λ r. sym (empty-good rows n beside f z (isRequired rows n) refl r))
+      (true-or-false (isRequired rows n)))
+      (λ z. sym (form-good rows n beside f (widthOf rows n beside) refl (g .fits) z (hasForm rows n beside f) refl (g .formed z)))
       (eq-or-ne (length f) 0)
 
 pub on-fine : (t : Tested) (place : ℕ) (rest : Walk) → onTest t place rest ≡ Fine → (t ≡ Good) × (rest ≡ Fine)
 on-fine Good place rest e = (refl, e)
 on-fine (Bad why) place rest e = absurd (stopped e)
 
-pub fine-fields : (kind : Record) (n place : ℕ) (beside : List ℕ) (fs : List (List ℕ)) → allIn plain fs ≡ true →
-    walk kind n place beside fs ≡ Fine → FieldsOk kind n beside fs
-fine-fields kind n place beside [] p e = tt
-fine-fields kind n place beside (f ∷ fs) p e =
-    let a = on-fine (tested kind n beside f) place (walk kind (suc n) (place + length f + 1) f fs) e in (
-      good-field kind n beside f (and-left (all plain f) (allIn plain fs) p) (a .0),
-      fine-fields kind (suc n) (place + length f + 1) f fs
+pub fine-fields : (rows : List Row) (n place : ℕ) (beside : List ℕ) (fs : List (List ℕ)) → allIn plain fs ≡ true →
+    walk rows n place beside fs ≡ Fine → FieldsOk rows n beside fs
+fine-fields rows n place beside [] p e = tt
+fine-fields rows n place beside (f ∷ fs) p e =
+    let a = on-fine (tested rows n beside f) place (walk rows (suc n) (place + length f + 1) f fs) e in (
+      good-field rows n beside f (and-left (all plain f) (allIn plain fs) p) (a .0),
+      fine-fields rows (suc n) (place + length f + 1) f fs
           (and-right (all plain f) (allIn plain fs) p) (a .1),
     )
 
-pub fields-fine : (kind : Record) (n place : ℕ) (beside : List ℕ) (fs : List (List ℕ)) → FieldsOk kind n beside fs →
-    walk kind n place beside fs ≡ Fine
-fields-fine kind n place beside [] g = refl
-fields-fine kind n place beside (f ∷ fs) g = rw (field-good kind n beside f (g .0)) (fields-fine kind (suc n) (place + length f + 1) f fs
+pub fields-fine : (rows : List Row) (n place : ℕ) (beside : List ℕ) (fs : List (List ℕ)) → FieldsOk rows n beside fs →
+    walk rows n place beside fs ≡ Fine
+fields-fine rows n place beside [] g = refl
+fields-fine rows n place beside (f ∷ fs) g = rw (field-good rows n beside f (g .0)) (fields-fine rows (suc n) (place + length f + 1) f fs
     (g .1))
 
 -- the field with a number, and the part in front of it
-fields-at : (kind : Record) (n : ℕ) (beside : List ℕ) (fs : List (List ℕ)) → FieldsOk kind n beside fs → (m : ℕ) → m < length fs →
-    FieldOk kind (n + m) (getD (beside ∷ fs) m []) (getD fs m [])
-fields-at kind n beside [] g m h = absurd (not-suc-le-zero h)
-fields-at kind n beside (f ∷ fs) g zero h = rw add-zero (g .0)
-fields-at kind n beside (f ∷ fs) g (suc m) h = rw (add-suc n m, ← suc-add n m) (fields-at kind (suc n) f fs (g .1) m (le-of-suc-le-suc h))
+fields-at : (rows : List Row) (n : ℕ) (beside : List ℕ) (fs : List (List ℕ)) → FieldsOk rows n beside fs → (m : ℕ) → m < length fs →
+    FieldOk rows (n + m) (getD (beside ∷ fs) m []) (getD fs m [])
+fields-at rows n beside [] g m h = absurd (not-suc-le-zero h)
+fields-at rows n beside (f ∷ fs) g zero h = rw add-zero (g .0)
+fields-at rows n beside (f ∷ fs) g (suc m) h = rw (add-suc n m, ← suc-add n m) (fields-at rows (suc n) f fs (g .1) m (le-of-suc-le-suc h))
 
-pub field-at : (kind : Record) (fs : List (List ℕ)) → LineOk kind fs → (n : ℕ) → 1 ≤ n → n ≤ length fs →
-    FieldOk kind n (getD (typeOf kind ∷ fs) (n - 1) []) (fieldNo fs n)
-field-at kind fs g n h l =
+pub field-at : {rules : Rules} (kind : Record) (fs : List (List ℕ)) → LineOk rules kind fs → (n : ℕ) → 1 ≤ n → n ≤ length fs →
+    FieldOk (rules kind) n (getD (typeOf kind ∷ fs) (n - 1) []) (fieldNo fs n)
+field-at {rules = rules} kind fs g n h l =
     let e : 1 + (n - 1) ≡ n = omega arith in
-    let f : FieldOk kind (1 + (n - 1)) (getD (typeOf kind ∷ fs) (n - 1) []) (fieldNo fs n) =
-    fields-at kind 1 (typeOf kind) fs (g .fields) (n - 1) (omega arith) in
+    let f : FieldOk (rules kind) (1 + (n - 1)) (getD (typeOf kind ∷ fs) (n - 1) []) (fieldNo fs n) =
+    fields-at (rules kind) 1 (typeOf kind) fs (g .fields) (n - 1) (omega arith) in
     rw e at f
 
 -- the bytes of the fields
-pub fields-plain : (kind : Record) (n : ℕ) (beside : List ℕ) (fs : List (List ℕ)) → FieldsOk kind n beside fs → allIn plain fs ≡ true
-fields-plain kind n beside [] g = refl
-fields-plain kind n beside (f ∷ fs) g = and-both (all plain f) (allIn plain fs) (g .0 .clean) (fields-plain kind (suc n) f fs (g .1))
+pub fields-plain : (rows : List Row) (n : ℕ) (beside : List ℕ) (fs : List (List ℕ)) → FieldsOk rows n beside fs → allIn plain fs ≡ true
+fields-plain rows n beside [] g = refl
+fields-plain rows n beside (f ∷ fs) g = and-both (all plain f) (allIn plain fs) (g .0 .clean) (fields-plain rows (suc n) f fs (g .1))
 
 module _ (p q : ℕ → Bool) (w : (b : ℕ) → p b ≡ true → q b ≡ true) where
   pub all-also : (f : List ℕ) → all p f ≡ true → all q f ≡ true

@@ -13,11 +13,11 @@ use Rattle.text.proofs.Numbers.{le-or-lt}
 use Rattle.refusal.specs.declared.Refusal.{Refusal}
 use Rattle.refusal.specs.declared.Refusal.the-variants.{NotThere}
 use Rattle.fields.specs.Record.{typeOf}
-use Rattle.fields.specs.declared.record.Due.{Due}
-use Rattle.fields.specs.declared.record.Due.the-variants.{Any}
+use Rattle.fields.specs.Profile.{Rules}
 use Rattle.line.specs.Parts.{startIn, startOf, fieldsOf}
-use Rattle.line.specs.Line.{textAt, lineAnswer}
+use Rattle.line.specs.Line.{textAt, lineAnswer, alone}
 use Rattle.line.specs.Find.{inLine, fieldAnswer}
+use Rattle.line.specs.Told.{Told}
 use Rattle.line.specs.declared.read.Line.{Line}
 use Rattle.line.specs.declared.read.LineAnswer.{LineAnswer}
 use Rattle.line.specs.declared.read.LineAnswer.the-variants.{Accepted, Refused}
@@ -46,7 +46,7 @@ joined-at (f ∷ fs) (suc m) h =
     (ap (λ (l : List ℕ). f ++ l) (joined-at fs m (le-of-suc-le-suc h)) ∙ sym (append-assoc f (front ++ bytes ";") back)
     ∙ ap (λ (l : List ℕ). l ++ back) (sym (append-assoc f front (bytes ";"))))
 
-module _ {due : Due} {s : List ℕ} {at : ℕ} {line : Line} {fs : List (List ℕ)} (g : Reads due s at line fs) where
+module _ {told : Told} {s : List ℕ} {at : ℕ} {line : Line} {fs : List (List ℕ)} (g : Reads told s at line fs) where
   -- what stands in front of the field with the number m + 1
   abbrev front : ℕ → List ℕ
   front m = textOf (line .kind) (take m fs) ++ bytes ";"
@@ -61,7 +61,7 @@ module _ {due : Due} {s : List ℕ} {at : ℕ} {line : Line} {fs : List (List �
         length-append (textOf (line .kind) (take m fs)) (bytes ";"),
       ))
 
-  accepted : lineAnswer Any s at ≡ Accepted line
+  accepted : lineAnswer (alone (told .rules)) s at ≡ Accepted line
   accepted = reads-accepted (reads-alone g)
 
   there : (m : ℕ) → m < length fs → take (length (getD fs m [])) (drop (at + length (front m)) s) ≡ getD fs m []
@@ -71,7 +71,7 @@ module _ {due : Due} {s : List ℕ} {at : ℕ} {line : Line} {fs : List (List �
       rw (← drop-drop (length (front m)) at s, cut, drop-append-seam) (take-append-seam (getD fs m []) back)
 
   module _ (n : ℕ) where
-    pub found : 1 ≤ n → n ≤ length fs → fieldAnswer s at n ≡ Found (at + length (front (n - 1))) (length (fieldNo fs n))
+    pub found : 1 ≤ n → n ≤ length fs → fieldAnswer (told .rules) s at n ≡ Found (at + length (front (n - 1))) (length (fieldNo fs n))
     unfolding fieldAnswer inLine
     found h l =
         rw (
@@ -83,7 +83,7 @@ module _ {due : Due} {s : List ℕ} {at : ℕ} {line : Line} {fs : List (List �
         )
 
     -- a number that no field has is 15 at 0
-    pub field-not-there : (1 ≤ n → n ≤ length fs → ⊥) → fieldAnswer s at n ≡ NotFound NotThere 0
+    pub field-not-there : (1 ≤ n → n ≤ length fs → ⊥) → fieldAnswer (told .rules) s at n ≡ NotFound NotThere 0
     unfolding fieldAnswer inLine
     field-not-there h =
         ⊎-elim
@@ -94,7 +94,7 @@ module _ {due : Due} {s : List ℕ} {at : ℕ} {line : Line} {fs : List (List �
         (le-or-lt 1 n)
 
     module _ (start long : ℕ) where
-      found-finds : fieldAnswer s at n ≡ Found start long → Finds (line .kind) fs s at n start long
+      found-finds : fieldAnswer (told .rules) s at n ≡ Found start long → Finds (line .kind) fs s at n start long
       found-finds e =
           ⊎-elim
           (λ (l : 1 ≤ n). ⊎-elim (λ (m : n ≤ length fs). go l m (sym (found l m) ∙ e))
@@ -109,26 +109,26 @@ module _ {due : Due} {s : List ℕ} {at : ℕ} {line : Line} {fs : List (List �
               let b : long ≡ length (fieldNo fs n) = cc in
               record { first = l; last = m; starts = a; measures = b; there = rw (a, b) (there (n - 1) (omega arith)) }
 
-      finds-found : Finds (line .kind) fs s at n start long → fieldAnswer s at n ≡ Found start long
+      finds-found : Finds (line .kind) fs s at n start long → fieldAnswer (told .rules) s at n ≡ Found start long
       finds-found f = found (f .first) (f .last) ∙ rw (f .starts, f .measures)
 
       -- a field of an accepted line is found exactly where it stands
-      pub field-exactly : (fieldAnswer s at n ≡ Found start long) ↔ Finds (line .kind) fs s at n start long
+      pub field-exactly : (fieldAnswer (told .rules) s at n ≡ Found start long) ↔ Finds (line .kind) fs s at n start long
       field-exactly = (found-finds, finds-found)
 
 -- "hands its refusal on"
-pub field-refused : (s : List ℕ) (at n : ℕ) (why : Refusal) (place : ℕ) → lineAnswer Any s at ≡ Refused why place →
-    fieldAnswer s at n ≡ NotFound why place
+pub field-refused : (rules : Rules) (s : List ℕ) (at n : ℕ) (why : Refusal) (place : ℕ) → lineAnswer (alone rules) s at ≡ Refused why place →
+    fieldAnswer rules s at n ≡ NotFound why place
 unfolding fieldAnswer inLine
-field-refused s at n why place e = rw e
+field-refused rules s at n why place e = rw e
 
 -- a field is found exactly when an allowed line stands at the offset and the field stands in it
 pub found-exactly :
-    (s : List ℕ) (at n start long : ℕ) → (fieldAnswer s at n ≡ Found start long) ↔
-    ((line : Line) × ((fs : List (List ℕ)) × (Reads Any s at line fs × Finds (line .kind) fs s at n start long)))
-found-exactly s at n start long = (λ e. go (lineAnswer Any s at) refl e, λ g. finds-found (g .1 .1 .0) n start long (g .1 .1 .1))
+    (rules : Rules) (s : List ℕ) (at n start long : ℕ) → (fieldAnswer rules s at n ≡ Found start long) ↔
+    ((line : Line) × ((fs : List (List ℕ)) × (Reads (alone rules) s at line fs × Finds (line .kind) fs s at n start long)))
+found-exactly rules s at n start long = (λ e. go (lineAnswer (alone rules) s at) refl e, λ g. finds-found (g .1 .1 .0) n start long (g .1 .1 .1))
   where
-    go : (a : LineAnswer) → lineAnswer Any s at ≡ a → fieldAnswer s at n ≡ Found start long →
-        (line : Line) × ((fs : List (List ℕ)) × (Reads Any s at line fs × Finds (line .kind) fs s at n start long))
-    go (Refused why place) q e = absurd (not-found (sym (field-refused s at n why place q) ∙ e))
-    go (Accepted line) q e = let g = accepted-reads Any s at line q in (line, (fieldsOf (textAt s at), (g, found-finds g n start long e)))
+    go : (a : LineAnswer) → lineAnswer (alone rules) s at ≡ a → fieldAnswer rules s at n ≡ Found start long →
+        (line : Line) × ((fs : List (List ℕ)) × (Reads (alone rules) s at line fs × Finds (line .kind) fs s at n start long))
+    go (Refused why place) q e = absurd (not-found (sym (field-refused rules s at n why place q) ∙ e))
+    go (Accepted line) q e = let g = accepted-reads (alone rules) s at line q in (line, (fieldsOf (textAt s at), (g, found-finds g n start long e)))

@@ -18,17 +18,16 @@ use Rattle.text.proofs.Runs.{run-once}
 use Rattle.refusal.specs.declared.Refusal.the-variants.{FileTooLong, NoLineEnd}
 use Rattle.forms.specs.Shape.{digits, allDigits}
 use Rattle.fields.specs.Record.{typeOf, mayCome}
-use Rattle.fields.specs.Table.{required, isRequired}
-use Rattle.fields.specs.Form.{formsOf, hasForm}
+use Rattle.fields.specs.Profile.{profile, isRequired, hasForm, Rules}
+use Rattle.fields.specs.declared.record.Due.{Due}
 use Rattle.fields.specs.declared.record.Record.{Record}
 use Rattle.fields.specs.declared.record.Record.the-variants.{Parcel}
-use Rattle.fields.specs.declared.record.Due.{Due}
-use Rattle.fields.specs.declared.record.Due.the-variants.{Any}
 use Rattle.line.specs.Parts.{split, partAt, nameOf, fieldsOf}
-use Rattle.line.specs.Line.{lineEnd, endsWell, textAt, ofText, lineAnswer}
+use Rattle.line.specs.Line.{lineEnd, endsWell, textAt, ofText, lineAnswer, alone}
+use Rattle.line.specs.Told.{Told}
 use Rattle.line.specs.declared.read.Line.{Line}
 use Rattle.line.specs.declared.read.LineAnswer.the-variants.{Accepted, Refused}
-use Rattle.grammar.specs.Grammar.{joined, textOf, render, fieldNo, LineOk, Reads}
+use Rattle.grammar.specs.Grammar.{joined, textOf, render, fieldNo, LineOk, Reads, Sound}
 use Rattle.grammar.proofs.Ends.{ended, ends-at, ends-well, text-there}
 use Rattle.grammar.proofs.Texts.{refused, type-long, type-tells, text-split, text-bytes, text-accepted, accepted-text}
 
@@ -36,19 +35,19 @@ pub render-long : (kind : Record) (fs : List (List ℕ)) → length (render kind
 render-long kind fs = length-append (textOf kind fs) (bytes "\r\n")
 
 -- an accepted line stands there
-pub accepted-reads : (due : Due) (s : List ℕ) (at : ℕ) (line : Line) → lineAnswer due s at ≡ Accepted line →
-    Reads due s at line (fieldsOf (textAt s at))
+pub accepted-reads : (told : Told) (s : List ℕ) (at : ℕ) (line : Line) → lineAnswer told s at ≡ Accepted line →
+    Reads told s at line (fieldsOf (textAt s at))
 unfolding lineAnswer
-accepted-reads due s at line e =
+accepted-reads told s at line e =
     let text = textAt s at in
     let end = lineEnd s at in
-    let ending = if not (endsWell s end) then Refused NoLineEnd end else ofText due at text in
+    let ending = if not (endsWell s end) then Refused NoLineEnd end else ofText told at text in
     let inside = if ltb (length s) at then Refused NoLineEnd (length s) else ending in
     let a = came-else (ltb 65535 (length s)) (Refused FileTooLong 65535) inside (Accepted line) refused e in
     let b = came-else (ltb (length s) at) (Refused NoLineEnd (length s)) ending (Accepted line) refused (a .1) in
-    let c = came-else (not (endsWell s end)) (Refused NoLineEnd end) (ofText due at text) (Accepted line) refused (b .1) in
+    let c = came-else (not (endsWell s end)) (Refused NoLineEnd end) (ofText told at text) (Accepted line) refused (b .1) in
     let d = ended s at (not-false (endsWell s end) (c .0)) in
-    let g = accepted-text at text line due (d .text) (c .1) in
+    let g = accepted-text at text line told (d .text) (c .1) in
     record {
       small = ltb-false 65535 (length s) (a .0);
       comes = g .comes;
@@ -60,7 +59,7 @@ accepted-reads due s at line e =
     }
 
 -- what a line that stands there tells
-module _ {due : Due} {s : List ℕ} {at : ℕ} {line : Line} {fs : List (List ℕ)} (g : Reads due s at line fs) where
+module _ {told : Told} {s : List ℕ} {at : ℕ} {line : Line} {fs : List (List ℕ)} (g : Reads told s at line fs) where
   long : length s - at ≡ length (textOf (line .kind) fs) + 2 + length (g .rest)
   long = sym (length-drop at s) ∙ ap length (g .stands) ∙ length-append (render (line .kind) fs) (g .rest) ∙ rw
       (render-long (line .kind) fs)
@@ -111,7 +110,7 @@ module _ {due : Due} {s : List ℕ} {at : ℕ} {line : Line} {fs : List (List �
       go : (m : ℕ) → n ≡ suc m → partAt (textAt s at) n ≡ getD fs m []
       go m e = rw (e, read-parts)
 
-  pub reads-accepted : lineAnswer due s at ≡ Accepted line
+  pub reads-accepted : lineAnswer told s at ≡ Accepted line
   unfolding lineAnswer
   reads-accepted =
       let n : at + length (textOf (line .kind) fs) + 2 ≡ line .next = omega (arith, g .next, render-long (line .kind) fs) in
@@ -121,15 +120,15 @@ module _ {due : Due} {s : List ℕ} {at : ℕ} {line : Line} {fs : List (List �
         ends-well s at (textOf (line .kind) fs) (g .rest) bytes-of (g .stands),
         read-text,
       )
-      (text-accepted (line .kind) fs (g .allowed) due at (g .comes) ∙ rw (n, ← g .count))
+      (text-accepted (line .kind) fs (g .allowed) (told .due) at (g .comes) ∙ rw (n, ← g .count))
 
 -- a line is accepted exactly when an allowed line stands at the offset
-pub line-exactly : (due : Due) (s : List ℕ) (at : ℕ) (line : Line) → (lineAnswer due s at ≡ Accepted line) ↔
-    ((fs : List (List ℕ)) × Reads due s at line fs)
-line-exactly due s at line = (λ e. (fieldsOf (textAt s at), accepted-reads due s at line e), λ g. reads-accepted (g .1))
+pub line-exactly : (told : Told) (s : List ℕ) (at : ℕ) (line : Line) → (lineAnswer told s at ≡ Accepted line) ↔
+    ((fs : List (List ℕ)) × Reads told s at line fs)
+line-exactly told s at line = (λ e. (fieldsOf (textAt s at), accepted-reads told s at line e), λ g. reads-accepted (g .1))
 
 -- the same bytes are no other line, and no other fields
-pub one-line : (kind other : Record) (fs gs : List (List ℕ)) (rest more : List ℕ) → LineOk kind fs → LineOk other gs →
+pub one-line : {rules late : Rules} (kind other : Record) (fs gs : List (List ℕ)) (rest more : List ℕ) → LineOk rules kind fs → LineOk late other gs →
     render kind fs ++ rest ≡ render other gs ++ more → (kind ≡ other) × ((fs ≡ gs) × (rest ≡ more))
 one-line kind other fs gs rest more g h e =
     let cut : textOf kind fs ++ 13 ∷ 10 ∷ rest ≡ textOf other gs ++ 13 ∷ 10 ∷ more =
@@ -141,7 +140,7 @@ one-line kind other fs gs rest more g h e =
     (type-tells kind other (ap (λ (l : List (List ℕ)). getD l 0 []) parts), (ap (drop 1) parts, ap (drop 2) (a .1)))
 
 -- a line that stands where a record is due stands there alone too
-pub reads-alone : {due : Due} {s : List ℕ} {at : ℕ} {line : Line} {fs : List (List ℕ)} → Reads due s at line fs → Reads Any s at line fs
+pub reads-alone : {told : Told} {s : List ℕ} {at : ℕ} {line : Line} {fs : List (List ℕ)} → Reads told s at line fs → Reads (alone (told .rules)) s at line fs
 unfolding mayCome
 reads-alone g = record {
   small = g .small;
@@ -155,20 +154,20 @@ reads-alone g = record {
 }
 
 -- at one offset stands one line with one list of fields, whatever is due
-pub one-reading : {due late : Due} {s : List ℕ} {at : ℕ} {line other : Line} {fs gs : List (List ℕ)} → Reads due s at line fs →
-    Reads late s at other gs → (line ≡ other) × (fs ≡ gs)
+pub one-reading : {rules : Rules} {due late : Due} {s : List ℕ} {at : ℕ} {line other : Line} {fs gs : List (List ℕ)} → Reads (record { rules = rules; due = due }) s at line fs →
+    Reads (record { rules = rules; due = late }) s at other gs → (line ≡ other) × (fs ≡ gs)
 one-reading g h =
     let e = sym (reads-accepted (reads-alone g)) ∙ reads-accepted (reads-alone h) in
     (cc, sym (read-fields g) ∙ read-fields h)
 
 -- "040: 1 R 22 digits"
-pub identcode : (kind : Record) (fs : List (List ℕ)) → kind ≡ Parcel → LineOk kind fs →
+pub identcode : {rules : Rules} → Sound rules → (kind : Record) (fs : List (List ℕ)) → kind ≡ Parcel → LineOk rules kind fs →
     (digits 22 (fieldNo fs 1) ≡ true) × (length (fieldNo fs 1) ≡ 22)
-unfolding isRequired required hasForm formsOf digits
-identcode kind fs e g = go fs (rw e at g)
+unfolding digits
+identcode {rules = rules} w kind fs e g = go fs (rw e at g)
   where
-    go : (fs : List (List ℕ)) → LineOk Parcel fs → (digits 22 (fieldNo fs 1) ≡ true) × (length (fieldNo fs 1) ≡ 22)
+    go : (fs : List (List ℕ)) → LineOk rules Parcel fs → (digits 22 (fieldNo fs 1) ≡ true) × (length (fieldNo fs 1) ≡ 22)
     go [] g = let z : _≡_ {A = ℕ} 0 1 = cc in absurd (omega arith)
     go (f ∷ fs) g =
-        let d : digits 22 f ≡ true = g .fields .0 .formed (g .fields .0 .filled refl) in
+        let d : digits 22 f ≡ true = sym (w .digital (typeOf Parcel) f) ∙ g .fields .0 .formed (g .fields .0 .filled (w .coded)) in
         (d, eqb-true (length f) 22 (and-left (eqb (length f) 22) (allDigits f) d))

@@ -10,73 +10,65 @@ use borrow.Author.Tests.{leb-true, eqb-true}
 use Rattle.text.specs.Choice.{if_then_else_}
 use Rattle.text.proofs.Choices.{and-left, and-right}
 use Rattle.fields.specs.Record.{typeOf, countFits, mayCome}
-use Rattle.fields.specs.Table.{Span, to_wide_, widthIn, widths, widthInTable}
-use Rattle.fields.specs.Field.{isCashReference, widthOf}
+use Rattle.fields.specs.Profile.{Row, names, rowIn, profile, widthInTable, But, always, instead, narrowed, widthOf, Rules, isRequired, hasForm}
 use Rattle.fields.specs.declared.record.Record.{Record}
 use Rattle.fields.specs.declared.record.Record.the-variants.{Header, Sender, Shipment, Parcel, Product, Feature}
-use Rattle.fields.specs.declared.record.Due.the-variants.{Any}
-use Rattle.line.specs.Line.{lineAnswer}
+use Rattle.line.specs.Line.{lineAnswer, alone}
 use Rattle.line.specs.declared.read.LineAnswer.the-variants.{Accepted}
-use Rattle.grammar.specs.Grammar.{joined, render, FieldsOk, LineOk, Reads}
+use Rattle.grammar.specs.Grammar.{narrow, within, Sound, joined, render, FieldsOk, LineOk, Reads}
 use Rattle.grammar.proofs.Texts.{type-long}
 use Rattle.grammar.proofs.Lines.{render-long, reads-accepted}
 
--- no width of the table is above 100
-abbrev within : List Span → Bool
-within [] = true
-within (to last wide width ∷ spans) = leb width 100 && within spans
-
-width-in-le : (spans : List Span) (n : ℕ) → within spans ≡ true → widthIn spans n ≤ 100
-width-in-le [] n e = zero-le
-width-in-le (to last wide width ∷ spans) n e = go (leb n last) (leb-true width 100 (and-left (leb width 100) (within spans) e))
-    (width-in-le spans n (and-right (leb width 100) (within spans) e))
+row-within : (rows : List Row) (n : ℕ) → within rows ≡ true → (rowIn rows n .width ≤ 100) × (narrow (rowIn rows n .but) ≡ true)
+row-within [] n e = (zero-le, refl)
+row-within (row ∷ rows) n e =
+    let more = and-right (leb (row .width) 100) (narrow (row .but) && within rows) e in
+    go (names row n)
+    (leb-true (row .width) 100 (and-left (leb (row .width) 100) (narrow (row .but) && within rows) e))
+    (and-left (narrow (row .but)) (within rows) more)
+    (row-within rows n (and-right (narrow (row .but)) (within rows) more))
   where
-    go : (t : Bool) → width ≤ 100 → widthIn spans n ≤ 100 → (if t then width else widthIn spans n) ≤ 100
-    go true h k = h
-    go false h k = k
+    go : (t : Bool) → row .width ≤ 100 → narrow (row .but) ≡ true → (rowIn rows n .width ≤ 100) × (narrow (rowIn rows n .but) ≡ true) →
+        ((if t then row else rowIn rows n) .width ≤ 100) × (narrow ((if t then row else rowIn rows n) .but) ≡ true)
+    go true h k more = (h, k)
+    go false h k more = more
 
-widths-within : (kind : Record) → within (widths kind) ≡ true
-unfolding widths
-widths-within Header = refl
-widths-within Sender = refl
-widths-within Shipment = refl
-widths-within Parcel = refl
-widths-within Product = refl
-widths-within Feature = refl
-
-pub width-le : (kind : Record) (n : ℕ) (beside : List ℕ) → widthOf kind n beside ≤ 100
+pub width-le : (rows : List Row) (n : ℕ) (beside : List ℕ) → within rows ≡ true → widthOf rows n beside ≤ 100
 unfolding widthOf widthInTable
-width-le kind n beside = go (isCashReference kind n beside) (eqb n 0) (width-in-le (widths kind) n (widths-within kind))
+width-le rows n beside e = let w = row-within rows n e in go (rowIn rows n .but) (rowIn rows n .width) (w .0) (w .1)
   where
-    go : (t u : Bool) → widthIn (widths kind) n ≤ 100 → (if t then 35 else (if u then 0 else widthIn (widths kind) n)) ≤ 100
-    go true u h = omega arith
-    go false true h = omega arith
-    go false false h = h
+    either : (t : Bool) (a b : ℕ) → a ≤ 100 → b ≤ 100 → (if t then a else b) ≤ 100
+    either true a b h k = h
+    either false a b h k = k
+
+    go : (b : But) (w : ℕ) → w ≤ 100 → narrow b ≡ true → narrowed b w beside ≤ 100
+    go always w h e = h
+    go (instead width test) w h e = either (test beside) width w (leb-true width 100 e) h
 
 pub count-le : (kind : Record) (n : ℕ) → countFits kind n ≡ true → n ≤ 40
-count-le Header n e = omega (arith, eqb-true n 10 e)
-count-le Sender n e = omega (arith, eqb-true n 16 e)
-count-le Shipment n e = omega (arith, eqb-true n 40 e)
+count-le Header n e = omega (arith, leb-true n 10 (and-right (leb 10 n) (leb n 10) e))
+count-le Sender n e = omega (arith, leb-true n 16 (and-right (leb 16 n) (leb n 16) e))
+count-le Shipment n e = omega (arith, leb-true n 40 (and-right (leb 40 n) (leb n 40) e))
 count-le Parcel n e = omega (arith, leb-true n 24 (and-right (leb 3 n) (leb n 24) e))
 count-le Product n e = omega (arith, leb-true n 24 (and-right (leb 1 n) (leb n 24) e))
-count-le Feature n e = omega (arith, eqb-true n 10 e)
+count-le Feature n e = omega (arith, leb-true n 10 (and-right (leb 10 n) (leb n 10) e))
 
-pub fields-le : (kind : Record) (n : ℕ) (beside : List ℕ) (fs : List (List ℕ)) → FieldsOk kind n beside fs →
+pub fields-le : (rows : List Row) (n : ℕ) (beside : List ℕ) (fs : List (List ℕ)) → within rows ≡ true → FieldsOk rows n beside fs →
     length (joined fs) ≤ 101 * length fs
-fields-le kind n beside [] g = zero-le
-fields-le kind n beside (f ∷ fs) g = omega (
+fields-le rows n beside [] w g = zero-le
+fields-le rows n beside (f ∷ fs) w g = omega (
   arith,
-  fields-le kind (suc n) f fs (g .1),
+  fields-le rows (suc n) f fs w (g .1),
   g .0 .fits,
-  width-le kind n beside,
+  width-le rows n beside w,
   length-append f (joined fs),
 )
 
-pub render-le : (kind : Record) (fs : List (List ℕ)) → LineOk kind fs → length (render kind fs) ≤ 4045
-render-le kind fs g =
+pub render-le : {rules : Rules} → Sound rules → (kind : Record) (fs : List (List ℕ)) → LineOk rules kind fs → length (render kind fs) ≤ 4045
+render-le {rules = rules} w kind fs g =
     omega (
       arith,
-      fields-le kind 1 (typeOf kind) fs (g .fields),
+      fields-le (rules kind) 1 (typeOf kind) fs (w .narrows kind) (g .fields),
       count-le kind (length fs) (g .counted),
       render-long kind fs,
       length-append (typeOf kind) (joined fs),
@@ -84,12 +76,12 @@ render-le kind fs g =
     )
 
 -- the bytes of an allowed line, as a file of their own
-pub render-reads : (kind : Record) (fs : List (List ℕ)) → LineOk kind fs →
-    Reads Any (render kind fs) 0 (record { kind = kind; count = length fs; next = length (render kind fs) }) fs
+pub render-reads : {rules : Rules} → Sound rules → (kind : Record) (fs : List (List ℕ)) → LineOk rules kind fs →
+    Reads (alone rules) (render kind fs) 0 (record { kind = kind; count = length fs; next = length (render kind fs) }) fs
 unfolding mayCome
-render-reads kind fs g =
+render-reads {rules = rules} w kind fs g =
     record {
-      small = omega (arith, render-le kind fs g);
+      small = omega (arith, render-le w kind fs g);
       comes = refl;
       allowed = g;
       rest = [];
@@ -98,6 +90,19 @@ render-reads kind fs g =
       next = omega arith;
     }
 
-pub render-accepted : (kind : Record) (fs : List (List ℕ)) → LineOk kind fs →
-    lineAnswer Any (render kind fs) 0 ≡ Accepted (record { kind = kind; count = length fs; next = length (render kind fs) })
-render-accepted kind fs g = reads-accepted (render-reads kind fs g)
+pub render-accepted : {rules : Rules} → Sound rules → (kind : Record) (fs : List (List ℕ)) → LineOk rules kind fs →
+    lineAnswer (alone rules) (render kind fs) 0 ≡ Accepted (record { kind = kind; count = length fs; next = length (render kind fs) })
+render-accepted {rules = rules} w kind fs g = reads-accepted (render-reads w kind fs g)
+
+-- the rules of every version are sound
+pub sound : Sound profile
+unfolding profile isRequired hasForm
+sound = record { narrows = narrows; coded = refl; digital = λ beside f. refl }
+  where
+    narrows : (kind : Record) → within (profile kind) ≡ true
+    narrows Header = refl
+    narrows Sender = refl
+    narrows Shipment = refl
+    narrows Parcel = refl
+    narrows Product = refl
+    narrows Feature = refl

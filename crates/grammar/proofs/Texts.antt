@@ -14,18 +14,20 @@ use Rattle.text.proofs.Runs.{all-append}
 use Rattle.text.proofs.Scans.{same-eq}
 use Rattle.refusal.specs.declared.Refusal.{Refusal}
 use Rattle.refusal.specs.declared.Refusal.the-variants.{OutOfOrder, FieldCount, FeatureLacks}
+use Rattle.fields.specs.Profile.{profile, Rules}
 use Rattle.fields.specs.Record.{typeOf, named, countFits, mayCome}
 use Rattle.fields.specs.declared.record.Record.{Record}
 use Rattle.fields.specs.declared.record.Record.the-variants.{Header, Sender, Shipment, Parcel, Product, Feature}
 use Rattle.fields.specs.declared.record.Named.{Named}
 use Rattle.fields.specs.declared.record.Named.the-variants.{Known, Unknown}
-use Rattle.fields.specs.declared.record.Due.{Due}
 use Rattle.line.specs.Parts.{split, nameOf, fieldsOf, inField}
 use Rattle.line.specs.Walk.{walk}
 use Rattle.line.specs.Need.{lacks}
 use Rattle.line.specs.Line.{afterWalk, ofKind, ofNamed, ofText}
 use Rattle.line.specs.declared.walk.Walk.{Walk}
 use Rattle.line.specs.declared.walk.Walk.the-variants.{Fine, Stopped}
+use Rattle.fields.specs.declared.record.Due.{Due}
+use Rattle.line.specs.Told.{Told}
 use Rattle.line.specs.declared.read.Line.{Line}
 use Rattle.line.specs.declared.read.LineAnswer.the-variants.{Accepted, Refused}
 use Rattle.grammar.specs.Grammar.{joined, textOf, plain, FieldsOk, LineOk}
@@ -84,18 +86,18 @@ named-type name kind e =
     (one-name name Feature kind Unknown (λ u. let z : _≡_ {A = ℕ} 0 1 = cc in absurd (omega arith))))))) e
 
 -- a text with good fields falls into them again
-pub fields-split : (kind : Record) (fs : List (List ℕ)) → FieldsOk kind 1 (typeOf kind) fs → split (textOf kind fs) ≡ typeOf kind ∷ fs
-fields-split kind fs g =
+pub fields-split : (rules : Rules) (kind : Record) (fs : List (List ℕ)) → FieldsOk (rules kind) 1 (typeOf kind) fs → split (textOf kind fs) ≡ typeOf kind ∷ fs
+fields-split rules kind fs g =
     split-joined (typeOf kind) fs (all-also plain inField plain-in-field (typeOf kind) (type-plain kind))
-    (all-in-also plain inField plain-in-field fs (fields-plain kind 1 (typeOf kind) fs g))
+    (all-in-also plain inField plain-in-field fs (fields-plain (rules kind) 1 (typeOf kind) fs g))
 
 -- the text of an allowed line
-module _ (kind : Record) (fs : List (List ℕ)) (g : LineOk kind fs) where
+module _ {rules : Rules} (kind : Record) (fs : List (List ℕ)) (g : LineOk rules kind fs) where
   clean : allIn plain fs ≡ true
-  clean = fields-plain kind 1 (typeOf kind) fs (g .fields)
+  clean = fields-plain (rules kind) 1 (typeOf kind) fs (g .fields)
 
   pub text-split : split (textOf kind fs) ≡ typeOf kind ∷ fs
-  text-split = fields-split kind fs (g .fields)
+  text-split = fields-split rules kind fs (g .fields)
 
   pub text-bytes : all textByte (textOf kind fs) ≡ true
   text-bytes =
@@ -103,7 +105,7 @@ module _ (kind : Record) (fs : List (List ℕ)) (g : LineOk kind fs) where
       (joined-text fs (all-in-also plain textByte plain-text fs clean))
 
   pub text-accepted : (due : Due) (at : ℕ) → mayCome due kind ≡ true →
-      ofText due at (textOf kind fs) ≡ Accepted (record { kind = kind; count = length fs; next = at + length (textOf kind fs) + 2 })
+      ofText (record { rules = rules; due = due }) at (textOf kind fs) ≡ Accepted (record { kind = kind; count = length fs; next = at + length (textOf kind fs) + 2 })
   unfolding ofText ofNamed ofKind afterWalk
   text-accepted due at m =
       simp (
@@ -111,16 +113,16 @@ module _ (kind : Record) (fs : List (List ℕ)) (g : LineOk kind fs) where
         type-named kind,
         m,
         g .counted,
-        fields-fine kind 1 (at + length (typeOf kind) + 1) (typeOf kind) fs
+        fields-fine (rules kind) 1 (at + length (typeOf kind) + 1) (typeOf kind) fs
             (g .fields),
         g .served,
       )
 
 -- what an accepted answer tells of the text
-pub record OfText (due : Due) (at : ℕ) (text : List ℕ) (line : Line) : Type 0 where
+pub record OfText (told : Told) (at : ℕ) (text : List ℕ) (line : Line) : Type 0 where
   pub written : text ≡ textOf (line .kind) (fieldsOf text)
-  pub comes : mayCome due (line .kind) ≡ true
-  pub allowed : LineOk (line .kind) (fieldsOf text)
+  pub comes : mayCome (told .due) (line .kind) ≡ true
+  pub allowed : LineOk (told .rules) (line .kind) (fieldsOf text)
   pub count : line .count ≡ length (fieldsOf text)
   pub next : line .next ≡ at + length text + 2
 
@@ -139,26 +141,26 @@ module _ (at : ℕ) (text : List ℕ) (line : Line) where
       (Accepted (record { kind = kind; count = length (fieldsOf text); next = at + length text + 2 })) (Accepted line) refused e in
       (refl, (a .0, cc))
 
-  of-known : (due : Due) (m : Named) → ofNamed m due at text ≡ Accepted line →
-      (kind : Record) × ((m ≡ Known kind) × ((mayCome due kind ≡ true) × (ofKind kind at text ≡ Accepted line)))
+  of-known : (told : Told) (m : Named) → ofNamed m told at text ≡ Accepted line →
+      (kind : Record) × ((m ≡ Known kind) × ((mayCome (told .due) kind ≡ true) × (ofKind (told .rules) kind at text ≡ Accepted line)))
   unfolding ofNamed
-  of-known due Unknown e = absurd (refused e)
-  of-known due (Known kind) e =
-      let a = came-else (not (mayCome due kind)) (Refused OutOfOrder at) (ofKind kind at text) (Accepted line) refused e in
-      (kind, (refl, (not-false (mayCome due kind) (a .0), a .1)))
+  of-known told Unknown e = absurd (refused e)
+  of-known told (Known kind) e =
+      let a = came-else (not (mayCome (told .due) kind)) (Refused OutOfOrder at) (ofKind (told .rules) kind at text) (Accepted line) refused e in
+      (kind, (refl, (not-false (mayCome (told .due) kind) (a .0), a .1)))
 
-  of-kind : (due : Due) (kind : Record) → all textByte text ≡ true → nameOf text ≡ typeOf kind → mayCome due kind ≡ true →
-      ofKind kind at text ≡ Accepted line → OfText due at text line
+  of-kind : (told : Told) (kind : Record) → all textByte text ≡ true → nameOf text ≡ typeOf kind → mayCome (told .due) kind ≡ true →
+      ofKind (told .rules) kind at text ≡ Accepted line → OfText told at text line
   unfolding ofKind
-  of-kind due kind p name m e =
-      let walked = walk kind 1 (at + length (nameOf text) + 1) (nameOf text) (fieldsOf text) in
+  of-kind told kind p name m e =
+      let walked = walk (told .rules kind) 1 (at + length (nameOf text) + 1) (nameOf text) (fieldsOf text) in
       let a = came-else (not (countFits kind (length (fieldsOf text)))) (Refused FieldCount at) (afterWalk walked kind at text)
       (Accepted line) refused e in
       let w = after-fine walked kind (a .1) in
       let clean : allIn plain (nameOf text ∷ fieldsOf text) ≡ true = ap (allIn plain) (sym (split-some text)) ∙ split-plain text p in
-      let fine = fine-fields kind 1 (at + length (nameOf text) + 1) (nameOf text) (fieldsOf text)
+      let fine = fine-fields (told .rules kind) 1 (at + length (nameOf text) + 1) (nameOf text) (fieldsOf text)
       (and-right (all plain (nameOf text)) (allIn plain (fieldsOf text)) clean) (w .0) in
-      let g : OfText due at text (record { kind = kind; count = length (fieldsOf text); next = at + length text + 2 }) =
+      let g : OfText told at text (record { kind = kind; count = length (fieldsOf text); next = at + length text + 2 }) =
       record {
         written = sym (join-split text) ∙ ap (λ (n : List ℕ). n ++ joined (fieldsOf text)) name;
         comes = m;
@@ -173,8 +175,8 @@ module _ (at : ℕ) (text : List ℕ) (line : Line) where
       in
       rw (w .1 .1) at g
 
-  pub accepted-text : (due : Due) → all textByte text ≡ true → ofText due at text ≡ Accepted line → OfText due at text line
+  pub accepted-text : (told : Told) → all textByte text ≡ true → ofText told at text ≡ Accepted line → OfText told at text line
   unfolding ofText
-  accepted-text due p e =
-      let k = of-known due (named (nameOf text)) e in
-      of-kind due (k .0) p (named-type (nameOf text) (k .0) (k .1 .0)) (k .1 .1 .0) (k .1 .1 .1)
+  accepted-text told p e =
+      let k = of-known told (named (nameOf text)) e in
+      of-kind told (k .0) p (named-type (nameOf text) (k .0) (k .1 .0)) (k .1 .1 .0) (k .1 .1 .1)

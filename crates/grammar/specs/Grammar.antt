@@ -3,18 +3,19 @@ use Prim.Native.Nat.{ℕ, suc, _+_, _-_, _≤_}
 use mathlib.Core.Path.{_≡_}
 use mathlib.Core.Bool.{Bool, true, false, _&&_}
 use mathlib.Core.List.{List, [], _∷_, _++_}
+use lib.Dec.{leb}
+use Rattle.forms.specs.Shape.{digits}
 use lib.ListN.{length, take, drop, getD}
 use Rattle.text.specs.Byte.{textByte}
 use Rattle.text.specs.Quoted.{bytes}
 use Rattle.text.specs.Scan.{all}
 use Rattle.fields.specs.Record.{typeOf, countFits, mayCome}
-use Rattle.fields.specs.Table.{isRequired}
-use Rattle.fields.specs.Form.{hasForm}
-use Rattle.fields.specs.Field.{widthOf}
+use Rattle.fields.specs.Profile.{isRequired, hasForm, Row, profile, widthOf, Rules, But, always, instead}
 use Rattle.fields.specs.declared.record.Record.{Record}
-use Rattle.fields.specs.declared.record.Due.{Due}
+use Rattle.fields.specs.declared.record.Record.the-variants.{Parcel}
 use Rattle.line.specs.Parts.{inField}
 use Rattle.line.specs.Need.{lacks}
+use Rattle.line.specs.Told.{Told}
 use Rattle.line.specs.declared.read.Line.{Line}
 
 -- "Semicolons divide fields": each field stands after a semicolon
@@ -39,36 +40,36 @@ abbrev pub Filled : List ℕ → Type 0
 Filled f = length f ≡ 0 → ⊥
 
 -- the field with this number, beside it the part in front of it
-pub record FieldOk (kind : Record) (n : ℕ) (beside f : List ℕ) : Type 0 where
+pub record FieldOk (rows : List Row) (n : ℕ) (beside f : List ℕ) : Type 0 where
   pub clean : all plain f ≡ true
   -- "Widths count bytes."
-  pub fits : length f ≤ widthOf kind n beside
+  pub fits : length f ≤ widthOf rows n beside
   -- "R = must be filled"
-  pub filled : isRequired kind n ≡ true → Filled f
+  pub filled : isRequired rows n ≡ true → Filled f
   -- "Forms apply to filled fields."
-  pub formed : Filled f → hasForm kind n beside f ≡ true
+  pub formed : Filled f → hasForm rows n beside f ≡ true
 
 -- these fields, the first with this number, beside it the part in front of it
-abbrev pub FieldsOk : Record → ℕ → List ℕ → List (List ℕ) → Type 0
-FieldsOk kind n beside [] = Unit {0}
-FieldsOk kind n beside (f ∷ fs) = FieldOk kind n beside f × FieldsOk kind (suc n) f fs
+abbrev pub FieldsOk : List Row → ℕ → List ℕ → List (List ℕ) → Type 0
+FieldsOk rows n beside [] = Unit {0}
+FieldsOk rows n beside (f ∷ fs) = FieldOk rows n beside f × FieldsOk rows (suc n) f fs
 
-pub record LineOk (kind : Record) (fs : List (List ℕ)) : Type 0 where
+pub record LineOk (rules : Rules) (kind : Record) (fs : List (List ℕ)) : Type 0 where
   -- "Fields per record"
   pub counted : countFits kind (length fs) ≡ true
   -- "Widths and rules"
-  pub fields : FieldsOk kind 1 (typeOf kind) fs
+  pub fields : FieldsOk (rules kind) 1 (typeOf kind) fs
   -- "What a feature needs depends on its three-digit code alone"
   pub served : lacks kind (typeOf kind ∷ fs) ≡ false
 
 -- at this offset of the file stands an allowed line with these fields, of a record that may come: "the answer names the record
 -- kind, the field count and where the next line starts"
-pub record Reads (due : Due) (s : List ℕ) (at : ℕ) (line : Line) (fs : List (List ℕ)) : Type 0 where
+pub record Reads (told : Told) (s : List ℕ) (at : ℕ) (line : Line) (fs : List (List ℕ)) : Type 0 where
   -- "At most 65,535 bytes."
   pub small : length s ≤ 65535
   -- "Record order"
-  pub comes : mayCome due (line .kind) ≡ true
-  pub allowed : LineOk (line .kind) fs
+  pub comes : mayCome (told .due) (line .kind) ≡ true
+  pub allowed : LineOk (told .rules) (line .kind) fs
   pub rest : List ℕ
   pub stands : drop at s ≡ render (line .kind) fs ++ rest
   pub count : line .count ≡ length fs
@@ -86,3 +87,17 @@ pub record Finds (kind : Record) (fs : List (List ℕ)) (s : List ℕ) (at n sta
   pub starts : start ≡ at + length (textOf kind (take (n - 1) fs) ++ bytes ";")
   pub measures : long ≡ length (fieldNo fs n)
   pub there : take long (drop start s) ≡ fieldNo fs n
+
+-- what is asked of rules: no width above 100, and 040.1 must be filled with 22 digits
+abbrev pub narrow : But → Bool
+narrow always = true
+narrow (instead width test) = leb width 100
+
+abbrev pub within : List Row → Bool
+within [] = true
+within (row ∷ rows) = leb (row .width) 100 && (narrow (row .but) && within rows)
+
+pub record Sound (rules : Rules) : Type 0 where
+  pub narrows : (kind : Record) → within (rules kind) ≡ true
+  pub coded : isRequired (rules Parcel) 1 ≡ true
+  pub digital : (beside f : List ℕ) → hasForm (rules Parcel) 1 beside f ≡ digits 22 f

@@ -12,17 +12,18 @@ use Rattle.text.specs.Scan.{count, same}
 use Rattle.text.proofs.Scans.{pair-unlike}
 use Rattle.refusal.specs.declared.Refusal.{Refusal}
 use Rattle.refusal.specs.declared.Refusal.the-variants.{FileTooLong, NoLineEnd, UnknownRecord, OutOfOrder, FieldCount, FeatureLacks}
+use Rattle.fields.specs.Profile.{profile, Rules}
 use Rattle.fields.specs.Record.{named, countFits, mayCome}
 use Rattle.fields.specs.declared.record.Record.{Record}
 use Rattle.fields.specs.declared.record.Named.{Named}
 use Rattle.fields.specs.declared.record.Named.the-variants.{Known, Unknown}
-use Rattle.fields.specs.declared.record.Due.{Due}
 use Rattle.line.specs.Parts.{semicolon, split, nameOf, fieldsOf}
 use Rattle.line.specs.Walk.{walk}
 use Rattle.line.specs.Need.{lacks}
 use Rattle.line.specs.Line.{lineEnd, endsWell, textAt, afterWalk, ofKind, ofNamed, ofText, lineAnswer}
 use Rattle.line.specs.declared.walk.Walk.{Walk}
 use Rattle.line.specs.declared.walk.Walk.the-variants.{Fine, Stopped}
+use Rattle.line.specs.Told.{Told}
 use Rattle.line.specs.declared.read.LineAnswer.{LineAnswer}
 use Rattle.line.specs.declared.read.LineAnswer.the-variants.{Accepted, Refused}
 use Rattle.line.proofs.Parts.{count-fields}
@@ -42,68 +43,68 @@ pub text-to : (s : List ℕ) (at end : ℕ) → end ≡ lineEnd s at → take (e
 text-to s at end e = ap (λ (k : ℕ). take (k - at) (drop at s)) e
 
 -- the number of fields, the fields, then what the feature needs
-module _ (kind : Record) (at : ℕ) (line : List ℕ) (n : ℕ) (en : n ≡ count semicolon line) (t : Bool) (et : t ≡ countFits kind n) where
+module _ (rules : Rules) (kind : Record) (at : ℕ) (line : List ℕ) (n : ℕ) (en : n ≡ count semicolon line) (t : Bool) (et : t ≡ countFits kind n) where
   fits : t ≡ countFits kind (length (fieldsOf line))
   fits = et ∙ ap (countFits kind) (count-fields n line en)
 
-  pub count-wrong : not t ≡ true → Refused FieldCount at ≡ ofKind kind at line
+  pub count-wrong : not t ≡ true → Refused FieldCount at ≡ ofKind rules kind at line
   unfolding ofKind
   count-wrong e = rw (← fits, e)
 
-  module _ (right : not t ≡ false) (w : Walk) (ew : w ≡ walk kind 1 (at + length (nameOf line) + 1) (nameOf line) (fieldsOf line)) where
-    walked : (a : LineAnswer) → a ≡ afterWalk w kind at line → a ≡ ofKind kind at line
+  module _ (right : not t ≡ false) (w : Walk) (ew : w ≡ walk (rules kind) 1 (at + length (nameOf line) + 1) (nameOf line) (fieldsOf line)) where
+    walked : (a : LineAnswer) → a ≡ afterWalk w kind at line → a ≡ ofKind rules kind at line
     unfolding ofKind
     walked a e = rw (← fits, right) (e ∙ ap (λ (v : Walk). afterWalk v kind at line) ew)
 
-    pub field-wrong : (why : Refusal) (place : ℕ) → w ≡ Stopped why place → Refused why place ≡ ofKind kind at line
+    pub field-wrong : (why : Refusal) (place : ℕ) → w ≡ Stopped why place → Refused why place ≡ ofKind rules kind at line
     unfolding afterWalk
     field-wrong why place e = walked (Refused why place) (rw e)
 
     module _ (fine : w ≡ Fine) (u : Bool) (eu : u ≡ lacks kind (split line)) where
-      pub lacks-one : u ≡ true → Refused FeatureLacks at ≡ ofKind kind at line
+      pub lacks-one : u ≡ true → Refused FeatureLacks at ≡ ofKind rules kind at line
       unfolding afterWalk
       lacks-one e = walked (Refused FeatureLacks at) (rw (fine, ← eu, e))
 
-      pub has-all : u ≡ false → Accepted (record { kind = kind; count = n; next = at + length line + 2 }) ≡ ofKind kind at line
+      pub has-all : u ≡ false → Accepted (record { kind = kind; count = n; next = at + length line + 2 }) ≡ ofKind rules kind at line
       unfolding afterWalk
       has-all e = walked (Accepted (record { kind = kind; count = n; next = at + length line + 2 }))
           (rw (fine, ← eu, e, ← count-fields n line en))
 
 -- the record type, then the order
-module _ (due : Due) (at : ℕ) (line name : List ℕ) (en : name ≡ nameOf line) (nd : Named) (ed : nd ≡ named name) where
-  typed : (a : LineAnswer) → a ≡ ofNamed nd due at line → a ≡ ofText due at line
+module _ (told : Told) (at : ℕ) (line name : List ℕ) (en : name ≡ nameOf line) (nd : Named) (ed : nd ≡ named name) where
+  typed : (a : LineAnswer) → a ≡ ofNamed nd told at line → a ≡ ofText told at line
   unfolding ofText
-  typed a e = e ∙ ap (λ (m : Named). ofNamed m due at line) (ed ∙ ap named en)
+  typed a e = e ∙ ap (λ (m : Named). ofNamed m told at line) (ed ∙ ap named en)
 
-  pub type-unknown : nd ≡ Unknown → Refused UnknownRecord at ≡ ofText due at line
+  pub type-unknown : nd ≡ Unknown → Refused UnknownRecord at ≡ ofText told at line
   unfolding ofNamed
   type-unknown e = typed (Refused UnknownRecord at) (rw e)
 
-  module _ (kind : Record) (known : nd ≡ Known kind) (t : Bool) (et : t ≡ mayCome due kind) where
-    pub out-of-order : not t ≡ true → Refused OutOfOrder at ≡ ofText due at line
+  module _ (kind : Record) (known : nd ≡ Known kind) (t : Bool) (et : t ≡ mayCome (told .due) kind) where
+    pub out-of-order : not t ≡ true → Refused OutOfOrder at ≡ ofText told at line
     unfolding ofNamed
     out-of-order e = typed (Refused OutOfOrder at) (rw (known, ← et, e))
 
-    pub in-order : not t ≡ false → (a : LineAnswer) → a ≡ ofKind kind at line → a ≡ ofText due at line
+    pub in-order : not t ≡ false → (a : LineAnswer) → a ≡ ofKind (told .rules) kind at line → a ≡ ofText told at line
     unfolding ofNamed
     in-order e a ea = typed a (rw (known, ← et, e) ea)
 
 -- the file's length, the offset, the line's end
-module _ (due : Due) (s : List ℕ) (at : ℕ) where
-  pub file-long : 65535 < length s → lineAnswer due s at ≡ Refused FileTooLong 65535
+module _ (told : Told) (s : List ℕ) (at : ℕ) where
+  pub file-long : 65535 < length s → lineAnswer told s at ≡ Refused FileTooLong 65535
   unfolding lineAnswer
   file-long h = simp (lt-ltb 65535 (length s))
 
   module _ (h : length s ≤ 65535) where
-    pub past-file : length s < at → lineAnswer due s at ≡ Refused NoLineEnd (length s)
+    pub past-file : length s < at → lineAnswer told s at ≡ Refused NoLineEnd (length s)
     unfolding lineAnswer
     past-file l = simp (le-ltb 65535 (length s), lt-ltb (length s) at)
 
     module _ (l : at ≤ length s) (end : ℕ) (ee : end ≡ lineEnd s at) (t : Bool) (et : t ≡ endsWell s end) where
-      pub no-end : not t ≡ true → Refused NoLineEnd end ≡ lineAnswer due s at
+      pub no-end : not t ≡ true → Refused NoLineEnd end ≡ lineAnswer told s at
       unfolding lineAnswer
       no-end e = simp (le-ltb 65535 (length s), le-ltb (length s) at, ← ee, ← et, e)
 
-      pub line-ends : not t ≡ false → (a : LineAnswer) → a ≡ ofText due at (take (end - at) (drop at s)) → a ≡ lineAnswer due s at
+      pub line-ends : not t ≡ false → (a : LineAnswer) → a ≡ ofText told at (take (end - at) (drop at s)) → a ≡ lineAnswer told s at
       unfolding lineAnswer
       line-ends e a ea = simp (le-ltb 65535 (length s), le-ltb (length s) at, ← ee, ← et, e) ea

@@ -7,9 +7,9 @@ use lib.ListN.{length}
 use Rattle.text.specs.Choice.{if_then_else_}
 use Rattle.refusal.specs.Table.{numberOf, Verdict}
 use Rattle.refusal.specs.declared.Refusal.the-variants.{NotThere}
-use Rattle.fields.specs.declared.record.Due.the-variants.{Any}
+use Rattle.fields.specs.Profile.{Rules}
 use Rattle.line.specs.Parts.{startOf, partAt}
-use Rattle.line.specs.Line.{textAt, lineAnswer}
+use Rattle.line.specs.Line.{textAt, alone, lineAnswer}
 use Rattle.line.specs.declared.read.LineAnswer.{LineAnswer}
 use Rattle.line.specs.declared.read.LineAnswer.the-variants.{Accepted, Refused}
 use Rattle.line.specs.declared.find.FieldAnswer.{FieldAnswer}
@@ -26,8 +26,8 @@ inLine (Accepted line) s at n =
     if eqb n 0 || ltb (line .count) n then NotFound NotThere 0
     else Found (at + startOf (textAt s at) n) (length (partAt (textAt s at) n))
 
-unfoldable pub fieldAnswer : List ℕ → ℕ → ℕ → FieldAnswer
-fieldAnswer s at n = inLine (lineAnswer Any s at) s at n
+unfoldable pub fieldAnswer : Rules → List ℕ → ℕ → ℕ → FieldAnswer
+fieldAnswer rules s at n = inLine (lineAnswer (alone rules) s at) s at n
 
 -- the paper's number and place for each answer
 abbrev pub fieldVerdict : FieldAnswer → Verdict

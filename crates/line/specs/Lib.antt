@@ -1,5 +1,6 @@
 pub mod Parts
 pub mod Walk
 pub mod Need
+pub mod Told
 pub mod Line
 pub mod Find

@@ -10,16 +10,18 @@ use Rattle.text.specs.Quoted.{bytes}
 use Rattle.text.specs.Scan.{firstFailing, same}
 use Rattle.refusal.specs.Table.{numberOf, Verdict}
 use Rattle.refusal.specs.declared.Refusal.the-variants.{FileTooLong, NoLineEnd, UnknownRecord, OutOfOrder, FieldCount, FeatureLacks}
+use Rattle.fields.specs.Profile.{Rules}
 use Rattle.fields.specs.Record.{named, countFits, mayCome}
 use Rattle.fields.specs.declared.record.Record.{Record}
 use Rattle.fields.specs.declared.record.Named.{Named}
 use Rattle.fields.specs.declared.record.Named.the-variants.{Known, Unknown}
-use Rattle.fields.specs.declared.record.Due.{Due}
+use Rattle.fields.specs.declared.record.Due.the-variants.{Any}
 use Rattle.line.specs.Parts.{split, nameOf, fieldsOf}
 use Rattle.line.specs.Walk.{walk}
 use Rattle.line.specs.Need.{lacks}
 use Rattle.line.specs.declared.walk.Walk.{Walk}
 use Rattle.line.specs.declared.walk.Walk.the-variants.{Fine, Stopped}
+use Rattle.line.specs.Told.{Told}
 use Rattle.line.specs.declared.read.LineAnswer.{LineAnswer}
 use Rattle.line.specs.declared.read.LineAnswer.the-variants.{Accepted, Refused}
 
@@ -43,26 +45,30 @@ afterWalk Fine kind at line =
     else Accepted (record { kind = kind; count = length (fieldsOf line); next = at + length line + 2 })
 
 -- the text of a line of this record that starts at this place: 5, then the fields
-unfoldable pub ofKind : Record → ℕ → List ℕ → LineAnswer
-ofKind kind at line =
+unfoldable pub ofKind : Rules → Record → ℕ → List ℕ → LineAnswer
+ofKind rules kind at line =
     if not (countFits kind (length (fieldsOf line))) then Refused FieldCount at
-    else afterWalk (walk kind 1 (at + length (nameOf line) + 1) (nameOf line) (fieldsOf line)) kind at line
+    else afterWalk (walk (rules kind) 1 (at + length (nameOf line) + 1) (nameOf line) (fieldsOf line)) kind at line
 
 -- 3, then 4
-unfoldable pub ofNamed : Named → Due → ℕ → List ℕ → LineAnswer
-ofNamed Unknown due at line = Refused UnknownRecord at
-ofNamed (Known kind) due at line = if not (mayCome due kind) then Refused OutOfOrder at else ofKind kind at line
+unfoldable pub ofNamed : Named → Told → ℕ → List ℕ → LineAnswer
+ofNamed Unknown told at line = Refused UnknownRecord at
+ofNamed (Known kind) told at line = if not (mayCome (told .due) kind) then Refused OutOfOrder at else ofKind (told .rules) kind at line
 
-unfoldable pub ofText : Due → ℕ → List ℕ → LineAnswer
-ofText due at line = ofNamed (named (nameOf line)) due at line
+unfoldable pub ofText : Told → ℕ → List ℕ → LineAnswer
+ofText told at line = ofNamed (named (nameOf line)) told at line
+
+-- a line judged alone
+abbrev pub alone : Rules → Told
+alone rules = record { rules = rules; due = Any }
 
 -- 1, then 2
-unfoldable pub lineAnswer : Due → List ℕ → ℕ → LineAnswer
-lineAnswer due s at =
+unfoldable pub lineAnswer : Told → List ℕ → ℕ → LineAnswer
+lineAnswer told s at =
     if ltb 65535 (length s) then Refused FileTooLong 65535
     else if ltb (length s) at then Refused NoLineEnd (length s)
     else if not (endsWell s (lineEnd s at)) then Refused NoLineEnd (lineEnd s at)
-    else ofText due at (textAt s at)
+    else ofText told at (textAt s at)
 
 -- the paper's number and place for each answer
 abbrev pub lineVerdict : LineAnswer → Verdict

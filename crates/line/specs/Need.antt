@@ -8,8 +8,9 @@ use lib.ListN.{length, getD}
 use Rattle.forms.specs.Feature.{codeOf, needOf}
 use Rattle.forms.specs.declared.feature.Need.{Need}
 use Rattle.forms.specs.declared.feature.Need.the-variants.{CashAccount, Cash, Contact, Nothing}
+use Rattle.fields.specs.Record.{_isA_}
 use Rattle.fields.specs.declared.record.Record.{Record}
-use Rattle.fields.specs.declared.record.Record.the-variants.{Header, Sender, Shipment, Parcel, Product, Feature}
+use Rattle.fields.specs.declared.record.Record.the-variants.{Feature}
 
 -- "A field of spaces is filled; only zero bytes is empty." Part 0 is the record type, and the part with a field's number that field.
 unfoldable pub isFilled : List (List ℕ) → ℕ → Bool
@@ -26,9 +27,4 @@ isServed parts = serves (needOf (codeOf (getD parts 1 []))) parts
 
 -- "feature lacks a needed field"
 unfoldable pub lacks : Record → List (List ℕ) → Bool
-lacks Header parts = false
-lacks Sender parts = false
-lacks Shipment parts = false
-lacks Parcel parts = false
-lacks Product parts = false
-lacks Feature parts = not (isServed parts)
+lacks kind parts = kind isA Feature && not (isServed parts)

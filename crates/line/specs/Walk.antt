@@ -2,8 +2,8 @@
 use Prim.Native.Nat.{ℕ, suc, _+_}
 use mathlib.Core.List.{List, [], _∷_}
 use lib.ListN.{length}
+use Rattle.fields.specs.Profile.{Row}
 use Rattle.fields.specs.Field.{tested}
-use Rattle.fields.specs.declared.record.Record.{Record}
 use Rattle.fields.specs.declared.field.Tested.{Tested}
 use Rattle.fields.specs.declared.field.Tested.the-variants.{Good, Bad}
 use Rattle.line.specs.declared.walk.Walk.{Walk}
@@ -15,6 +15,6 @@ onTest Good place rest = rest
 onTest (Bad why) place rest = Stopped why place
 
 -- these fields, the first with this number and at this place; beside it stands the part in front of it
-abbrev pub walk : Record → ℕ → ℕ → List ℕ → List (List ℕ) → Walk
-walk kind n place beside [] = Fine
-walk kind n place beside (f ∷ fs) = onTest (tested kind n beside f) place (walk kind (suc n) (place + length f + 1) f fs)
+abbrev pub walk : List Row → ℕ → ℕ → List ℕ → List (List ℕ) → Walk
+walk rows n place beside [] = Fine
+walk rows n place beside (f ∷ fs) = onTest (tested rows n beside f) place (walk rows (suc n) (place + length f + 1) f fs)

@@ -2,6 +2,7 @@
 ghost use mathlib.Core.Path.{_≡_};
 ghost use Prim.Native.Nat.{_+_, _<_};
 ghost use lib.ListN.{length};
+ghost use Rattle.fields.specs.Profile.{profile};
 ghost use Rattle.line.specs.Parts.{startOf, partAt};
 ghost use Rattle.line.specs.Find.{handedOn, fieldAnswer};
 use crate::part;
@@ -16,7 +17,7 @@ pub enum FieldAnswer {
 
 // Finds the field with this number of the line that starts here.
 pub fn find_field(s: &[u8], at: usize, number: usize) -> FieldAnswer
-    ensures { λ r. ⌜ r ≡ fieldAnswer (now (s .entry)) at number ⌝ }
+    ensures { λ r. ⌜ r ≡ fieldAnswer (profile) (now (s .entry)) at number ⌝ }
 {
     let answer = read::read_line(s, at);
     let LineAnswer::Accepted(line) = answer else {

@@ -2,8 +2,9 @@
 ghost use mathlib.Core.Path.{_≡_};
 ghost use Prim.Native.Nat.{_+_, _<_};
 ghost use lib.ListN.{length};
+ghost use Rattle.fields.specs.Profile.{profile};
 ghost use Rattle.line.specs.Parts.{nameOf};
-ghost use Rattle.line.specs.Line.{ofText, ofKind, lineAnswer};
+ghost use Rattle.line.specs.Line.{ofText, ofKind, alone, lineAnswer};
 use crate::need;
 use crate::part::field_in;
 use crate::scan;
@@ -28,14 +29,14 @@ pub enum LineAnswer {
 
 // Judges the line that starts here, alone.
 pub fn read_line(s: &[u8], at: usize) -> LineAnswer
-    ensures { λ r. ⌜ r ≡ lineAnswer Due.Any (now (s .entry)) at ⌝ }
+    ensures { λ r. ⌜ r ≡ lineAnswer (alone (profile)) (now (s .entry)) at ⌝ }
 {
     judge_line(Due::Any, s, at)
 }
 
 // Judges the line that starts here, where this record is due.
 pub fn judge_line(due: Due, s: &[u8], at: usize) -> LineAnswer
-    ensures { λ r. ⌜ r ≡ lineAnswer due (now (s .entry)) at ⌝ }
+    ensures { λ r. ⌜ r ≡ lineAnswer (record { rules = profile; due = due }) (now (s .entry)) at ⌝ }
 {
     let n = s.len();
     if 65535 < n {
@@ -63,7 +64,7 @@ pub fn judge_line(due: Due, s: &[u8], at: usize) -> LineAnswer
 // The text of a line that starts at this place and ends well.
 fn of_text(due: Due, at: usize, line: &[u8]) -> LineAnswer
     requires { ⌜ at + length (now line) < 65536 ⌝ }
-    ensures { λ r. ⌜ r ≡ ofText due at (now (line .entry)) ⌝ }
+    ensures { λ r. ⌜ r ≡ ofText (record { rules = profile; due = due }) at (now (line .entry)) ⌝ }
 {
     let name = field_in(line, 0);
     let named = fields::record_named(name);
@@ -85,7 +86,7 @@ fn of_text(due: Due, at: usize, line: &[u8]) -> LineAnswer
 // The text of a line of a record that may come, whose type is so long.
 fn of_kind(kind: Record, at: usize, line: &[u8], name: usize) -> LineAnswer
     requires { ⌜ (name ≡ length (nameOf (now line))) × (at + length (now line) < 65536) ⌝ }
-    ensures { λ r. ⌜ r ≡ ofKind kind at (now (line .entry)) ⌝ }
+    ensures { λ r. ⌜ r ≡ ofKind (profile) kind at (now (line .entry)) ⌝ }
 {
     let count = scan::field_count(line);
     if !fields::count_fits(kind, count) {

@@ -2,6 +2,7 @@
 ghost use mathlib.Core.Path.{_≡_};
 ghost use Prim.Native.Nat.{_+_, _<_};
 ghost use lib.ListN.{length};
+ghost use Rattle.fields.specs.Profile.{profile};
 ghost use Rattle.line.specs.Parts.{nameOf, fieldsOf};
 ghost use Rattle.line.specs.Walk.{walk};
 use crate::scan::field_end;
@@ -18,7 +19,7 @@ pub enum Walk {
 // of it.
 pub fn walk_fields(kind: Record, line: &[u8], at: usize, name: usize) -> Walk
     requires { ⌜ (name ≡ length (nameOf (now line))) × (at + length (now line) < 65536) ⌝ }
-    ensures { λ r. ⌜ r ≡ walk kind 1 (at + length (nameOf (now (line .entry))) + 1) (nameOf (now (line .entry))) (fieldsOf (now (line .entry))) ⌝ }
+    ensures { λ r. ⌜ r ≡ walk (profile kind) 1 (at + length (nameOf (now (line .entry))) + 1) (nameOf (now (line .entry))) (fieldsOf (now (line .entry))) ⌝ }
 {
     let mut number: usize = 1;
     let mut beside: usize = 0;

@@ -6,8 +6,8 @@ use lib.ListN.{length}
 use Rattle.refusal.specs.Table.{Verdict}
 use Rattle.check_characters.specs.Number.{issueAnswer, issuedTo, checkVerdict, issueVerdict, checked as checkedNumber}
 use Rattle.check_characters.specs.Iban.{ibanVerdict, checked as checkedIban}
-use Rattle.fields.specs.declared.record.Due.the-variants.{Any}
-use Rattle.line.specs.Line.{lineAnswer, lineVerdict}
+use Rattle.fields.specs.Profile.{profile}
+use Rattle.line.specs.Line.{lineAnswer, lineVerdict, alone}
 use Rattle.line.specs.Find.{fieldAnswer, fieldVerdict}
 use Rattle.file.specs.File.{judged, listOf, fileVerdict}
 use Rattle.writer.specs.Write.{recordNumbered, between, writeAnswer, writtenTo, writeVerdict}
@@ -30,14 +30,14 @@ JudgeTells file words number lines parcels cents place list =
 -- reading the line at an offset
 abbrev pub LineTells : List ℕ → ℕ → ℕ → ℕ → ℕ → ℕ → ℕ → Type 0
 LineTells file offset number kind fields next place =
-    let answer = lineAnswer Any file offset in
+    let answer = lineAnswer (alone profile) file offset in
     Tells (lineVerdict answer) number place
     × (kind ≡ recordIn answer) × (fields ≡ countIn answer) × (next ≡ nextIn answer)
 
 -- finding a field of it
 abbrev pub FieldTells : List ℕ → ℕ → ℕ → ℕ → ℕ → ℕ → ℕ → Type 0
 FieldTells file offset field number start long place =
-    let answer = fieldAnswer file offset field in
+    let answer = fieldAnswer profile file offset field in
     Tells (fieldVerdict answer) number place × (start ≡ startIn answer) × (long ≡ lengthIn answer)
 
 -- writing a line into an output from its fill on

@@ -13,9 +13,9 @@ use Rattle.text.proofs.Choices.{true-or-false}
 use Rattle.text.proofs.Scans.{same-eq, same-refl}
 use Rattle.fields.specs.Record.{typeOf, mayCome}
 use Rattle.fields.specs.declared.record.Record.{Record}
-use Rattle.fields.specs.declared.record.Due.the-variants.{Any}
+use Rattle.fields.specs.Profile.{profile}
 use Rattle.line.specs.Parts.{split}
-use Rattle.line.specs.Line.{textAt}
+use Rattle.line.specs.Line.{textAt, alone}
 use Rattle.line.specs.declared.read.Line.{Line}
 use Rattle.grammar.specs.Grammar.{LineOk, Reads}
 use Rattle.grammar.proofs.Texts.{type-tells}
@@ -35,7 +35,7 @@ line-counted (k ∷ ls) zero l h = omega arith
 line-counted (k ∷ ls) (suc i) l h = omega (arith, line-counted ls i l h)
 
 module _ (s : List ℕ) (small : length s ≤ 65535) where
-  first-parts : (at : ℕ) (l : FileLine) (rest : List ℕ) → LineOk (l .kind) (l .fields) → drop at s ≡ lineBytes l ++ rest →
+  first-parts : (at : ℕ) (l : FileLine) (rest : List ℕ) → LineOk profile (l .kind) (l .fields) → drop at s ≡ lineBytes l ++ rest →
       split (textAt s at) ≡ typeOf (l .kind) ∷ l .fields
   unfolding mayCome
   first-parts at l rest ok e = read-parts reads
@@ -43,7 +43,7 @@ module _ (s : List ℕ) (small : length s ≤ 65535) where
       line : Line
       line = record { kind = l .kind; count = length (l .fields); next = at + length (lineBytes l) }
 
-      reads : Reads Any s at line (l .fields)
+      reads : Reads (alone profile) s at line (l .fields)
       reads = record { small = small; comes = refl; allowed = ok; rest = rest; stands = e; count = refl; next = refl }
 
   -- lines that stand from here on

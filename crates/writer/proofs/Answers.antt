@@ -12,6 +12,7 @@ use Rattle.text.specs.Placed.{written, placed}
 use Rattle.text.proofs.Placing.{placed-there}
 use Rattle.refusal.specs.declared.Refusal.{Refusal}
 use Rattle.refusal.specs.declared.Refusal.the-variants.{UnknownRecord, FieldCount, FeatureLacks, OutputTooShort, FieldEnds}
+use Rattle.fields.specs.Profile.{profile}
 use Rattle.fields.specs.Record.{typeOf, countFits}
 use Rattle.fields.specs.declared.record.Record.{Record}
 use Rattle.fields.specs.declared.record.Named.{Named}
@@ -23,7 +24,7 @@ use Rattle.line.specs.declared.walk.Walk.the-variants.{Fine, Stopped}
 use Rattle.grammar.specs.Grammar.{textOf, render}
 use Rattle.grammar.proofs.Texts.{fields-split}
 use Rattle.grammar.proofs.Lines.{render-long}
-use Rattle.grammar.proofs.Sizes.{count-le, fields-le}
+use Rattle.grammar.proofs.Sizes.{count-le, sound, fields-le}
 use Rattle.writer.specs.Write.{recordNumbered, endsHold, between, walked, ofFields, ofRecord, writeAnswer, lineTo, writtenTo}
 use Rattle.writer.specs.declared.write.WriteAnswer.{WriteAnswer}
 use Rattle.writer.specs.declared.write.WriteAnswer.the-variants.{Written, NotWritten}
@@ -58,11 +59,11 @@ module _ (kind : Record) (text ends room line : List ℕ) (long : ℕ) (fits : l
       ∙ take-at (textOf kind (between text ends)) (bytes "\r\n" ++ rest) (long - 2)
       (omega (arith, render-long kind (between text ends), en))
 
-  module _ (fine : walked kind 1 (typeOf kind) (between text ends) ≡ Fine) (t : Bool) (et : t ≡ lacks kind (split (take (long - 2) line)))
+  module _ (fine : walked (profile kind) 1 (typeOf kind) (between text ends) ≡ Fine) (t : Bool) (et : t ≡ lacks kind (split (take (long - 2) line)))
       (size fill : ℕ) where
     asked : t ≡ lacks kind (typeOf kind ∷ between text ends)
     asked = et ∙ ap (λ (l : List ℕ). lacks kind (split l)) text-taken
-        ∙ ap (lacks kind) (fields-split kind (between text ends) (walked-fields kind 1 (typeOf kind) (between text ends) fine))
+        ∙ ap (lacks kind) (fields-split profile kind (between text ends) (walked-fields (profile kind) 1 (typeOf kind) (between text ends) fine))
 
     pub fields-lack : t ≡ true → NotWritten FeatureLacks 0 ≡ ofFields kind (between text ends) size fill
     unfolding ofFields
@@ -106,7 +107,7 @@ module _ (number : ℕ) (text ends : List ℕ) (size fill : ℕ) (nd : Named) (e
       unfolding ofRecord
       count-wrong e = recorded (NotWritten FieldCount 0) (rw (known, ← et, hold, ← eu, e))
 
-      module _ (right : not u ≡ false) (w : Walk) (ew : w ≡ walked kind 1 (typeOf kind) (between text ends)) where
+      module _ (right : not u ≡ false) (w : Walk) (ew : w ≡ walked (profile kind) 1 (typeOf kind) (between text ends)) where
         pub field-wrong : (why : Refusal) (place : ℕ) → w ≡ Stopped why place →
             NotWritten why place ≡ writeAnswer number text ends size fill
         unfolding ofRecord
@@ -121,15 +122,15 @@ module _ (number : ℕ) (text ends : List ℕ) (size fill : ℕ) (nd : Named) (e
 pub ends-held : (ends : List ℕ) (long : ℕ) (t : Bool) → t ≡ endsHold ends long → not t ≡ false → endsHold ends long ≡ true
 ends-held ends long t et hold = sym et ∙ not-false t hold
 
-module _ (kind : Record) (text ends : List ℕ) (w : Walk) (ew : w ≡ walked kind 1 (typeOf kind) (between text ends)) (fine : w ≡ Fine) where
-  pub walk-fine : walked kind 1 (typeOf kind) (between text ends) ≡ Fine
+module _ (kind : Record) (text ends : List ℕ) (w : Walk) (ew : w ≡ walked (profile kind) 1 (typeOf kind) (between text ends)) (fine : w ≡ Fine) where
+  pub walk-fine : walked (profile kind) 1 (typeOf kind) (between text ends) ≡ Fine
   walk-fine = sym ew ∙ fine
 
   pub line-small : (t u : Bool) → t ≡ endsHold ends (length text) → not t ≡ false → u ≡ countFits kind (length ends) → not u ≡ false →
       length text + length ends + 5 ≤ 4096
   line-small t u et hold eu right =
       let c = count-le kind (length ends) (sym eu ∙ not-false u right) in
-      let f = fields-le kind 1 (typeOf kind) (between text ends) (walked-fields kind 1 (typeOf kind) (between text ends) walk-fine) in
+      let f = fields-le (profile kind) 1 (typeOf kind) (between text ends) (sound .narrows kind) (walked-fields (profile kind) 1 (typeOf kind) (between text ends) walk-fine) in
       omega (arith, c, f, between-count text ends, together-long kind text ends (ends-held ends (length text) t et hold))
 
 -- the output

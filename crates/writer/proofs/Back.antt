@@ -15,17 +15,18 @@ use Rattle.text.specs.Placed.{written}
 use Rattle.text.proofs.Choices.{and-both, came-then, came-else}
 use Rattle.refusal.specs.declared.Refusal.{Refusal}
 use Rattle.refusal.specs.declared.Refusal.the-variants.{FieldCount, FeatureLacks, OutputTooShort, FieldEnds}
+use Rattle.fields.specs.Profile.{profile}
 use Rattle.fields.specs.Record.{typeOf, countFits}
 use Rattle.fields.specs.declared.record.Record.{Record}
 use Rattle.fields.specs.declared.record.Named.{Named}
 use Rattle.fields.specs.declared.record.Named.the-variants.{Known, Unknown}
-use Rattle.fields.specs.declared.record.Due.{Due}
 use Rattle.line.specs.Need.{lacks}
+use Rattle.fields.specs.declared.record.Due.{Due}
 use Rattle.line.specs.declared.read.Line.{Line}
 use Rattle.line.specs.declared.walk.Walk.{Walk}
 use Rattle.line.specs.declared.walk.Walk.the-variants.{Fine, Stopped}
 use Rattle.grammar.specs.Grammar.{render, fieldNo, LineOk, Reads}
-use Rattle.grammar.proofs.Sizes.{render-reads, render-accepted}
+use Rattle.grammar.proofs.Sizes.{render-reads, render-accepted, sound}
 use Rattle.grammar.proofs.Finding.{found, field-exactly}
 use Rattle.writer.specs.Write.{recordNumbered, risesTo, endsHold, fieldsFrom, between, walked, ofFields, afterWalk}
 use Rattle.writer.specs.Write.{ofRecord, writeAnswer, writtenTo, Writes, inOne, endsFrom, Writable, ReadsBack}
@@ -53,7 +54,7 @@ module _ (number : ℕ) (text ends : List ℕ) (size fill n : ℕ) where
   wrote (Known kind) k e =
       let held = endsHold ends (length text) in
       let fits = countFits kind (length ends) in
-      let w = walked kind 1 (typeOf kind) (between text ends) in
+      let w = walked (profile kind) 1 (typeOf kind) (between text ends) in
       let after = afterWalk w kind (between text ends) size fill in
       let a = came-else (not held) (NotWritten FieldEnds 0) (if not fits then NotWritten FieldCount 0 else after)
       (Written n) not-written e in
@@ -61,7 +62,7 @@ module _ (number : ℕ) (text ends : List ℕ) (size fill n : ℕ) where
       go w refl (not-false held (a .0)) (not-false fits (b .0)) (b .1)
     where
       go :
-          (w : Walk) → walked kind 1 (typeOf kind) (between text ends) ≡ w → endsHold ends (length text) ≡ true →
+          (w : Walk) → walked (profile kind) 1 (typeOf kind) (between text ends) ≡ w → endsHold ends (length text) ≡ true →
           countFits kind (length ends) ≡ true →
           afterWalk w kind (between text ends) size fill ≡ Written n → Writable number text ends size fill n
       go (Stopped why place) ew eh ec e = absurd (not-written e)
@@ -78,7 +79,7 @@ module _ (number : ℕ) (text ends : List ℕ) (size fill n : ℕ) where
             allowed = record {
               counted = ap (countFits kind) (between-count text ends) ∙ ec;
               fields =
-                  walked-fields kind 1 (typeOf kind) (between text ends) ew;
+                  walked-fields (profile kind) 1 (typeOf kind) (between text ends) ew;
               served = a .0;
             };
             fits = leb-true (fill + length line) size (b .0);
@@ -93,7 +94,7 @@ module _ (number : ℕ) (text ends : List ℕ) (size fill n : ℕ) where
         g .held,
         ← between-count text ends,
         g .allowed .counted,
-        fields-walked (g .kind) 1 (typeOf (g .kind)) (between text ends) (g .allowed .fields),
+        fields-walked (profile (g .kind)) 1 (typeOf (g .kind)) (between text ends) (g .allowed .fields),
         g .allowed .served,
         le-leb (fill + length (render (g .kind) (between text ends))) size (g .fits),
         g .long,
@@ -114,14 +115,14 @@ there out line fill n h e =
     in
     rw cut (take-at line (drop (fill + length line) out) n (sym e))
 
-rendered-back : (kind : Record) (fs : List (List ℕ)) → LineOk kind fs → ReadsBack kind fs (render kind fs)
+rendered-back : (kind : Record) (fs : List (List ℕ)) → LineOk profile kind fs → ReadsBack kind fs (render kind fs)
 rendered-back kind fs g =
     record {
       allowed = g;
       rendered = refl;
-      read = render-accepted kind fs g;
+      read = render-accepted sound kind fs g;
       found = λ n h l.
-          let r = render-reads kind fs g in
+          let r = render-reads sound kind fs g in
           let f = found r n h l in
           (_, (f, field-exactly r n _ (length (fieldNo fs n)) .0 f .there));
     }
@@ -170,7 +171,7 @@ handed-ends fs = ends-rise (length (inOne fs)) 0 fs (omega arith)
 
 -- a line that stands in a file, its fields handed to the writer, is written with its own bytes
 pub writes-again :
-    {due : Due} {s : List ℕ} {at : ℕ} {line : Line} {fs : List (List ℕ)} → Reads due s at line fs →
+    {due : Due} {s : List ℕ} {at : ℕ} {line : Line} {fs : List (List ℕ)} → Reads (record { rules = profile; due = due }) s at line fs →
     (number : ℕ) (out : List ℕ) (fill : ℕ) → recordNumbered number ≡ Known (line .kind) → fill + (line .next - at) ≤ length out →
     (answer : WriteAnswer) (after : List ℕ) → Writes number (inOne fs) (endsFrom 0 fs) out fill answer after →
     (answer ≡ Written (line .next - at)) × (after ≡ written out fill (take (line .next - at) (drop at s)))

@@ -12,8 +12,8 @@ use Rattle.text.proofs.Choices.{came-then}
 use Rattle.refusal.specs.declared.Refusal.{Refusal}
 use Rattle.refusal.specs.declared.Refusal.the-variants.{FieldForm}
 use Rattle.fields.specs.Record.{typeOf}
-use Rattle.fields.specs.Form.{formsOf, hasForm}
-use Rattle.fields.specs.Field.{isCashReference, widthOf, tested}
+use Rattle.fields.specs.Profile.{profile, hasForm, Row, widthOf, widthInTable, isRequired}
+use Rattle.fields.specs.Field.{tested}
 use Rattle.fields.specs.declared.record.Record.{Record}
 use Rattle.fields.specs.declared.record.Record.the-variants.{Header, Sender, Shipment, Parcel, Product, Feature}
 use Rattle.fields.specs.declared.field.Tested.{Tested}
@@ -25,23 +25,23 @@ use Rattle.grammar.specs.Grammar.{plain, FieldsOk}
 use Rattle.grammar.proofs.Fields.{good-field, field-good, on-fine}
 use Rattle.writer.specs.Write.{fieldsFrom, between, ifPlain, testedToWrite, walked}
 
-module _ (kind : Record) (n : ℕ) (beside f : List ℕ) (t : Tested) (et : t ≡ tested kind n beside f) where
-  pub test-bad : (why : Refusal) → t ≡ Bad why → Bad why ≡ testedToWrite kind n beside f
+module _ (rows : List Row) (n : ℕ) (beside f : List ℕ) (t : Tested) (et : t ≡ tested rows n beside f) where
+  pub test-bad : (why : Refusal) → t ≡ Bad why → Bad why ≡ testedToWrite rows n beside f
   unfolding testedToWrite
   test-bad why e = rw (← et, e)
 
   module _ (good : t ≡ Good) (p : Bool) (ep : p ≡ all plain f) where
-    pub test-good : p ≡ true → Good ≡ testedToWrite kind n beside f
+    pub test-good : p ≡ true → Good ≡ testedToWrite rows n beside f
     unfolding testedToWrite
     test-good e = rw (← et, good, ← ep, e)
 
-    pub test-other : p ≡ false → Bad FieldForm ≡ testedToWrite kind n beside f
+    pub test-other : p ≡ false → Bad FieldForm ≡ testedToWrite rows n beside f
     unfolding testedToWrite
     test-other e = rw (← et, good, ← ep, e)
 
 -- no rule of a first field looks beside it
-first-alike : (kind : Record) (b c f : List ℕ) → testedToWrite kind 1 b f ≡ testedToWrite kind 1 c f
-unfolding testedToWrite tested widthOf isCashReference hasForm formsOf
+first-alike : (kind : Record) (b c f : List ℕ) → testedToWrite (profile kind) 1 b f ≡ testedToWrite (profile kind) 1 c f
+unfolding testedToWrite tested widthOf widthInTable isRequired hasForm profile
 first-alike Header b c f = refl
 first-alike Sender b c f = refl
 first-alike Shipment b c f = refl
@@ -49,38 +49,38 @@ first-alike Parcel b c f = refl
 first-alike Product b c f = refl
 first-alike Feature b c f = refl
 
-besides-alike : (kind : Record) (b c : List ℕ) (fs : List (List ℕ)) → walked kind 1 b fs ≡ walked kind 1 c fs
+besides-alike : (kind : Record) (b c : List ℕ) (fs : List (List ℕ)) → walked (profile kind) 1 b fs ≡ walked (profile kind) 1 c fs
 besides-alike kind b c [] = refl
-besides-alike kind b c (f ∷ fs) = ap (λ (t : Tested). onTest t 1 (walked kind 2 f fs)) (first-alike kind b c f)
+besides-alike kind b c (f ∷ fs) = ap (λ (t : Tested). onTest t 1 (walked (profile kind) 2 f fs)) (first-alike kind b c f)
 
-pub walk-starts : (kind : Record) (text ends : List ℕ) → walked kind (0 + 1) (take (0 - 0) (drop 0 text))
-    (fieldsFrom 0 text (drop 0 ends)) ≡ walked kind 1 (typeOf kind) (between text ends)
+pub walk-starts : (kind : Record) (text ends : List ℕ) → walked (profile kind) (0 + 1) (take (0 - 0) (drop 0 text))
+    (fieldsFrom 0 text (drop 0 ends)) ≡ walked (profile kind) 1 (typeOf kind) (between text ends)
 unfolding between
 walk-starts kind text ends = besides-alike kind (take (0 - 0) (drop 0 text)) (typeOf kind) (between text ends)
 
 -- a loop at the field behind i others: each premise is a fact that the loop has
-module _ (kind : Record) (text ends : List ℕ) (i start : ℕ) (beside : List ℕ) (whole : Walk)
-    (left : walked kind (i + 1) beside (fieldsFrom start text (drop i ends)) ≡ whole) where
+module _ (rows : List Row) (text ends : List ℕ) (i start : ℕ) (beside : List ℕ) (whole : Walk)
+    (left : walked rows (i + 1) beside (fieldsFrom start text (drop i ends)) ≡ whole) where
   pub walk-done : length ends ≤ i → Fine ≡ whole
   walk-done h = sym (rw (drop-of-length-le ends)) ∙ left
 
-  module _ (h : i < length ends) (t : Tested) (et : t ≡ testedToWrite kind (i + 1) beside
+  module _ (h : i < length ends) (t : Tested) (et : t ≡ testedToWrite rows (i + 1) beside
       (take (getD ends i 0 - start) (drop start text))) where
-    turn : onTest t (i + 1) (walked kind (suc (i + 1)) (take (getD ends i 0 - start) (drop start text))
+    turn : onTest t (i + 1) (walked rows (suc (i + 1)) (take (getD ends i 0 - start) (drop start text))
         (fieldsFrom (getD ends i 0) text (drop (suc i) ends))) ≡ whole
-    turn = rw et (sym (ap (λ (l : List ℕ). walked kind (i + 1) beside (fieldsFrom start text l)) (drop-cons ends i 0 h)) ∙ left)
+    turn = rw et (sym (ap (λ (l : List ℕ). walked rows (i + 1) beside (fieldsFrom start text l)) (drop-cons ends i 0 h)) ∙ left)
 
     pub walk-stops : (why : Refusal) → t ≡ Bad why → Stopped why (i + 1) ≡ whole
     walk-stops why e = rw e at turn
 
-    pub walk-on : t ≡ Good → walked kind (i + 1 + 1) (take (getD ends i 0 - start) (drop start text))
+    pub walk-on : t ≡ Good → walked rows (i + 1 + 1) (take (getD ends i 0 - start) (drop start text))
         (fieldsFrom (getD ends i 0) text (drop (i + 1) ends)) ≡ whole
     walk-on e =
-        let on : walked kind (suc (i + 1)) (take (getD ends i 0 - start) (drop start text))
+        let on : walked rows (suc (i + 1)) (take (getD ends i 0 - start) (drop start text))
         (fieldsFrom (getD ends i 0) text (drop (suc i) ends)) ≡ whole = rw e at turn in
-        ap (λ (n : ℕ). walked kind n (take (getD ends i 0 - start) (drop start text))
+        ap (λ (n : ℕ). walked rows n (take (getD ends i 0 - start) (drop start text))
         (fieldsFrom (getD ends i 0) text (drop (i + 1) ends))) (add-one (i + 1))
-        ∙ ap (λ (n : ℕ). walked kind (suc (i + 1)) (take (getD ends i 0 - start) (drop start text))
+        ∙ ap (λ (n : ℕ). walked rows (suc (i + 1)) (take (getD ends i 0 - start) (drop start text))
         (fieldsFrom (getD ends i 0) text (drop n ends))) (add-one i)
         ∙ on
 
@@ -92,17 +92,17 @@ plain-good : (t : Tested) (f : List ℕ) → ifPlain t f ≡ Good → (t ≡ Goo
 plain-good (Bad why) f e = absurd (bad e)
 plain-good Good f e = (refl, came-then (all plain f) Good (Bad FieldForm) Good bad e .0)
 
-pub walked-fields : (kind : Record) (n : ℕ) (beside : List ℕ) (fs : List (List ℕ)) → walked kind n beside fs ≡ Fine →
-    FieldsOk kind n beside fs
+pub walked-fields : (rows : List Row) (n : ℕ) (beside : List ℕ) (fs : List (List ℕ)) → walked rows n beside fs ≡ Fine →
+    FieldsOk rows n beside fs
 unfolding testedToWrite
-walked-fields kind n beside [] e = tt
-walked-fields kind n beside (f ∷ fs) e =
-    let a = on-fine (testedToWrite kind n beside f) n (walked kind (suc n) f fs) e in
-    let b = plain-good (tested kind n beside f) f (a .0) in
-    (good-field kind n beside f (b .1) (b .0), walked-fields kind (suc n) f fs (a .1))
+walked-fields rows n beside [] e = tt
+walked-fields rows n beside (f ∷ fs) e =
+    let a = on-fine (testedToWrite rows n beside f) n (walked rows (suc n) f fs) e in
+    let b = plain-good (tested rows n beside f) f (a .0) in
+    (good-field rows n beside f (b .1) (b .0), walked-fields rows (suc n) f fs (a .1))
 
-pub fields-walked : (kind : Record) (n : ℕ) (beside : List ℕ) (fs : List (List ℕ)) → FieldsOk kind n beside fs →
-    walked kind n beside fs ≡ Fine
+pub fields-walked : (rows : List Row) (n : ℕ) (beside : List ℕ) (fs : List (List ℕ)) → FieldsOk rows n beside fs →
+    walked rows n beside fs ≡ Fine
 unfolding testedToWrite
-fields-walked kind n beside [] g = refl
-fields-walked kind n beside (f ∷ fs) g = rw (field-good kind n beside f (g .0), g .0 .clean) (fields-walked kind (suc n) f fs (g .1))
+fields-walked rows n beside [] g = refl
+fields-walked rows n beside (f ∷ fs) g = rw (field-good rows n beside f (g .0), g .0 .clean) (fields-walked rows (suc n) f fs (g .1))

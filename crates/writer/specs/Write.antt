@@ -11,6 +11,7 @@ use Rattle.text.specs.Placed.{written}
 use Rattle.text.specs.Scan.{all}
 use Rattle.refusal.specs.Table.{numberOf, Verdict}
 use Rattle.refusal.specs.declared.Refusal.the-variants.{UnknownRecord, FieldCount, FieldForm, FeatureLacks, OutputTooShort, FieldEnds}
+use Rattle.fields.specs.Profile.{Row, profile}
 use Rattle.fields.specs.Record.{typeOf, countFits}
 use Rattle.fields.specs.Field.{tested}
 use Rattle.fields.specs.declared.record.Record.{Record}
@@ -19,10 +20,9 @@ use Rattle.fields.specs.declared.record.Named.{Named}
 use Rattle.fields.specs.declared.record.Named.the-variants.{Known, Unknown}
 use Rattle.fields.specs.declared.field.Tested.{Tested}
 use Rattle.fields.specs.declared.field.Tested.the-variants.{Good, Bad}
-use Rattle.fields.specs.declared.record.Due.the-variants.{Any}
 use Rattle.line.specs.Need.{lacks}
 use Rattle.line.specs.Walk.{onTest}
-use Rattle.line.specs.Line.{lineAnswer}
+use Rattle.line.specs.Line.{lineAnswer, alone}
 use Rattle.line.specs.Find.{fieldAnswer}
 use Rattle.line.specs.declared.walk.Walk.{Walk}
 use Rattle.line.specs.declared.walk.Walk.the-variants.{Fine, Stopped}
@@ -67,13 +67,13 @@ ifPlain (Bad why) f = Bad why
 ifPlain Good f = if all plain f then Good else Bad FieldForm
 
 -- the reader's rule of a field, then that
-unfoldable pub testedToWrite : Record → ℕ → List ℕ → List ℕ → Tested
-testedToWrite kind n beside f = ifPlain (tested kind n beside f) f
+unfoldable pub testedToWrite : List Row → ℕ → List ℕ → List ℕ → Tested
+testedToWrite rows n beside f = ifPlain (tested rows n beside f) f
 
 -- "Place is the field number for 6 to 8": these fields, the first with this number; beside it stands the part in front of it
-abbrev pub walked : Record → ℕ → List ℕ → List (List ℕ) → Walk
-walked kind n beside [] = Fine
-walked kind n beside (f ∷ fs) = onTest (testedToWrite kind n beside f) n (walked kind (suc n) f fs)
+abbrev pub walked : List Row → ℕ → List ℕ → List (List ℕ) → Walk
+walked rows n beside [] = Fine
+walked rows n beside (f ∷ fs) = onTest (testedToWrite rows n beside f) n (walked rows (suc n) f fs)
 
 -- 9, then 13: whether the line fits into an output of this size behind its fill. "A fill past the output is 13."
 unfoldable pub ofFields : Record → List (List ℕ) → ℕ → ℕ → WriteAnswer
@@ -93,7 +93,7 @@ ofRecord Unknown text ends size fill = NotWritten UnknownRecord 0
 ofRecord (Known kind) text ends size fill =
     if not (endsHold ends (length text)) then NotWritten FieldEnds 0
     else if not (countFits kind (length ends)) then NotWritten FieldCount 0
-    else afterWalk (walked kind 1 (typeOf kind) (between text ends)) kind (between text ends) size fill
+    else afterWalk (walked (profile kind) 1 (typeOf kind) (between text ends)) kind (between text ends) size fill
 
 -- "The answer is how many bytes were written"
 unfoldable pub writeAnswer : ℕ → List ℕ → List ℕ → ℕ → ℕ → WriteAnswer
@@ -135,16 +135,16 @@ pub record Writable (number : ℕ) (text ends : List ℕ) (size fill n : ℕ) : 
   pub kind : Record
   pub known : recordNumbered number ≡ Known kind
   pub held : endsHold ends (length text) ≡ true
-  pub allowed : LineOk kind (between text ends)
+  pub allowed : LineOk profile kind (between text ends)
   pub fits : fill + length (render kind (between text ends)) ≤ size
   pub long : n ≡ length (render kind (between text ends))
 
 -- "Reading back is of the written line's bytes by themselves": they are the line of this record with these fields, they are read as
 -- that, and each field is found again
 pub record ReadsBack (kind : Record) (fs : List (List ℕ)) (line : List ℕ) : Type 0 where
-  pub allowed : LineOk kind fs
+  pub allowed : LineOk profile kind fs
   pub rendered : line ≡ render kind fs
-  pub read : lineAnswer Any line 0 ≡ Accepted (record { kind = kind; count = length fs; next = length line })
+  pub read : lineAnswer (alone profile) line 0 ≡ Accepted (record { kind = kind; count = length fs; next = length line })
   pub found :
-      (n : ℕ) → 1 ≤ n → n ≤ length fs → (start : ℕ) × ((fieldAnswer line 0 n ≡ Found start (length (fieldNo fs n))) ×
+      (n : ℕ) → 1 ≤ n → n ≤ length fs → (start : ℕ) × ((fieldAnswer profile line 0 n ≡ Found start (length (fieldNo fs n))) ×
       (take (length (fieldNo fs n)) (drop start line) ≡ fieldNo fs n))

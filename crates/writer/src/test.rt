@@ -4,6 +4,7 @@ ghost use mathlib.Core.Bool.{true};
 ghost use lib.ListN.{length};
 ghost use Rattle.text.specs.Scan.{all};
 ghost use Rattle.fields.specs.Record.{typeOf};
+ghost use Rattle.fields.specs.Profile.{profile};
 ghost use Rattle.grammar.specs.Grammar.{plain};
 ghost use Rattle.writer.specs.Write.{endsHold, between, testedToWrite, walked};
 use fields::Record;
@@ -30,7 +31,7 @@ pub fn ends_hold(ends: &[usize], long: usize) -> bool
 // Tests the fields. Beside a field stands the one in front of it; no rule of a first field looks beside it.
 pub fn walk_fields(kind: Record, text: &[u8], ends: &[usize]) -> Walk
     requires { ⌜ endsHold (now ends) (length (now text)) ≡ true ⌝ }
-    ensures { λ r. ⌜ r ≡ walked kind 1 (typeOf kind) (between (now (text .entry)) (now (ends .entry))) ⌝ }
+    ensures { λ r. ⌜ r ≡ walked (profile kind) 1 (typeOf kind) (between (now (text .entry)) (now (ends .entry))) ⌝ }
 {
     let mut beside: usize = 0;
     let mut start: usize = 0;
@@ -50,7 +51,7 @@ pub fn walk_fields(kind: Record, text: &[u8], ends: &[usize]) -> Walk
 
 // The reader's test of a field, and then that it can stand in a line.
 fn test_to_write(kind: Record, number: usize, beside: &[u8], field: &[u8]) -> Tested
-    ensures { λ r. ⌜ r ≡ testedToWrite kind number (now (beside .entry)) (now (field .entry)) ⌝ }
+    ensures { λ r. ⌜ r ≡ testedToWrite (profile kind) number (now (beside .entry)) (now (field .entry)) ⌝ }
 {
     let tested = fields::test_field(kind, number, beside, field);
     if let Tested::Bad(why) = tested {

@@ -4,6 +4,7 @@ ghost use mathlib.Core.Bool.{true};
 ghost use Prim.Native.Nat.{_+_, _≤_};
 ghost use lib.ListN.{length};
 ghost use Rattle.fields.specs.Record.{typeOf};
+ghost use Rattle.fields.specs.Profile.{profile};
 ghost use Rattle.line.specs.declared.walk.Walk.the-variants.{Fine};
 ghost use Rattle.writer.specs.Write.{recordNumbered, endsHold, between, walked, ofFields, lineTo, Writes};
 use crate::put;
@@ -84,7 +85,7 @@ fn write_fields(
     fill: usize,
 ) -> WriteAnswer
     requires { ⌜ (length (now text) + length (now ends) + 5 ≤ length (now line)) × (endsHold (now ends) (length (now text)) ≡ true)
-        × (walked kind 1 (typeOf kind) (between (now text) (now ends)) ≡ Fine) ⌝ }
+        × (walked (profile kind) 1 (typeOf kind) (between (now text) (now ends)) ≡ Fine) ⌝ }
     ensures { λ r. ⌜ (r ≡ ofFields kind (between (now (text .entry)) (now (ends .entry))) (length (now (out .entry))) fill)
         × (now (out .exit) ≡ lineTo r kind (between (now (text .entry)) (now (ends .entry))) (now (out .entry)) fill) ⌝ }
 {

@@ -1,18 +1,18 @@
 -- `form::feature_form` meets its contract: each arm is a row of the table.
-use Rattle.fields.specs.Form.{formsOf}
-use Rattle.fields.proofs.Forms.{row-arm, no-row}
+use Rattle.fields.specs.Profile.{profile}
+use Rattle.fields.proofs.Tables.{form-arm, no-form}
 use borrow.Author.Needs.{needs}
 use Rattle.fields.proofs.form.feature_form.Statement.{statement}
 use Rattle.fields.proofs.form.feature_form.Tie as tie
 
-ruleset laws = (needs, row-arm)
+ruleset laws = (needs, form-arm)
 
 pub feature-form-spec : {M : Type 1} → statement M
-unfolding formsOf
+unfolding profile
 feature-form-spec =
     tie.close
     (tie.spec
     (λ c κs. search laws) (λ c κs. search laws) (λ c κs. search laws) (λ c κs. search laws) (λ c κs. search laws)
     (λ c κs. search laws) (λ c κs. search laws) (λ c κs. search laws) (λ c. search laws) (λ c. search laws)
     (λ c. search laws) (λ c. search laws) (λ c. search laws) (λ c. search laws) (λ c. search laws) (λ c. search laws)
-    (λ c. search (no-row) depth 14))
+    (λ c. search (no-form) depth 14))

@@ -1,5 +1,6 @@
 -- `form::has_form` meets its contract.
-use Rattle.fields.proofs.Forms.{form-as, no-form}
+use Rattle.fields.specs.Profile.{profile}
+use Rattle.fields.proofs.Tables.{form-as, no-form}
 use borrow.Author.Needs.{needs}
 use Rattle.fields.proofs.form.has_form.Statement.{statement}
 use Rattle.fields.proofs.form.has_form.Tie as tie
@@ -7,6 +8,7 @@ use Rattle.fields.proofs.form.has_form.Tie as tie
 ruleset laws = (needs, form-as, no-form)
 
 pub has-form-spec : {M : Type 1} → statement M
+unfolding profile
 has-form-spec =
     tie.close
     (tie.spec

@@ -1,17 +1,16 @@
 -- `form::header_form` meets its contract: each arm is a row of the table.
-use Rattle.fields.specs.Form.{formsOf}
-use Rattle.text.proofs.Choices.{eq-takes-else}
-use Rattle.fields.proofs.Forms.{row-arm}
+use Rattle.fields.specs.Profile.{profile}
+use Rattle.fields.proofs.Tables.{form-arm, no-form}
 use borrow.Author.Needs.{needs}
 use Rattle.fields.proofs.form.header_form.Statement.{statement}
 use Rattle.fields.proofs.form.header_form.Tie as tie
 
-ruleset laws = (needs, row-arm, eq-takes-else)
+ruleset laws = (needs, form-arm)
 
 pub header-form-spec : {M : Type 1} → statement M
-unfolding formsOf
+unfolding profile
 header-form-spec =
     tie.close
     (tie.spec
     (λ c κs. search laws) (λ c κs. search laws) (λ c κs. search laws) (λ c κs. search laws) (λ c κs. search laws)
-    (λ c. search laws) (λ c. search laws) (λ c. search laws) (λ c. search laws) (λ c. search laws) (λ c. search laws))
+    (λ c. search laws) (λ c. search laws) (λ c. search laws) (λ c. search laws) (λ c. search laws) (λ c. search (no-form) depth 14))

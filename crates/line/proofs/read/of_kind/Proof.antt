@@ -12,7 +12,7 @@ of-kind-spec =
     (tie.spec
     (λ c κs. search laws) (λ c κs. search laws) (λ c. search laws) (λ c κs. search laws) (λ c. search laws)
     (λ c. search laws) (λ c. search laws) (λ c κs. search laws) (λ c. search laws) (λ c. search laws) (λ c. search laws)
-    (λ c. has-all _ _ _ _ (c .before .before .before .before .before .before .before .field-count .ensures) _
+    (λ c. has-all _ _ _ _ _ (c .before .before .before .before .before .before .before .field-count .ensures) _
     (c .before .before .before .before .before .before .count-fits .ensures) (c .before .before .before .before .before .if1 .left) _
     (c .before .before .before .before .walk-fields .ensures) (c .before .before .enum-told .given .1) _
     (c .before .lacks-field .ensures) (c .if2 .left)))

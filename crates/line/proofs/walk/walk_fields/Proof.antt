@@ -1,6 +1,7 @@
 -- `walk::walk_fields` meets its contract: what is left of the walk is the whole.
 use Prim.Native.Nat.{_≤_, _+_, _-_}
 use lib.ListN.{length}
+use Rattle.fields.specs.Profile.{profile}
 use Rattle.line.specs.Parts.{nameOf, fieldsOf}
 use Rattle.line.specs.Walk.{walk}
 use Rattle.line.proofs.Parts.{name-inside, name-fits}
@@ -14,7 +15,7 @@ ruleset laws = (needs, name-inside, name-fits, walk-starts, walk-done, walk-stop
 abbrev Inv-loop : tie.InvT-loop
 Inv-loop kind line at name number₀ beside₀ start₀ number beside start =
     (1 ≤ start) × (start ≤ length line + 1) × (beside ≤ start - 1) × (number ≤ start) ×
-    Left kind line at number beside start (walk kind 1 (at + length (nameOf line) + 1) (nameOf line) (fieldsOf line))
+    Left (profile kind) line at number beside start (walk (profile kind) 1 (at + length (nameOf line) + 1) (nameOf line) (fieldsOf line))
 
 abbrev μ-loop : tie.MeasureT-loop
 μ-loop kind line at name number₀ beside₀ start₀ number beside start = length line + 1 - start

@@ -3,6 +3,7 @@ use Prim.Native.Nat.{_≤_, _+_, _-_}
 use mathlib.Core.Bool.{true}
 use mathlib.Core.Path.{_≡_}
 use lib.ListN.{length, take, drop}
+use Rattle.fields.specs.Profile.{profile}
 use Rattle.fields.specs.Record.{typeOf}
 use Rattle.writer.specs.Write.{risesTo, endsHold, fieldsFrom, between, walked}
 use Rattle.writer.proofs.Ends.{end-rises, rest-rises, end-inside}
@@ -15,8 +16,8 @@ ruleset laws = (needs, end-rises, rest-rises, end-inside, walk-starts, walk-done
 
 abbrev Inv-loop : tie.InvT-loop
 Inv-loop kind text ends beside₀ start₀ i₀ beside start i = (i ≤ length ends) × (beside ≤ start) × (start ≤ length text) ×
-    (risesTo (length text) start (drop i ends) ≡ true) × (walked kind (i + 1) (take (start - beside) (drop beside text))
-    (fieldsFrom start text (drop i ends)) ≡ walked kind 1 (typeOf kind) (between text ends))
+    (risesTo (length text) start (drop i ends) ≡ true) × (walked (profile kind) (i + 1) (take (start - beside) (drop beside text))
+    (fieldsFrom start text (drop i ends)) ≡ walked (profile kind) 1 (typeOf kind) (between text ends))
 
 abbrev μ-loop : tie.MeasureT-loop
 μ-loop kind text ends beside₀ start₀ i₀ beside start i = length ends - i
