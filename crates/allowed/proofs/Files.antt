@@ -8,13 +8,15 @@ use lib.Dec.{ltb}
 use lib.ListN.{length, length-append}
 use borrow.Author.Tests.{ltb-false, le-ltb}
 use Rattle.text.proofs.Choices.{came-else}
+use Rattle.refusal.specs.declared.Reason.the-variants.{FileTooLong}
+use Rattle.refusal.specs.Table.{because}
 use Rattle.refusal.specs.declared.Refusal.{Refusal}
-use Rattle.refusal.specs.declared.Refusal.the-variants.{FileTooLong}
+use Rattle.refusal.proofs.Verdicts.{no-pass}
 use Rattle.fields.specs.declared.record.Record.{Record}
 use Rattle.fields.specs.declared.record.Due.{Due}
 use Rattle.fields.specs.declared.record.Due.the-variants.{First, After}
 use Rattle.grammar.proofs.Lines.{render-long, one-line}
-use Rattle.file.specs.File.{Judged, begin, fileFrom, judged}
+use Rattle.file.specs.File.{Judged, begin, fileFrom, judged, fileVerdict}
 use Rattle.file.specs.declared.whole.Totals.{Totals}
 use Rattle.file.specs.declared.whole.FileAnswer.the-variants.{Accepted, Refused}
 use Rattle.allowed.specs.Allowed.{FileLine, lineBytes, fileBytes, LinesOk, InOrder, codeOf, identcodes, NoneTwice}
@@ -78,9 +80,6 @@ pub record Accepts (s : List ℕ) (words : ℕ) (totals : Totals) (starts : List
 from-begin : (ls : List FileLine) → judgedWith [] begin ls ≡ record { answer = Accepted (totalsOf ls); starts = lineStarts 0 ls }
 from-begin ls = rw (zero-add (length ls), zero-add (parcelCount ls), zero-add (cashTotal ls))
 
-refused : {why : Refusal} {place : ℕ} {t : Totals} → Refused why place ≡ Accepted t → ⊥
-refused e = let z : _≡_ {A = ℕ} 0 1 = cc in omega arith
-
 totals-told : {a b : Totals} → Accepted a ≡ Accepted b → a ≡ b
 totals-told e = cc
 
@@ -88,9 +87,9 @@ module _ (s : List ℕ) (words : ℕ) (totals : Totals) (starts : List ℕ) wher
   pub accepted-allowed : judged s words ≡ record { answer = Accepted totals; starts = starts } → Accepts s words totals starts
   unfolding judged
   accepted-allowed e =
-      let a = came-else (ltb 65535 (length s)) (record { answer = Refused FileTooLong 65535; starts = [] })
+      let a = came-else (ltb 65535 (length s)) (record { answer = Refused (because FileTooLong 65535); starts = [] })
       (fileFrom (length s + 1) s words [] begin) (record { answer = Accepted totals; starts = starts })
-      (λ q. refused (ap (λ (j : Judged). j .answer) q)) e in
+      (λ q. (no-pass fileVerdict refl refl) (ap (λ (j : Judged). j .answer) q)) e in
       let small = ltb-false 65535 (length s) (a .0) in
       let r = ran s words small totals starts (length s + 1) [] [] begin (omega arith) (omega arith) (omega arith) (λ at. refl) (a .1) in
       let w = whole (r .lines) s [] First tt (r .allowed) in

@@ -11,8 +11,10 @@ use lib.ListN.{length, drop, length-drop, drop-of-length-le}
 use lib.Seq.{append-snoc}
 use borrow.Author.Tests.{ltb-false, lt-ltb, le-ltb, lt-leb}
 use Rattle.text.proofs.Choices.{came-then, true-or-false}
+use Rattle.refusal.specs.declared.Reason.the-variants.{FileEnds}
+use Rattle.refusal.specs.Table.{because}
 use Rattle.refusal.specs.declared.Refusal.{Refusal}
-use Rattle.refusal.specs.declared.Refusal.the-variants.{FileEnds}
+use Rattle.refusal.proofs.Verdicts.{no-pass}
 use Rattle.fields.specs.Record.{mayCome, mayEnd}
 use Rattle.fields.specs.declared.record.Due.{Due}
 use Rattle.fields.specs.declared.record.Due.the-variants.{After}
@@ -24,7 +26,7 @@ use Rattle.grammar.specs.Grammar.{LineOk, Reads}
 use Rattle.grammar.proofs.Lines.{accepted-reads, reads-accepted, next-inside, next-far, rest-is, read-parts}
 use Rattle.file.specs.Cash.{cashOf}
 use Rattle.file.specs.Step.{behind, onLine, stepAnswer, toldBy}
-use Rattle.file.specs.File.{Judged, ended, onStep, fileFrom}
+use Rattle.file.specs.File.{Judged, ended, onStep, fileFrom, fileVerdict}
 use Rattle.file.specs.declared.step.State.{State}
 use Rattle.file.specs.declared.step.Step.{Step}
 use Rattle.file.specs.declared.step.Step.the-variants.{Next, Stopped}
@@ -53,9 +55,6 @@ totalsWith state ls = record {
 
 abbrev pub judgedWith : List ℕ → State → List FileLine → Judged
 judgedWith starts state ls = record { answer = Accepted (totalsWith state ls); starts = starts ++ lineStarts (state .at) ls }
-
-refused : {why : Refusal} {place : ℕ} {t : Totals} → Refused why place ≡ Accepted t → ⊥
-refused e = let z : _≡_ {A = ℕ} 0 1 = cc in omega arith
 
 -- no lines more
 judged-none : (starts : List ℕ) (state : State) → record {
@@ -104,7 +103,7 @@ module _ (s : List ℕ) (m : ℕ) (small : length s ≤ 65535) (totals : Totals)
             Accepted (record { lines = state .lines; parcels = state .parcels; cents = state .cents });
         starts = starts;
       })
-      (record { answer = Refused FileEnds (length s); starts = [] }) result (λ q. refused (ap (λ (j : Judged). j .answer) q)) e in
+      (record { answer = Refused (because FileEnds (length s)); starts = [] }) result (λ q. (no-pass fileVerdict refl refl) (ap (λ (j : Judged). j .answer) q)) e in
       record {
         lines = [];
         allowed = (drop-of-length-le s {i = state .at} h, a .0);
@@ -122,7 +121,7 @@ module _ (s : List ℕ) (m : ℕ) (small : length s ≤ 65535) (totals : Totals)
       Seen s starts codes →
       (step : Step) → stepAnswer s m starts state ≡ step → onStep step
       (λ next. fileFrom turns s m (starts ++ (state .at ∷ [])) next) ≡ result → Ran s m starts codes state result
-  ran-step turns more starts codes state h seen (Stopped why place) es e = absurd (refused (ap (λ (j : Judged). j .answer) e))
+  ran-step turns more starts codes state h seen (Stopped refusal) es e = absurd (no-pass fileVerdict refl refl (ap (λ (j : Judged). j .answer) e))
   ran-step turns more starts codes state h seen (Next next) es e =
       let w = went s m starts state next es in
       let line = w .line in

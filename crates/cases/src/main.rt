@@ -49,7 +49,7 @@ fn judge(s: &[u8], list: &mut [u32]) {
     let answer = file::judge(s, list);
     match answer {
         FileAnswer::Accepted(totals) => say_ok(totals),
-        FileAnswer::Refused { why, place } => say_no(why, place),
+        FileAnswer::Refused(refusal) => say_no(refusal),
     }
     io::write_all(1, b" list ");
     io::print_decimal(1, sum(list));
@@ -100,9 +100,10 @@ fn say_ok(totals: Totals) {
     io::print_decimal(1, totals.cents);
 }
 
-fn say_no(why: Refusal, place: usize) {
+fn say_no(refusal: Refusal) {
+    let why = refusal.why;
     io::write_all(1, b" no ");
     io::print_decimal(1, refusal::number(why) as u64);
     io::write_all(1, b" ");
-    io::print_decimal(1, place as u64);
+    io::print_decimal(1, refusal.place as u64);
 }

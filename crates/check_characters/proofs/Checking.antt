@@ -4,7 +4,8 @@ use mathlib.Core.Path.{_≡_}
 use mathlib.Core.List.{List}
 use lib.ListN.{length, take, getD}
 use borrow.Author.Tests.{eq-eqb, ne-eqb, lt-ltb, le-ltb}
-use Rattle.refusal.specs.declared.Refusal.the-variants.{WrongLength, WrongSymbol, WrongCheck}
+use Rattle.refusal.specs.declared.Reason.the-variants.{WrongLength, WrongSymbol, WrongCheck}
+use Rattle.refusal.specs.Table.{because}
 use Rattle.check_characters.specs.Symbol.{valueOf}
 use Rattle.check_characters.specs.Mod37.{carry, passes}
 use Rattle.check_characters.specs.Number.{wrongSymbol, checkedAs, checked}
@@ -13,7 +14,7 @@ use Rattle.check_characters.specs.declared.number.Kind.the-variants.{Tra
 use Rattle.check_characters.specs.declared.number.NumberAnswer.the-variants.{Accepted, Refused}
 
 module _ (k : Kind) (s : List ℕ) (wrong : ℕ) (ew : wrong ≡ wrongSymbol k s) where
-  pub checked-wrong : wrong < length s → Refused WrongSymbol wrong ≡ checkedAs k s
+  pub checked-wrong : wrong < length s → Refused (because WrongSymbol wrong) ≡ checkedAs k s
   unfolding checkedAs
   checked-wrong h = simp (← ew, lt-ltb wrong (length s))
 
@@ -22,7 +23,7 @@ module _ (k : Kind) (s : List ℕ) (wrong : ℕ) (ew : wrong ≡ wrongSymbol k s
     unfolding checkedAs passes
     checked-passes e = simp (← ew, ← ec, ← ev, le-ltb wrong (length s), eq-eqb ((c + v) % 36) 1)
 
-    pub checked-fails : ((c + v) % 36 ≡ 1 → ⊥) → Refused WrongCheck (length s - 1) ≡ checkedAs k s
+    pub checked-fails : ((c + v) % 36 ≡ 1 → ⊥) → Refused (because WrongCheck (length s - 1)) ≡ checkedAs k s
     unfolding checkedAs passes
     checked-fails e = simp (← ew, ← ec, ← ev, le-ltb wrong (length s), ne-eqb ((c + v) % 36) 1)
 
@@ -35,6 +36,6 @@ module _ (s : List ℕ) where
   unfolding checked
   checked-label n e = simp (ne-eqb (length s) 15, eq-eqb (length s) 28)
 
-  pub checked-length : (length s ≡ 15 → ⊥) → (length s ≡ 28 → ⊥) → checked s ≡ Refused WrongLength 0
+  pub checked-length : (length s ≡ 15 → ⊥) → (length s ≡ 28 → ⊥) → checked s ≡ Refused (because WrongLength 0)
   unfolding checked
   checked-length n m = simp (ne-eqb (length s) 15, ne-eqb (length s) 28)

@@ -7,7 +7,8 @@ use native.Mathlib.Omega.{arith}
 use lib.Dec.{eqb}
 use lib.ListN.{length, getD}
 use borrow.Author.Tests.{ne-eqb, lt-ltb, le-ltb, le-leb, lt-leb}
-use Rattle.refusal.specs.declared.Refusal.the-variants.{WrongLength, WrongSymbol, WrongCheck}
+use Rattle.refusal.specs.declared.Reason.the-variants.{WrongLength, WrongSymbol, WrongCheck}
+use Rattle.refusal.specs.Table.{because}
 use Rattle.text.specs.Byte.{digit, capital, symbol}
 use Rattle.check_characters.specs.Symbol.{valueOf}
 use Rattle.check_characters.specs.Iban.{allowed, wrongSymbol, barred, ibanNumber, soundOf, checked}
@@ -50,16 +51,16 @@ module _ (s : List ℕ) (tens ones : ℕ) (et : tens ≡ valueOf (getD s 2 0)) (
   sound-remainder e r er = simp (← et, ← eo, ← eb, e, ← er)
 
 module _ (s : List ℕ) where
-  pub checked-short : length s < 15 → checked s ≡ Refused WrongLength 0
+  pub checked-short : length s < 15 → checked s ≡ Refused (because WrongLength 0)
   unfolding checked
   checked-short h = simp (lt-leb 15 (length s))
 
-  pub checked-long : 34 < length s → checked s ≡ Refused WrongLength 0
+  pub checked-long : 34 < length s → checked s ≡ Refused (because WrongLength 0)
   unfolding checked
   checked-long h = simp (le-leb 15 (length s) (omega arith), lt-leb (length s) 34)
 
   module _ (l : 15 ≤ length s) (h : length s ≤ 34) (wrong : ℕ) (ew : wrong ≡ wrongSymbol s) where
-    pub checked-wrong : wrong < length s → Refused WrongSymbol wrong ≡ checked s
+    pub checked-wrong : wrong < length s → Refused (because WrongSymbol wrong) ≡ checked s
     unfolding checked
     checked-wrong m = simp (le-leb 15 (length s), le-leb (length s) 34, ← ew, lt-ltb wrong (length s))
 
@@ -68,6 +69,6 @@ module _ (s : List ℕ) where
       unfolding checked
       checked-sound e = simp (le-leb 15 (length s), le-leb (length s) 34, ← ew, le-ltb wrong (length s), ← et, e)
 
-      pub checked-unsound : t ≡ false → Refused WrongCheck 2 ≡ checked s
+      pub checked-unsound : t ≡ false → Refused (because WrongCheck 2) ≡ checked s
       unfolding checked
       checked-unsound e = simp (le-leb 15 (length s), le-leb (length s) 34, ← ew, le-ltb wrong (length s), ← et, e)

@@ -8,21 +8,22 @@ use native.Mathlib.Numerals.{add-one}
 use lib.ListN.{length, drop, set}
 use lib.Seq.{drop-cons, set-append-seam}
 use borrow.Author.Tests.{eq-eqb, ne-eqb, lt-ltb, le-ltb, le-leb}
-use Rattle.refusal.specs.declared.Refusal.the-variants.{OutputTooShort, WrongLength, WrongSymbol}
+use Rattle.refusal.specs.declared.Reason.the-variants.{OutputTooShort, WrongLength, WrongSymbol}
+use Rattle.refusal.specs.Table.{because}
 use Rattle.text.specs.Placed.{placed}
 use Rattle.check_characters.specs.Mod37.{checkOf}
 use Rattle.check_characters.specs.Number.{lengthOf, wrongSymbol, issueAs, issueAnswer, issuedTo}
 use Rattle.check_characters.specs.declared.number.Kind.{Kind}
 use Rattle.check_characters.specs.declared.number.Kind.the-variants.{Tracking, Label}
-use Rattle.check_characters.specs.declared.number.IssueAnswer.the-variants.{Issued, NotIssued}
+use Rattle.check_characters.specs.declared.number.IssueAnswer.the-variants.{Issued, Refused}
 
 module _ (k : Kind) (body : List ℕ) (room wrong : ℕ) (ew : wrong ≡ wrongSymbol k body) where
-  pub issue-wrong : wrong < length body → NotIssued WrongSymbol wrong ≡ issueAs k body room
+  pub issue-wrong : wrong < length body → Refused (because WrongSymbol wrong) ≡ issueAs k body room
   unfolding issueAs
   issue-wrong h = simp (← ew, lt-ltb wrong (length body))
 
   module _ (h : length body ≤ wrong) (whole : length body + 1 ≡ lengthOf k) where
-    pub issue-short : room < length body + 1 → NotIssued OutputTooShort 0 ≡ issueAs k body room
+    pub issue-short : room < length body + 1 → Refused (because OutputTooShort 0) ≡ issueAs k body room
     unfolding issueAs
     issue-short l = simp (← ew, le-ltb wrong (length body), ← whole, lt-ltb room (length body + 1))
 
@@ -39,7 +40,7 @@ module _ (body : List ℕ) (room : ℕ) where
   unfolding issueAnswer
   issue-label n e = simp (ne-eqb (length body) 14, eq-eqb (length body) 27)
 
-  pub issue-length : (length body ≡ 14 → ⊥) → (length body ≡ 27 → ⊥) → issueAnswer body room ≡ NotIssued WrongLength 0
+  pub issue-length : (length body ≡ 14 → ⊥) → (length body ≡ 27 → ⊥) → issueAnswer body room ≡ Refused (because WrongLength 0)
   unfolding issueAnswer
   issue-length n m = simp (ne-eqb (length body) 14, ne-eqb (length body) 27)
 

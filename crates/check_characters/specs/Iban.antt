@@ -7,8 +7,8 @@ use lib.ListN.{length, getD, take, drop}
 use Rattle.text.specs.Choice.{if_then_else_}
 use Rattle.text.specs.Byte.{digit, capital, symbol}
 use Rattle.text.specs.Scan.{firstFailing}
-use Rattle.refusal.specs.declared.Refusal.the-variants.{WrongLength, WrongSymbol, WrongCheck}
-use Rattle.refusal.specs.Table.{numberOf, Verdict}
+use Rattle.refusal.specs.declared.Reason.the-variants.{WrongLength, WrongSymbol, WrongCheck}
+use Rattle.refusal.specs.Table.{because, verdictOf, Verdict}
 use Rattle.check_characters.specs.Symbol.{valueOf}
 use Rattle.check_characters.specs.declared.iban.IbanAnswer.{IbanAnswer}
 use Rattle.check_characters.specs.declared.iban.IbanAnswer.the-variants.{Accepted, Refused}
@@ -59,12 +59,12 @@ soundOf s = not (barred (checkDigits s)) && eqb (ibanNumber s % 97) 1
 -- "IBAN: 15 to 34 long", and "the order 16, 17, 18"
 unfoldable pub checked : List ℕ → IbanAnswer
 checked s =
-    if not (leb 15 (length s) && leb (length s) 34) then Refused WrongLength 0
-    else if ltb (wrongSymbol s) (length s) then Refused WrongSymbol (wrongSymbol s)
+    if not (leb 15 (length s) && leb (length s) 34) then Refused (because WrongLength 0)
+    else if ltb (wrongSymbol s) (length s) then Refused (because WrongSymbol (wrongSymbol s))
     else if soundOf s then Accepted
-    else Refused WrongCheck 2
+    else Refused (because WrongCheck 2)
 
 -- the paper's number and place for each answer
 abbrev pub ibanVerdict : IbanAnswer → Verdict
 ibanVerdict Accepted = Verdict.passes
-ibanVerdict (Refused why place) = Verdict.refused (numberOf why) place
+ibanVerdict (Refused refusal) = verdictOf refusal

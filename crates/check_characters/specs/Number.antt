@@ -8,15 +8,15 @@ use lib.ListN.{length, getD, drop, replicate}
 use Rattle.text.specs.Choice.{if_then_else_}
 use Rattle.text.specs.Byte.{digit, symbol}
 use Rattle.text.specs.Scan.{firstFailing}
-use Rattle.refusal.specs.declared.Refusal.the-variants.{OutputTooShort, WrongLength, WrongSymbol, WrongCheck}
-use Rattle.refusal.specs.Table.{numberOf, Verdict}
+use Rattle.refusal.specs.declared.Reason.the-variants.{OutputTooShort, WrongLength, WrongSymbol, WrongCheck}
+use Rattle.refusal.specs.Table.{because, verdictOf, Verdict}
 use Rattle.check_characters.specs.Mod37.{passes, checkOf}
 use Rattle.check_characters.specs.declared.number.Kind.{Kind}
 use Rattle.check_characters.specs.declared.number.Kind.the-variants.{Tracking, Label}
 use Rattle.check_characters.specs.declared.number.NumberAnswer.{NumberAnswer}
 use Rattle.check_characters.specs.declared.number.NumberAnswer.the-variants.{Accepted, Refused}
 use Rattle.check_characters.specs.declared.number.IssueAnswer.{IssueAnswer}
-use Rattle.check_characters.specs.declared.number.IssueAnswer.the-variants.{Issued, NotIssued}
+use Rattle.check_characters.specs.declared.number.IssueAnswer.the-variants.{Issued, Refused}
 
 -- "Tracking number: 14 digits and a check. Label code: 7 symbols (A-Z, 0-9), 14 digits, 3 digits of service, 3 of country, a
 -- check, 28 in all. A check is A-Z or 0-9."
@@ -40,33 +40,33 @@ wrongSymbol kind s = firstFailing (allowed kind) 0 s
 -- "Checking a number or an IBAN refuses in the order 16, 17, 18."
 unfoldable pub checkedAs : Kind → List ℕ → NumberAnswer
 checkedAs kind s =
-    if ltb (wrongSymbol kind s) (length s) then Refused WrongSymbol (wrongSymbol kind s)
+    if ltb (wrongSymbol kind s) (length s) then Refused (because WrongSymbol (wrongSymbol kind s))
     else if passes s then Accepted kind
-    else Refused WrongCheck (length s - 1)
+    else Refused (because WrongCheck (length s - 1))
 
 unfoldable pub checked : List ℕ → NumberAnswer
 checked s =
     if eqb (length s) (lengthOf Tracking) then checkedAs Tracking s
     else if eqb (length s) (lengthOf Label) then checkedAs Label s
-    else Refused WrongLength 0
+    else Refused (because WrongLength 0)
 
 -- "Issuing takes 14 or 27 symbols: 16, 17, then 13", with so many bytes of output
 unfoldable pub issueAs : Kind → List ℕ → ℕ → IssueAnswer
 issueAs kind body room =
-    if ltb (wrongSymbol kind body) (length body) then NotIssued WrongSymbol (wrongSymbol kind body)
-    else if ltb room (lengthOf kind) then NotIssued OutputTooShort 0
+    if ltb (wrongSymbol kind body) (length body) then Refused (because WrongSymbol (wrongSymbol kind body))
+    else if ltb room (lengthOf kind) then Refused (because OutputTooShort 0)
     else Issued (lengthOf kind)
 
 unfoldable pub issueAnswer : List ℕ → ℕ → IssueAnswer
 issueAnswer body room =
     if eqb (length body) 14 then issueAs Tracking body room
     else if eqb (length body) 27 then issueAs Label body room
-    else NotIssued WrongLength 0
+    else Refused (because WrongLength 0)
 
 -- "it writes body and check at the output's start and nothing else, and a refusal writes nothing"
 unfoldable pub issuedTo : IssueAnswer → List ℕ → List ℕ → List ℕ
 issuedTo (Issued n) body out = body ++ checkOf body ∷ drop n out
-issuedTo (NotIssued why place) body out = out
+issuedTo (Refused refusal) body out = out
 
 -- the answer and the output that issuing allows
 abbrev pub Issues : List ℕ → List ℕ → IssueAnswer → List ℕ → Type 0
@@ -75,8 +75,8 @@ Issues body out answer after = (answer ≡ issueAnswer body (length out)) × (af
 -- the paper's number and place for each answer
 abbrev pub checkVerdict : NumberAnswer → Verdict
 checkVerdict (Accepted kind) = Verdict.passes
-checkVerdict (Refused why place) = Verdict.refused (numberOf why) place
+checkVerdict (Refused refusal) = verdictOf refusal
 
 abbrev pub issueVerdict : IssueAnswer → Verdict
 issueVerdict (Issued n) = Verdict.passes
-issueVerdict (NotIssued why place) = Verdict.refused (numberOf why) place
+issueVerdict (Refused refusal) = verdictOf refusal

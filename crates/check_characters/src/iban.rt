@@ -5,11 +5,12 @@ ghost use lib.ListN.{length};
 ghost use Rattle.check_characters.specs.Iban.{allowed, wrongSymbol, barred, soundOf, checked};
 use crate::remainder;
 use crate::symbol;
+use refusal::Reason;
 use refusal::Refusal;
 
 pub enum IbanAnswer {
     Accepted,
-    Refused { why: Refusal, place: usize },
+    Refused(Refusal),
 }
 
 // Checks an IBAN.
@@ -18,31 +19,31 @@ pub fn check_iban(s: &[u8]) -> IbanAnswer
 {
     let n = s.len();
     if n < 15 {
-        return IbanAnswer::Refused {
-            why: Refusal::WrongLength,
+        return IbanAnswer::Refused(Refusal {
+            why: Reason::WrongLength,
             place: 0,
-        };
+        });
     }
     if 34 < n {
-        return IbanAnswer::Refused {
-            why: Refusal::WrongLength,
+        return IbanAnswer::Refused(Refusal {
+            why: Reason::WrongLength,
             place: 0,
-        };
+        });
     }
     let wrong = wrong_symbol(s);
     if wrong < n {
-        return IbanAnswer::Refused {
-            why: Refusal::WrongSymbol,
+        return IbanAnswer::Refused(Refusal {
+            why: Reason::WrongSymbol,
             place: wrong,
-        };
+        });
     }
     if is_sound(s) {
         return IbanAnswer::Accepted;
     }
-    IbanAnswer::Refused {
-        why: Refusal::WrongCheck,
+    IbanAnswer::Refused(Refusal {
+        why: Reason::WrongCheck,
         place: 2,
-    }
+    })
 }
 
 // Whether the check digits may stand in an IBAN and the remainder by 97 is 1.

@@ -5,6 +5,7 @@ ghost use lib.ListN.{length};
 ghost use Rattle.check_characters.specs.Number.{lengthOf, allowed, wrongSymbol, checkedAs, checked, issueAs, issuedTo, Issues};
 use crate::carry;
 use crate::symbol;
+use refusal::Reason;
 use refusal::Refusal;
 
 pub enum Kind {
@@ -14,13 +15,13 @@ pub enum Kind {
 
 pub enum NumberAnswer {
     Accepted(Kind),
-    Refused { why: Refusal, place: usize },
+    Refused(Refusal),
 }
 
 pub enum IssueAnswer {
     // How many bytes were written.
     Issued(usize),
-    NotIssued { why: Refusal, place: usize },
+    Refused(Refusal),
 }
 
 // Checks a tracking number or a label code; the length tells which.
@@ -34,10 +35,10 @@ pub fn check_number(s: &[u8]) -> NumberAnswer
     if n == 28 {
         return check_as(Kind::Label, s);
     }
-    NumberAnswer::Refused {
-        why: Refusal::WrongLength,
+    NumberAnswer::Refused(Refusal {
+        why: Reason::WrongLength,
         place: 0,
-    }
+    })
 }
 
 // Issues the number that has this body: body and check are written at the output's start.
@@ -51,10 +52,10 @@ pub fn issue_number(body: &[u8], out: &mut [u8]) -> IssueAnswer
     if n == 27 {
         return issue_as(Kind::Label, body, out);
     }
-    IssueAnswer::NotIssued {
-        why: Refusal::WrongLength,
+    IssueAnswer::Refused(Refusal {
+        why: Reason::WrongLength,
         place: 0,
-    }
+    })
 }
 
 // Checks a number that has the length of its kind.
@@ -65,10 +66,10 @@ fn check_as(kind: Kind, s: &[u8]) -> NumberAnswer
     let n = s.len();
     let wrong = wrong_symbol(kind, s);
     if wrong < n {
-        return NumberAnswer::Refused {
-            why: Refusal::WrongSymbol,
+        return NumberAnswer::Refused(Refusal {
+            why: Reason::WrongSymbol,
             place: wrong,
-        };
+        });
     }
     let last = n - 1;
     let carry = carry::carry_after(&s[..last]);
@@ -76,10 +77,10 @@ fn check_as(kind: Kind, s: &[u8]) -> NumberAnswer
     if (carry + check) % 36 == 1 {
         return NumberAnswer::Accepted(kind);
     }
-    NumberAnswer::Refused {
-        why: Refusal::WrongCheck,
+    NumberAnswer::Refused(Refusal {
+        why: Reason::WrongCheck,
         place: last,
-    }
+    })
 }
 
 // Issues a number from a body that is one symbol shorter than its kind.
@@ -92,16 +93,16 @@ fn issue_as(kind: Kind, body: &[u8], out: &mut [u8]) -> IssueAnswer
     let whole = n + 1;
     let wrong = wrong_symbol(kind, body);
     if wrong < n {
-        return IssueAnswer::NotIssued {
-            why: Refusal::WrongSymbol,
+        return IssueAnswer::Refused(Refusal {
+            why: Reason::WrongSymbol,
             place: wrong,
-        };
+        });
     }
     if out.len() < whole {
-        return IssueAnswer::NotIssued {
-            why: Refusal::OutputTooShort,
+        return IssueAnswer::Refused(Refusal {
+            why: Reason::OutputTooShort,
             place: 0,
-        };
+        });
     }
     let check = carry::check_of(body);
     text::place(out, 0, body);

@@ -11,7 +11,7 @@ fn main() {
     let answer = file::judge(&buffer[..n], &mut list);
     match answer {
         FileAnswer::Accepted(totals) => say_ok(totals),
-        FileAnswer::Refused { why, place } => say_no(why, place),
+        FileAnswer::Refused(refusal) => say_no(refusal),
     }
 }
 
@@ -25,10 +25,11 @@ fn say_ok(totals: Totals) {
     io::write_all(1, b"\n");
 }
 
-fn say_no(why: Refusal, place: usize) {
+fn say_no(refusal: Refusal) {
+    let why = refusal.why;
     io::write_all(1, b"no ");
     io::print_decimal(1, refusal::number(why) as u64);
     io::write_all(1, b" ");
-    io::print_decimal(1, place as u64);
+    io::print_decimal(1, refusal.place as u64);
     io::write_all(1, b"\n");
 }

@@ -7,7 +7,7 @@ use native.Mathlib.Omega.{arith}
 use lib.Dec.{ltb}
 use lib.ListN.{length}
 use borrow.Author.Tests.{lt-ltb, le-ltb, eq-eqb, ne-eqb}
-use Rattle.refusal.specs.declared.Refusal.the-variants.{FieldTooLong, FieldEmpty, FieldForm}
+use Rattle.refusal.specs.declared.Reason.the-variants.{FieldTooLong, FieldEmpty, FieldForm}
 use Rattle.fields.specs.Profile.{Row, widthOf, isRequired, hasForm}
 use Rattle.fields.specs.Field.{tested}
 use Rattle.fields.specs.declared.field.Tested.the-variants.{Good, Bad}

@@ -4,7 +4,7 @@ use mathlib.Core.List.{List}
 use lib.Dec.{ltb, eqb}
 use lib.ListN.{length}
 use Rattle.text.specs.Choice.{if_then_else_}
-use Rattle.refusal.specs.declared.Refusal.the-variants.{FieldTooLong, FieldEmpty, FieldForm}
+use Rattle.refusal.specs.declared.Reason.the-variants.{FieldTooLong, FieldEmpty, FieldForm}
 use Rattle.fields.specs.Profile.{Row, widthOf, isRequired, hasForm}
 use Rattle.fields.specs.declared.field.Tested.{Tested}
 use Rattle.fields.specs.declared.field.Tested.the-variants.{Good, Bad}

@@ -34,7 +34,7 @@ reference code f = if isCash code then purposeText f else true
 -- "In a file all these are 8."
 abbrev pub accepted : IbanAnswer → Bool
 accepted Accepted = true
-accepted (Refused why place) = false
+accepted (Refused refusal) = false
 
 abbrev pub isIban : List ℕ → Bool
 isIban f = accepted (iban.checked f)

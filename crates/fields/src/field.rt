@@ -6,11 +6,11 @@ ghost use Rattle.fields.specs.Form.{isCash};
 use crate::form;
 use crate::record::Record;
 use crate::table;
-use refusal::Refusal;
+use refusal::Reason;
 
 pub enum Tested {
     Good,
-    Bad(Refusal),
+    Bad(Reason),
 }
 
 // Tests the field with this number; beside it stands the field in front of it.
@@ -20,17 +20,17 @@ pub fn test_field(kind: Record, number: usize, beside: &[u8], field: &[u8]) -> T
     // No empty field is too long, and most fields are empty: so this is asked first.
     if field.len() == 0 {
         if table::is_required(kind, number) {
-            return Tested::Bad(Refusal::FieldEmpty);
+            return Tested::Bad(Reason::FieldEmpty);
         }
         return Tested::Good;
     }
     if width_of(kind, number, beside) < field.len() {
-        return Tested::Bad(Refusal::FieldTooLong);
+        return Tested::Bad(Reason::FieldTooLong);
     }
     if form::has_form(kind, number, beside, field) {
         return Tested::Good;
     }
-    Tested::Bad(Refusal::FieldForm)
+    Tested::Bad(Reason::FieldForm)
 }
 
 // How wide the field may be.

@@ -119,6 +119,6 @@ fn is_iban(field: &[u8]) -> bool
     let answer = check_characters::check_iban(field);
     match answer {
         IbanAnswer::Accepted => true,
-        IbanAnswer::Refused { why: _, place: _ } => false,
+        IbanAnswer::Refused(_) => false,
     }
 }

@@ -6,8 +6,9 @@ use mathlib.Core.List.{List, [], _∷_, _++_}
 use native.Mathlib.Omega.{arith}
 use lib.ListN.{length, take, drop, set, replicate, length-set}
 use borrow.Author.Tests.{lt-ltb, le-ltb, not-true, not-false}
+use Rattle.refusal.specs.declared.Reason.the-variants.{FileTooLong, FileEnds}
+use Rattle.refusal.specs.Table.{because}
 use Rattle.refusal.specs.declared.Refusal.{Refusal}
-use Rattle.refusal.specs.declared.Refusal.the-variants.{FileTooLong, FileEnds}
 use Rattle.fields.specs.Record.{mayEnd}
 use Rattle.fields.specs.declared.record.Record.{Record}
 use Rattle.fields.specs.declared.record.Record.the-variants.{Header, Sender, Shipment, Parcel, Product, Feature}
@@ -80,11 +81,11 @@ no-lines : (s : List ℕ) (m : ℕ) (words : List ℕ) → length words ≡ m �
 no-lines s m words long j e = let k : length words ≡ m - 0 = omega arith in ap (λ (n : ℕ). replicate n 0) k ∙ sym (ap (listOf m) e)
 
 module _ (s : List ℕ) (m : ℕ) (h : 65535 < length s) where
-  long-is : judged s m ≡ record { answer = Refused FileTooLong 65535; starts = [] }
+  long-is : judged s m ≡ record { answer = Refused (because FileTooLong 65535); starts = [] }
   unfolding judged
   long-is = rw (lt-ltb 65535 (length s) h)
 
-  pub long-answer : Refused FileTooLong 65535 ≡ judged s m .answer
+  pub long-answer : Refused (because FileTooLong 65535) ≡ judged s m .answer
   long-answer = sym (ap (λ (j : Judged). j .answer) long-is)
 
   pub long-list : (words : List ℕ) → length words ≡ m → (list : List ℕ) → list ≡ replicate (length words) 0 →
@@ -151,16 +152,16 @@ module _ (s : List ℕ) (m : ℕ) (words codes : List ℕ) (state : State) (g : 
         } in
         rw (w .there) at more
 
-    going-stops : (why : Refusal) (place : ℕ) → step ≡ Stopped why place → judged s m ≡ record { answer = Refused why place; starts = [] }
-    going-stops why place e = sym (rw (sym es ∙ e) at (turn h))
+    going-stops : (refusal : Refusal) → step ≡ Stopped refusal → judged s m ≡ record { answer = Refused refusal; starts = [] }
+    going-stops refusal e = sym (rw (sym es ∙ e) at (turn h))
 
     -- what the code answers and leaves where a line stops it
-    module _ (why : Refusal) (place : ℕ) (e : step ≡ Stopped why place) where
+    module _ (refusal : Refusal) (e : step ≡ Stopped refusal) where
       pub stop-answer : (r : FileAnswer) → r ≡ handed step → r ≡ judged s m .answer
-      stop-answer r er = er ∙ ap handed e ∙ sym (ap (λ (j : Judged). j .answer) (going-stops why place e))
+      stop-answer r er = er ∙ ap handed e ∙ sym (ap (λ (j : Judged). j .answer) (going-stops refusal e))
 
       pub stop-list : (list : List ℕ) → list ≡ replicate (length words) 0 → list ≡ listOf m (judged s m .starts)
-      stop-list list el = el ∙ no-lines s m words (g .long) (judged s m) (ap (λ (j : Judged). j .starts) (going-stops why place e))
+      stop-list list el = el ∙ no-lines s m words (g .long) (judged s m) (ap (λ (j : Judged). j .starts) (going-stops refusal e))
 
   module _ (h : length s ≤ state .at) where
     file-ends : (turns : ℕ) → fileFrom turns s m (take (state .lines) words) state ≡ ended s (take (state .lines) words) state
@@ -171,10 +172,10 @@ module _ (s : List ℕ) (m : ℕ) (words codes : List ℕ) (state : State) (g : 
     at-end = sym (g .going) ∙ file-ends (length s + 1 - state .lines)
 
     module _ (t : Bool) (et : t ≡ mayEnd (state .due)) where
-      due-left : not t ≡ true → judged s m ≡ record { answer = Refused FileEnds (length s); starts = [] }
+      due-left : not t ≡ true → judged s m ≡ record { answer = Refused (because FileEnds (length s)); starts = [] }
       due-left e = at-end ∙ rw (← et, not-true t e)
 
-      pub due-answer : not t ≡ true → Refused FileEnds (length s) ≡ judged s m .answer
+      pub due-answer : not t ≡ true → Refused (because FileEnds (length s)) ≡ judged s m .answer
       due-answer e = sym (ap (λ (j : Judged). j .answer) (due-left e))
 
       pub due-list : not t ≡ true → (list : List ℕ) → list ≡ replicate (length words) 0 → list ≡ listOf m (judged s m .starts)

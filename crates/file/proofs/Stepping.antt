@@ -9,8 +9,9 @@ use lib.ListN.{length, take, drop}
 use borrow.Author.Tests.{le-leb, lt-leb, leb-false}
 use Rattle.text.specs.Choice.{if_then_else_}
 use Rattle.text.proofs.Choices.{came-else}
+use Rattle.refusal.specs.declared.Reason.the-variants.{IdentcodeRepeated, ListFull}
+use Rattle.refusal.specs.Table.{because}
 use Rattle.refusal.specs.declared.Refusal.{Refusal}
-use Rattle.refusal.specs.declared.Refusal.the-variants.{IdentcodeRepeated, ListFull}
 use Rattle.fields.specs.declared.record.Record.{Record}
 use Rattle.fields.specs.declared.record.Due.the-variants.{After}
 use Rattle.line.specs.Parts.{split}
@@ -39,9 +40,9 @@ module _ (s : List ℕ) (words : ℕ) (starts : List ℕ) (state : State) (a : L
   unfolding stepAnswer
   stepped r e = e ∙ ap (λ (x : LineAnswer). onLine x s words starts state) ea
 
-  pub line-stops : (why : Refusal) (place : ℕ) (r : Step) → a ≡ Refused why place → r ≡ handedOn a → r ≡ stepAnswer s words starts state
+  pub line-stops : (refusal : Refusal) (r : Step) → a ≡ Refused refusal → r ≡ handedOn a → r ≡ stepAnswer s words starts state
   unfolding onLine
-  line-stops why place r e er = stepped r (er ∙ rw e)
+  line-stops refusal r e er = stepped r (er ∙ rw e)
 
   module _ (line : Line) (el : a ≡ Accepted line) (codes : List ℕ) (g : Sown s starts (state .parcels) codes)
       (few : state .parcels ≤ 2340) (t : Bool) (et : t ≡ isThereFor (line .kind) s codes (state .parcels) (state .at)) where
@@ -50,14 +51,14 @@ module _ (s : List ℕ) (words : ℕ) (starts : List ℕ) (state : State) (a : L
         et ∙ sown-tells s starts (state .parcels) codes g few (state .at) (line .kind)
         (λ k. accepted-code (toldBy state) s (state .at) a ea line el sound k)
 
-    pub code-stops : t ≡ true → Stopped IdentcodeRepeated (state .at + 4) ≡ stepAnswer s words starts state
+    pub code-stops : t ≡ true → Stopped (because IdentcodeRepeated (state .at + 4)) ≡ stepAnswer s words starts state
     unfolding onLine
-    code-stops e = stepped (Stopped IdentcodeRepeated (state .at + 4)) (rw (el, ← er, e))
+    code-stops e = stepped (Stopped (because IdentcodeRepeated (state .at + 4))) (rw (el, ← er, e))
 
     module _ (fresh : t ≡ false) where
-      pub list-stops : words ≤ state .lines → Stopped ListFull (state .at) ≡ stepAnswer s words starts state
+      pub list-stops : words ≤ state .lines → Stopped (because ListFull (state .at)) ≡ stepAnswer s words starts state
       unfolding onLine
-      list-stops h = stepped (Stopped ListFull (state .at)) (rw (el, ← er, fresh, le-leb words (state .lines) h))
+      list-stops h = stepped (Stopped (because ListFull (state .at))) (rw (el, ← er, fresh, le-leb words (state .lines) h))
 
       pub line-next : state .lines < words → (next : State) → next ≡ behind s state line → Next next ≡ stepAnswer s words starts state
       unfolding onLine
@@ -94,7 +95,7 @@ module _ (s : List ℕ) (state : State) (line : Line) (el : lineAnswer (toldBy s
         lines = state .lines + 1;
         parcels = state .parcels + p;
         cents = state .cents + c;
-          due = After (line .kind);
+        due = After (line .kind);
       } ≡ behind s state line
   behind-is p c ep ec =
       let cash : c ≡ cashOf (line .kind) (split (textAt s (state .at))) =
@@ -109,7 +110,7 @@ pub record Went (s : List ℕ) (words : ℕ) (starts : List ℕ) (state next : S
   pub room : state .lines < words
   pub there : behind s state line ≡ next
 
-pub stopped : {why : Refusal} {place : ℕ} {next : State} → Stopped why place ≡ Next next → ⊥
+pub stopped : {refusal : Refusal} {next : State} → Stopped refusal ≡ Next next → ⊥
 stopped e = let z : _≡_ {A = ℕ} 0 1 = cc in omega arith
 
 pub went : (s : List ℕ) (words : ℕ) (starts : List ℕ) (state next : State) → stepAnswer s words starts state ≡ Next next →
@@ -119,22 +120,22 @@ went s words starts state next e = go (lineAnswer (toldBy state) s (state .at)) 
   where
     go : (a : LineAnswer) → lineAnswer (toldBy state) s (state .at) ≡ a → onLine a s words starts state ≡ Next next →
         Went s words starts state next
-    go (Refused why place) ea e = absurd (stopped e)
+    go (Refused refusal) ea e = absurd (stopped e)
     go (Accepted line) ea e =
         let full = leb words (state .lines) in
-        let a = came-else (repeats (line .kind) s starts (state .at)) (Stopped IdentcodeRepeated (state .at + 4))
-        (if full then Stopped ListFull (state .at) else Next (behind s state line)) (Next next) stopped e in
-        let b = came-else full (Stopped ListFull (state .at)) (Next (behind s state line)) (Next next) stopped (a .1) in
+        let a = came-else (repeats (line .kind) s starts (state .at)) (Stopped (because IdentcodeRepeated (state .at + 4)))
+        (if full then Stopped (because ListFull (state .at)) else Next (behind s state line)) (Next next) stopped e in
+        let b = came-else full (Stopped (because ListFull (state .at))) (Next (behind s state line)) (Next next) stopped (a .1) in
         record { line = line; accepted = ea; fresh = a .0; room = leb-false words (state .lines) (b .0); there = cc }
 
 -- no tree is promised behind a line that stops the judge
-pub stopped-sown : (s starts codes : List ℕ) (why : Refusal) (place : ℕ) (next : State) → Stopped why place ≡ Next next →
+pub stopped-sown : (s starts codes : List ℕ) (refusal : Refusal) (next : State) → Stopped refusal ≡ Next next →
     Sown s starts (next .parcels) codes
-stopped-sown s starts codes why place next e = absurd (stopped e)
+stopped-sown s starts codes refusal next e = absurd (stopped e)
 
-pub handed-sown : (s starts codes : List ℕ) (a : LineAnswer) (why : Refusal) (place : ℕ) (r : Step) → a ≡ Refused why place →
+pub handed-sown : (s starts codes : List ℕ) (a : LineAnswer) (refusal : Refusal) (r : Step) → a ≡ Refused refusal →
     r ≡ handedOn a → (next : State) → r ≡ Next next → Sown s starts (next .parcels) codes
-handed-sown s starts codes a why place r ea er next e = absurd (stopped (sym (er ∙ ap handedOn ea) ∙ e))
+handed-sown s starts codes a refusal r ea er next e = absurd (stopped (sym (er ∙ ap handedOn ea) ∙ e))
 
 pub sown-whole : (s starts : List ℕ) (parcels : ℕ) (codes : List ℕ) → Sown s starts parcels codes → Tree s parcels codes
 sown-whole s starts parcels codes g = g .whole

@@ -5,8 +5,8 @@ use mathlib.Core.List.{List, [], _∷_, _++_}
 use lib.Dec.{ltb}
 use lib.ListN.{length, replicate}
 use Rattle.text.specs.Choice.{if_then_else_}
-use Rattle.refusal.specs.Table.{numberOf, Verdict}
-use Rattle.refusal.specs.declared.Refusal.the-variants.{FileTooLong, FileEnds, NotThere}
+use Rattle.refusal.specs.Table.{because, verdictOf, Verdict}
+use Rattle.refusal.specs.declared.Reason.the-variants.{FileTooLong, FileEnds, NotThere}
 use Rattle.fields.specs.Record.{mayEnd}
 use Rattle.fields.specs.declared.record.Due.the-variants.{First}
 use Rattle.file.specs.Step.{stepAnswer}
@@ -33,12 +33,12 @@ passed starts state =
 abbrev pub ended : List ℕ → List ℕ → State → Judged
 ended s starts state =
     if mayEnd (state .due) then passed starts state
-    else record { answer = Refused FileEnds (length s); starts = [] }
+    else record { answer = Refused (because FileEnds (length s)); starts = [] }
 
 -- a refused line is the file's refusal; behind an accepted one the next follows
 abbrev pub onStep : Step → (State → Judged) → Judged
 onStep (Next state) more = more state
-onStep (Stopped why place) more = record { answer = Refused why place; starts = [] }
+onStep (Stopped refusal) more = record { answer = Refused refusal; starts = [] }
 
 -- the file from a state on, with a list of so many words, behind the lines that start at these places. A file has fewer lines
 -- than bytes, so that as many turns as bytes, and one for the end, are enough.
@@ -52,7 +52,7 @@ fileFrom (suc turns) s words starts state =
 -- "1 comes first of all."
 unfoldable pub judged : List ℕ → ℕ → Judged
 judged s words =
-    if ltb 65535 (length s) then record { answer = Refused FileTooLong 65535; starts = [] }
+    if ltb 65535 (length s) then record { answer = Refused (because FileTooLong 65535); starts = [] }
     else fileFrom (length s + 1) s words [] begin
 
 -- "every word below the line count holds that line's first offset, and every other word is 0. On a refusal all words are 0."
@@ -65,10 +65,10 @@ Judges s words answer list = (answer ≡ judged s words .answer) × (list ≡ li
 
 -- a line's refusal, handed on
 abbrev pub handed : Step → FileAnswer
-handed (Next state) = Refused NotThere 0
-handed (Stopped why place) = Refused why place
+handed (Next state) = Refused (because NotThere 0)
+handed (Stopped refusal) = Refused refusal
 
 -- the paper's number and place for each answer
 abbrev pub fileVerdict : FileAnswer → Verdict
 fileVerdict (Accepted totals) = Verdict.passes
-fileVerdict (Refused why place) = Verdict.refused (numberOf why) place
+fileVerdict (Refused refusal) = verdictOf refusal

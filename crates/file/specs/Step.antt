@@ -3,7 +3,8 @@ use Prim.Native.Nat.{ℕ, _+_}
 use mathlib.Core.List.{List}
 use lib.Dec.{leb}
 use Rattle.text.specs.Choice.{if_then_else_}
-use Rattle.refusal.specs.declared.Refusal.the-variants.{IdentcodeRepeated, ListFull, NotThere}
+use Rattle.refusal.specs.declared.Reason.the-variants.{IdentcodeRepeated, ListFull, NotThere}
+use Rattle.refusal.specs.Table.{because}
 use Rattle.fields.specs.Record.{_isA_}
 use Rattle.fields.specs.declared.record.Record.{Record}
 use Rattle.fields.specs.declared.record.Record.the-variants.{Parcel}
@@ -38,15 +39,15 @@ behind s state line =
 
 -- the line's refusal, handed on
 abbrev pub handedOn : LineAnswer → Step
-handedOn (Accepted line) = Stopped NotThere 0
-handedOn (Refused why place) = Stopped why place
+handedOn (Accepted line) = Stopped (because NotThere 0)
+handedOn (Refused refusal) = Stopped refusal
 
 -- the line's answer, with a list of so many words, behind the lines that start at these places
 unfoldable pub onLine : LineAnswer → List ℕ → ℕ → List ℕ → State → Step
-onLine (Refused why place) s words starts state = Stopped why place
+onLine (Refused refusal) s words starts state = Stopped refusal
 onLine (Accepted line) s words starts state =
-    if repeats (line .kind) s starts (state .at) then Stopped IdentcodeRepeated (state .at + 4)
-    else if leb words (state .lines) then Stopped ListFull (state .at)
+    if repeats (line .kind) s starts (state .at) then Stopped (because IdentcodeRepeated (state .at + 4))
+    else if leb words (state .lines) then Stopped (because ListFull (state .at))
     else Next (behind s state line)
 
 -- what the judge of the next line is told

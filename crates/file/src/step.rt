@@ -15,6 +15,7 @@ use fields::Due;
 use fields::Record;
 use line::Line;
 use line::LineAnswer;
+use refusal::Reason;
 use refusal::Refusal;
 
 // Where the judge is: the next line's offset, what the lines so far have, and what the next line's judge is told.
@@ -28,7 +29,7 @@ pub struct State {
 
 pub enum Step {
     Next(State),
-    Stopped { why: Refusal, place: usize },
+    Stopped(Refusal),
 }
 
 // Judges the line where the state is; the list holds the offsets of the lines before it, and the tree their identcodes.
@@ -49,16 +50,16 @@ pub fn one_line(s: &[u8], words: &[u32], codes: &mut [u32], state: State) -> Ste
     };
     let kind = line.kind;
     if identcode::is_repeated(kind, s, codes, state.parcels, at) {
-        return Step::Stopped {
-            why: Refusal::IdentcodeRepeated,
+        return Step::Stopped(Refusal {
+            why: Reason::IdentcodeRepeated,
             place: at + 4,
-        };
+        });
     }
     if words.len() <= lines {
-        return Step::Stopped {
-            why: Refusal::ListFull,
+        return Step::Stopped(Refusal {
+            why: Reason::ListFull,
             place: at,
-        };
+        });
     }
     Step::Next(behind_line(s, state, line))
 }
@@ -86,11 +87,11 @@ fn refusal_of(answer: LineAnswer) -> Step
     ensures { λ r. ⌜ r ≡ handedOn answer ⌝ }
 {
     match answer {
-        LineAnswer::Accepted(_) => Step::Stopped {
-            why: Refusal::NotThere,
+        LineAnswer::Accepted(_) => Step::Stopped(Refusal {
+            why: Reason::NotThere,
             place: 0,
-        },
-        LineAnswer::Refused { why, place } => Step::Stopped { why, place },
+        }),
+        LineAnswer::Refused(refusal) => Step::Stopped(refusal),
     }
 }
 

@@ -8,6 +8,7 @@ use crate::step;
 use crate::step::State;
 use crate::step::Step;
 use fields::Due;
+use refusal::Reason;
 use refusal::Refusal;
 
 pub struct Totals {
@@ -18,7 +19,7 @@ pub struct Totals {
 
 pub enum FileAnswer {
     Accepted(Totals),
-    Refused { why: Refusal, place: usize },
+    Refused(Refusal),
 }
 
 // Judges a file. Accepted, each word of the list below the number of lines is that line's offset and every other word is 0;
@@ -28,10 +29,10 @@ pub fn judge(s: &[u8], words: &mut [u32]) -> FileAnswer
 {
     list::clear(words);
     if 65535 < s.len() {
-        return FileAnswer::Refused {
-            why: Refusal::FileTooLong,
+        return FileAnswer::Refused(Refusal {
+            why: Reason::FileTooLong,
             place: 65535,
-        };
+        });
     }
     // A file has at most 2,340 parcels.
     let mut codes = [0u32; 4681];
@@ -64,10 +65,10 @@ fn run(s: &[u8], words: &mut [u32], codes: &mut [u32]) -> FileAnswer
     let due = state.due;
     if !fields::may_end(due) {
         list::clear(words);
-        return FileAnswer::Refused {
-            why: Refusal::FileEnds,
+        return FileAnswer::Refused(Refusal {
+            why: Reason::FileEnds,
             place: s.len(),
-        };
+        });
     }
     FileAnswer::Accepted(Totals {
         lines: state.lines,
@@ -81,10 +82,10 @@ fn refusal_of(step: Step) -> FileAnswer
     ensures { λ r. ⌜ r ≡ handed step ⌝ }
 {
     match step {
-        Step::Next(_) => FileAnswer::Refused {
-            why: Refusal::NotThere,
+        Step::Next(_) => FileAnswer::Refused(Refusal {
+            why: Reason::NotThere,
             place: 0,
-        },
-        Step::Stopped { why, place } => FileAnswer::Refused { why, place },
+        }),
+        Step::Stopped(refusal) => FileAnswer::Refused(refusal),
     }
 }

@@ -15,8 +15,9 @@ use Rattle.text.specs.Scan.{all}
 use Rattle.text.proofs.Choices.{and-left, and-right, and-both, came-then, came-else, true-or-false}
 use Rattle.text.proofs.Runs.{all-append}
 use Rattle.text.proofs.Numbers.{eq-or-ne}
+use Rattle.refusal.specs.declared.Reason.{Reason}
+use Rattle.refusal.specs.declared.Reason.the-variants.{FieldTooLong, FieldEmpty, FieldForm}
 use Rattle.refusal.specs.declared.Refusal.{Refusal}
-use Rattle.refusal.specs.declared.Refusal.the-variants.{FieldTooLong, FieldEmpty, FieldForm}
 use Rattle.fields.specs.Record.{typeOf}
 use Rattle.fields.specs.Profile.{isRequired, hasForm, Row, profile, widthOf, Rules}
 use Rattle.fields.specs.Field.{tested}
@@ -31,10 +32,10 @@ use Rattle.line.specs.declared.walk.Walk.the-variants.{Fine, Stopped}
 use Rattle.grammar.specs.Grammar.{joined, plain, FieldOk, FieldsOk, LineOk, fieldNo}
 use Rattle.grammar.proofs.Splits.{allIn}
 
-bad : {why : Refusal} → Bad why ≡ Good → ⊥
+bad : {why : Reason} → Bad why ≡ Good → ⊥
 bad e = let z : _≡_ {A = ℕ} 0 1 = cc in omega arith
 
-stopped : {why : Refusal} {place : ℕ} → Stopped why place ≡ Fine → ⊥
+stopped : {refusal : Refusal} → Stopped refusal ≡ Fine → ⊥
 stopped e = let z : _≡_ {A = ℕ} 0 1 = cc in omega arith
 
 module _ (rows : List Row) (n : ℕ) (beside f : List ℕ) where

@@ -10,23 +10,23 @@ use lib.Seq.{drop-drop, take-append-seam, drop-append-seam}
 use borrow.Author.Tests.{le-ltb, lt-ltb, eq-eqb, ne-eqb}
 use Rattle.text.specs.Quoted.{bytes}
 use Rattle.text.proofs.Numbers.{le-or-lt}
+use Rattle.refusal.specs.declared.Reason.{Reason}
+use Rattle.refusal.specs.declared.Reason.the-variants.{NotThere}
+use Rattle.refusal.specs.Table.{because}
 use Rattle.refusal.specs.declared.Refusal.{Refusal}
-use Rattle.refusal.specs.declared.Refusal.the-variants.{NotThere}
+use Rattle.refusal.proofs.Verdicts.{no-pass}
 use Rattle.fields.specs.Record.{typeOf}
 use Rattle.fields.specs.Profile.{Rules}
 use Rattle.line.specs.Parts.{startIn, startOf, fieldsOf}
 use Rattle.line.specs.Line.{textAt, lineAnswer, alone}
-use Rattle.line.specs.Find.{inLine, fieldAnswer}
+use Rattle.line.specs.Find.{inLine, fieldAnswer, fieldVerdict}
 use Rattle.line.specs.Told.{Told}
 use Rattle.line.specs.declared.read.Line.{Line}
 use Rattle.line.specs.declared.read.LineAnswer.{LineAnswer}
 use Rattle.line.specs.declared.read.LineAnswer.the-variants.{Accepted, Refused}
-use Rattle.line.specs.declared.find.FieldAnswer.the-variants.{Found, NotFound}
+use Rattle.line.specs.declared.find.FieldAnswer.the-variants.{Found, Refused}
 use Rattle.grammar.specs.Grammar.{joined, textOf, fieldNo, Reads, Finds}
 use Rattle.grammar.proofs.Lines.{accepted-reads, reads-accepted, reads-alone, read-parts, read-field}
-
-not-found : {why : Refusal} {place start long : ℕ} → NotFound why place ≡ Found start long → ⊥
-not-found e = let z : _≡_ {A = ℕ} 0 1 = cc in omega arith
 
 -- the bytes in front of a field
 start-joined : (fs : List (List ℕ)) (m : ℕ) → startIn fs m ≡ length (joined (take m fs))
@@ -83,7 +83,7 @@ module _ {told : Told} {s : List ℕ} {at : ℕ} {line : Line} {fs : List (List 
         )
 
     -- a number that no field has is 15 at 0
-    pub field-not-there : (1 ≤ n → n ≤ length fs → ⊥) → fieldAnswer (told .rules) s at n ≡ NotFound NotThere 0
+    pub field-not-there : (1 ≤ n → n ≤ length fs → ⊥) → fieldAnswer (told .rules) s at n ≡ Refused (because NotThere 0)
     unfolding fieldAnswer inLine
     field-not-there h =
         ⊎-elim
@@ -98,8 +98,8 @@ module _ {told : Told} {s : List ℕ} {at : ℕ} {line : Line} {fs : List (List 
       found-finds e =
           ⊎-elim
           (λ (l : 1 ≤ n). ⊎-elim (λ (m : n ≤ length fs). go l m (sym (found l m) ∙ e))
-          (λ m. absurd (not-found (sym (field-not-there (λ x y. omega arith)) ∙ e))) (le-or-lt n (length fs)))
-          (λ l. absurd (not-found (sym (field-not-there (λ x y. omega arith)) ∙ e)))
+          (λ m. absurd (no-pass fieldVerdict refl refl (sym (field-not-there (λ x y. omega arith)) ∙ e))) (le-or-lt n (length fs)))
+          (λ l. absurd (no-pass fieldVerdict refl refl (sym (field-not-there (λ x y. omega arith)) ∙ e)))
           (le-or-lt 1 n)
         where
           go : 1 ≤ n → n ≤ length fs → Found (at + length (front (n - 1))) (length (fieldNo fs n)) ≡ Found start long →
@@ -117,10 +117,10 @@ module _ {told : Told} {s : List ℕ} {at : ℕ} {line : Line} {fs : List (List 
       field-exactly = (found-finds, finds-found)
 
 -- "hands its refusal on"
-pub field-refused : (rules : Rules) (s : List ℕ) (at n : ℕ) (why : Refusal) (place : ℕ) → lineAnswer (alone rules) s at ≡ Refused why place →
-    fieldAnswer rules s at n ≡ NotFound why place
+pub field-refused : (rules : Rules) (s : List ℕ) (at n : ℕ) (refusal : Refusal) → lineAnswer (alone rules) s at ≡ Refused refusal →
+    fieldAnswer rules s at n ≡ Refused refusal
 unfolding fieldAnswer inLine
-field-refused rules s at n why place e = rw e
+field-refused rules s at n refusal e = rw e
 
 -- a field is found exactly when an allowed line stands at the offset and the field stands in it
 pub found-exactly :
@@ -130,5 +130,5 @@ found-exactly rules s at n start long = (λ e. go (lineAnswer (alone rules) s at
   where
     go : (a : LineAnswer) → lineAnswer (alone rules) s at ≡ a → fieldAnswer rules s at n ≡ Found start long →
         (line : Line) × ((fs : List (List ℕ)) × (Reads (alone rules) s at line fs × Finds (line .kind) fs s at n start long))
-    go (Refused why place) q e = absurd (not-found (sym (field-refused rules s at n why place q) ∙ e))
+    go (Refused refusal) q e = absurd (no-pass fieldVerdict refl refl (sym (field-refused rules s at n refusal q) ∙ e))
     go (Accepted line) q e = let g = accepted-reads (alone rules) s at line q in (line, (fieldsOf (textAt s at), (g, found-finds g n start long e)))

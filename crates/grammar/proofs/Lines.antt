@@ -15,7 +15,9 @@ use Rattle.text.specs.Quoted.{bytes}
 use Rattle.text.specs.Scan.{all}
 use Rattle.text.proofs.Choices.{and-left, came-else}
 use Rattle.text.proofs.Runs.{run-once}
-use Rattle.refusal.specs.declared.Refusal.the-variants.{FileTooLong, NoLineEnd}
+use Rattle.refusal.specs.declared.Reason.the-variants.{FileTooLong, NoLineEnd}
+use Rattle.refusal.specs.Table.{because}
+use Rattle.refusal.proofs.Verdicts.{no-pass}
 use Rattle.forms.specs.Shape.{digits, allDigits}
 use Rattle.fields.specs.Record.{typeOf, mayCome}
 use Rattle.fields.specs.Profile.{profile, isRequired, hasForm, Rules}
@@ -23,13 +25,13 @@ use Rattle.fields.specs.declared.record.Due.{Due}
 use Rattle.fields.specs.declared.record.Record.{Record}
 use Rattle.fields.specs.declared.record.Record.the-variants.{Parcel}
 use Rattle.line.specs.Parts.{split, partAt, nameOf, fieldsOf}
-use Rattle.line.specs.Line.{lineEnd, endsWell, textAt, ofText, lineAnswer, alone}
+use Rattle.line.specs.Line.{lineEnd, endsWell, textAt, ofText, lineAnswer, alone, lineVerdict}
 use Rattle.line.specs.Told.{Told}
 use Rattle.line.specs.declared.read.Line.{Line}
 use Rattle.line.specs.declared.read.LineAnswer.the-variants.{Accepted, Refused}
 use Rattle.grammar.specs.Grammar.{joined, textOf, render, fieldNo, LineOk, Reads, Sound}
 use Rattle.grammar.proofs.Ends.{ended, ends-at, ends-well, text-there}
-use Rattle.grammar.proofs.Texts.{refused, type-long, type-tells, text-split, text-bytes, text-accepted, accepted-text}
+use Rattle.grammar.proofs.Texts.{type-long, type-tells, text-split, text-bytes, text-accepted, accepted-text}
 
 pub render-long : (kind : Record) (fs : List (List ℕ)) → length (render kind fs) ≡ length (textOf kind fs) + 2
 render-long kind fs = length-append (textOf kind fs) (bytes "\r\n")
@@ -41,11 +43,11 @@ unfolding lineAnswer
 accepted-reads told s at line e =
     let text = textAt s at in
     let end = lineEnd s at in
-    let ending = if not (endsWell s end) then Refused NoLineEnd end else ofText told at text in
-    let inside = if ltb (length s) at then Refused NoLineEnd (length s) else ending in
-    let a = came-else (ltb 65535 (length s)) (Refused FileTooLong 65535) inside (Accepted line) refused e in
-    let b = came-else (ltb (length s) at) (Refused NoLineEnd (length s)) ending (Accepted line) refused (a .1) in
-    let c = came-else (not (endsWell s end)) (Refused NoLineEnd end) (ofText told at text) (Accepted line) refused (b .1) in
+    let ending = if not (endsWell s end) then Refused (because NoLineEnd end) else ofText told at text in
+    let inside = if ltb (length s) at then Refused (because NoLineEnd (length s)) else ending in
+    let a = came-else (ltb 65535 (length s)) (Refused (because FileTooLong 65535)) inside (Accepted line) (no-pass lineVerdict refl refl) e in
+    let b = came-else (ltb (length s) at) (Refused (because NoLineEnd (length s))) ending (Accepted line) (no-pass lineVerdict refl refl) (a .1) in
+    let c = came-else (not (endsWell s end)) (Refused (because NoLineEnd end)) (ofText told at text) (Accepted line) (no-pass lineVerdict refl refl) (b .1) in
     let d = ended s at (not-false (endsWell s end) (c .0)) in
     let g = accepted-text at text line told (d .text) (c .1) in
     record {

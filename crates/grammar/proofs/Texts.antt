@@ -12,8 +12,10 @@ use Rattle.text.specs.Scan.{all, same}
 use Rattle.text.proofs.Choices.{and-right, came-else}
 use Rattle.text.proofs.Runs.{all-append}
 use Rattle.text.proofs.Scans.{same-eq}
+use Rattle.refusal.specs.declared.Reason.the-variants.{OutOfOrder, FieldCount, FeatureLacks}
+use Rattle.refusal.specs.Table.{because}
 use Rattle.refusal.specs.declared.Refusal.{Refusal}
-use Rattle.refusal.specs.declared.Refusal.the-variants.{OutOfOrder, FieldCount, FeatureLacks}
+use Rattle.refusal.proofs.Verdicts.{no-pass}
 use Rattle.fields.specs.Profile.{profile, Rules}
 use Rattle.fields.specs.Record.{typeOf, named, countFits, mayCome}
 use Rattle.fields.specs.declared.record.Record.{Record}
@@ -23,7 +25,7 @@ use Rattle.fields.specs.declared.record.Named.the-variants.{Known, Unknown}
 use Rattle.line.specs.Parts.{split, nameOf, fieldsOf, inField}
 use Rattle.line.specs.Walk.{walk}
 use Rattle.line.specs.Need.{lacks}
-use Rattle.line.specs.Line.{afterWalk, ofKind, ofNamed, ofText}
+use Rattle.line.specs.Line.{afterWalk, ofKind, ofNamed, ofText, lineVerdict}
 use Rattle.line.specs.declared.walk.Walk.{Walk}
 use Rattle.line.specs.declared.walk.Walk.the-variants.{Fine, Stopped}
 use Rattle.fields.specs.declared.record.Due.{Due}
@@ -34,9 +36,6 @@ use Rattle.grammar.specs.Grammar.{joined, textOf, plain, FieldsOk, LineO
 use Rattle.grammar.proofs.Splits.{split-some, join-split, allIn, split-joined}
 use Rattle.grammar.proofs.Fields.{fine-fields, fields-fine, fields-plain, all-also, all-in-also, plain-text}
 use Rattle.grammar.proofs.Fields.{plain-in-field, joined-text, split-plain}
-
-pub refused : {why : Refusal} {place : ℕ} {line : Line} → Refused why place ≡ Accepted line → ⊥
-refused e = let z : _≡_ {A = ℕ} 0 1 = cc in omega arith
 
 -- each record has its own type
 pub type-named : (kind : Record) → named (typeOf kind) ≡ Known kind
@@ -135,18 +134,18 @@ module _ (at : ℕ) (text : List ℕ) (line : Line) where
             at + length text + 2;
       } ≡ line))
   unfolding afterWalk
-  after-fine (Stopped why place) kind e = absurd (refused e)
+  after-fine (Stopped refusal) kind e = absurd (no-pass lineVerdict refl refl e)
   after-fine Fine kind e =
-      let a = came-else (lacks kind (split text)) (Refused FeatureLacks at)
-      (Accepted (record { kind = kind; count = length (fieldsOf text); next = at + length text + 2 })) (Accepted line) refused e in
+      let a = came-else (lacks kind (split text)) (Refused (because FeatureLacks at))
+      (Accepted (record { kind = kind; count = length (fieldsOf text); next = at + length text + 2 })) (Accepted line) (no-pass lineVerdict refl refl) e in
       (refl, (a .0, cc))
 
   of-known : (told : Told) (m : Named) → ofNamed m told at text ≡ Accepted line →
       (kind : Record) × ((m ≡ Known kind) × ((mayCome (told .due) kind ≡ true) × (ofKind (told .rules) kind at text ≡ Accepted line)))
   unfolding ofNamed
-  of-known told Unknown e = absurd (refused e)
+  of-known told Unknown e = absurd (no-pass lineVerdict refl refl e)
   of-known told (Known kind) e =
-      let a = came-else (not (mayCome (told .due) kind)) (Refused OutOfOrder at) (ofKind (told .rules) kind at text) (Accepted line) refused e in
+      let a = came-else (not (mayCome (told .due) kind)) (Refused (because OutOfOrder at)) (ofKind (told .rules) kind at text) (Accepted line) (no-pass lineVerdict refl refl) e in
       (kind, (refl, (not-false (mayCome (told .due) kind) (a .0), a .1)))
 
   of-kind : (told : Told) (kind : Record) → all textByte text ≡ true → nameOf text ≡ typeOf kind → mayCome (told .due) kind ≡ true →
@@ -154,8 +153,8 @@ module _ (at : ℕ) (text : List ℕ) (line : Line) where
   unfolding ofKind
   of-kind told kind p name m e =
       let walked = walk (told .rules kind) 1 (at + length (nameOf text) + 1) (nameOf text) (fieldsOf text) in
-      let a = came-else (not (countFits kind (length (fieldsOf text)))) (Refused FieldCount at) (afterWalk walked kind at text)
-      (Accepted line) refused e in
+      let a = came-else (not (countFits kind (length (fieldsOf text)))) (Refused (because FieldCount at)) (afterWalk walked kind at text)
+      (Accepted line) (no-pass lineVerdict refl refl) e in
       let w = after-fine walked kind (a .1) in
       let clean : allIn plain (nameOf text ∷ fieldsOf text) ≡ true = ap (allIn plain) (sym (split-some text)) ∙ split-plain text p in
       let fine = fine-fields (told .rules kind) 1 (at + length (nameOf text) + 1) (nameOf text) (fieldsOf text)

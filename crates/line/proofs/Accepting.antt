@@ -11,8 +11,10 @@ use Rattle.text.specs.Byte.{textByte}
 use Rattle.text.specs.Choice.{if_then_else_}
 use Rattle.text.proofs.Choices.{came-else}
 use Rattle.text.proofs.Runs.{first-least, first-most}
+use Rattle.refusal.specs.declared.Reason.the-variants.{FileTooLong, NoLineEnd, OutOfOrder, FieldCount, FeatureLacks}
+use Rattle.refusal.specs.Table.{because}
 use Rattle.refusal.specs.declared.Refusal.{Refusal}
-use Rattle.refusal.specs.declared.Refusal.the-variants.{FileTooLong, NoLineEnd, OutOfOrder, FieldCount, FeatureLacks}
+use Rattle.refusal.proofs.Verdicts.{no-pass}
 use Rattle.fields.specs.Profile.{profile}
 use Rattle.fields.specs.Record.{named, countFits, mayCome}
 use Rattle.fields.specs.declared.record.Record.{Record}
@@ -21,16 +23,13 @@ use Rattle.fields.specs.declared.record.Named.the-variants.{Known, Unknown}
 use Rattle.line.specs.Parts.{split, nameOf, fieldsOf}
 use Rattle.line.specs.Walk.{walk}
 use Rattle.line.specs.Need.{lacks}
-use Rattle.line.specs.Line.{lineEnd, endsWell, textAt, afterWalk, ofKind, ofNamed, ofText, lineAnswer}
+use Rattle.line.specs.Line.{lineEnd, endsWell, textAt, afterWalk, ofKind, ofNamed, ofText, lineAnswer, lineVerdict}
 use Rattle.line.specs.declared.walk.Walk.{Walk}
 use Rattle.line.specs.declared.walk.Walk.the-variants.{Fine, Stopped}
 use Rattle.line.specs.declared.read.Line.{Line}
 use Rattle.line.specs.Told.{Told}
 use Rattle.line.specs.declared.read.LineAnswer.{LineAnswer}
 use Rattle.line.specs.declared.read.LineAnswer.the-variants.{Accepted, Refused}
-
-pub refused : {why : Refusal} {place : ℕ} {l : Line} → Refused why place ≡ Accepted l → ⊥
-refused e = let z : _≡_ {A = ℕ} 0 1 = cc in omega arith
 
 -- the text of an accepted line
 pub record TextOk (told : Told) (at : ℕ) (line : List ℕ) (l : Line) : Type 0 where
@@ -56,17 +55,17 @@ module _ (told : Told) (at : ℕ) (line : List ℕ) (l : Line) where
   kind-ok kind en ec e =
       let fits = countFits kind (length (fieldsOf line)) in
       let w = walk (told .rules kind) 1 (at + length (nameOf line) + 1) (nameOf line) (fieldsOf line) in
-      let a = came-else (not fits) (Refused FieldCount at) (afterWalk w kind at line) (Accepted l) refused e in
+      let a = came-else (not fits) (Refused (because FieldCount at)) (afterWalk w kind at line) (Accepted l) (no-pass lineVerdict refl refl) e in
       after w refl (not-false fits (a .0)) (a .1)
     where
       after :
           (w : Walk) → walk (told .rules kind) 1 (at + length (nameOf line) + 1) (nameOf line) (fieldsOf line) ≡ w →
           countFits kind (length (fieldsOf line)) ≡ true →
           afterWalk w kind at line ≡ Accepted l → TextOk told at line l
-      after (Stopped why place) ew ef ea = absurd (refused ea)
+      after (Stopped refusal) ew ef ea = absurd (no-pass lineVerdict refl refl ea)
       after Fine ew ef ea =
-          let b = came-else (lacks kind (split line)) (Refused FeatureLacks at)
-          (Accepted (record { kind = kind; count = length (fieldsOf line); next = at + length line + 2 })) (Accepted l) refused ea in
+          let b = came-else (lacks kind (split line)) (Refused (because FeatureLacks at))
+          (Accepted (record { kind = kind; count = length (fieldsOf line); next = at + length line + 2 })) (Accepted l) (no-pass lineVerdict refl refl) ea in
           let same : record { kind = kind; count = length (fieldsOf line); next = at + length line + 2 } ≡ l = cc in
           let k : kind ≡ l .kind = ap (λ (x : Line). x .kind) same in
           record {
@@ -81,9 +80,9 @@ module _ (told : Told) (at : ℕ) (line : List ℕ) (l : Line) where
 
   named-ok : (nd : Named) → named (nameOf line) ≡ nd → ofNamed nd told at line ≡ Accepted l → TextOk told at line l
   unfolding ofNamed
-  named-ok Unknown en e = absurd (refused e)
+  named-ok Unknown en e = absurd (no-pass lineVerdict refl refl e)
   named-ok (Known kind) en e =
-      let a = came-else (not (mayCome (told .due) kind)) (Refused OutOfOrder at) (ofKind (told .rules) kind at line) (Accepted l) refused e in
+      let a = came-else (not (mayCome (told .due) kind)) (Refused (because OutOfOrder at)) (ofKind (told .rules) kind at line) (Accepted l) (no-pass lineVerdict refl refl) e in
       kind-ok kind en (not-false (mayCome (told .due) kind) (a .0)) (a .1)
 
   pub text-ok : ofText told at line ≡ Accepted l → TextOk told at line l
@@ -95,11 +94,11 @@ unfolding lineAnswer
 line-ok told s at l e =
     let text = ofText told at (textAt s at) in
     let well = endsWell s (lineEnd s at) in
-    let end = if not well then Refused NoLineEnd (lineEnd s at) else text in
-    let a = came-else (ltb 65535 (length s)) (Refused FileTooLong 65535) (if ltb (length s) at then Refused NoLineEnd (length s) else end)
-    (Accepted l) refused e in
-    let b = came-else (ltb (length s) at) (Refused NoLineEnd (length s)) end (Accepted l) refused (a .1) in
-    let c = came-else (not well) (Refused NoLineEnd (lineEnd s at)) text (Accepted l) refused (b .1) in
+    let end = if not well then Refused (because NoLineEnd (lineEnd s at)) else text in
+    let a = came-else (ltb 65535 (length s)) (Refused (because FileTooLong 65535)) (if ltb (length s) at then Refused (because NoLineEnd (length s)) else end)
+    (Accepted l) (no-pass lineVerdict refl refl) e in
+    let b = came-else (ltb (length s) at) (Refused (because NoLineEnd (length s))) end (Accepted l) (no-pass lineVerdict refl refl) (a .1) in
+    let c = came-else (not well) (Refused (because NoLineEnd (lineEnd s at))) text (Accepted l) (no-pass lineVerdict refl refl) (b .1) in
     record {
       short = ltb-false 65535 (length s) (a .0);
       inside = ltb-false (length s) at (b .0);

@@ -4,8 +4,9 @@ use mathlib.Core.Path.{_≡_, ap, _∙_}
 use mathlib.Core.List.{List}
 use lib.ListN.{length, take, drop}
 use borrow.Author.Tests.{lt-ltb, le-ltb, eq-eqb, ne-eqb}
+use Rattle.refusal.specs.declared.Reason.the-variants.{NotThere}
+use Rattle.refusal.specs.Table.{because}
 use Rattle.refusal.specs.declared.Refusal.{Refusal}
-use Rattle.refusal.specs.declared.Refusal.the-variants.{NotThere}
 use Rattle.fields.specs.Profile.{Rules}
 use Rattle.line.specs.Parts.{startOf, partAt}
 use Rattle.line.specs.Line.{lineAnswer, alone}
@@ -15,7 +16,7 @@ use Rattle.line.specs.declared.read.Line.{Line}
 use Rattle.line.specs.declared.read.LineAnswer.{LineAnswer}
 use Rattle.line.specs.declared.read.LineAnswer.the-variants.{Accepted, Refused}
 use Rattle.line.specs.declared.find.FieldAnswer.{FieldAnswer}
-use Rattle.line.specs.declared.find.FieldAnswer.the-variants.{Found, NotFound}
+use Rattle.line.specs.declared.find.FieldAnswer.the-variants.{Found, Refused}
 
 pub handed-as : (a case : LineAnswer) (r : FieldAnswer) → a ≡ case → r ≡ handedOn case → r ≡ handedOn a
 handed-as a case r e f = rw e f
@@ -25,16 +26,16 @@ pub found-is : (at n start : ℕ) (line f : List ℕ) → start ≡ startOf line
 found-is at n start line f es ef = rw (es, ef)
 
 module _ (rules : Rules) (s : List ℕ) (at n : ℕ) (a : LineAnswer) (ea : a ≡ lineAnswer (alone rules) s at) where
-  pub handed-on : (why : Refusal) (place : ℕ) (r : FieldAnswer) → a ≡ Refused why place → r ≡ handedOn a → r ≡ fieldAnswer rules s at n
+  pub handed-on : (refusal : Refusal) (r : FieldAnswer) → a ≡ Refused refusal → r ≡ handedOn a → r ≡ fieldAnswer rules s at n
   unfolding fieldAnswer inLine
-  handed-on why place r e er = er ∙ rw (← ea, e)
+  handed-on refusal r e er = er ∙ rw (← ea, e)
 
   module _ (line : Line) (el : a ≡ Accepted line) where
-    pub no-number : n ≡ 0 → NotFound NotThere 0 ≡ fieldAnswer rules s at n
+    pub no-number : n ≡ 0 → Refused (because NotThere 0) ≡ fieldAnswer rules s at n
     unfolding fieldAnswer inLine
     no-number e = rw (← ea, el, eq-eqb n 0 e)
 
-    pub above-count : (n ≡ 0 → ⊥) → line .count < n → NotFound NotThere 0 ≡ fieldAnswer rules s at n
+    pub above-count : (n ≡ 0 → ⊥) → line .count < n → Refused (because NotThere 0) ≡ fieldAnswer rules s at n
     unfolding fieldAnswer inLine
     above-count m h = rw (← ea, el, ne-eqb n 0 m, lt-ltb (line .count) n h)
 

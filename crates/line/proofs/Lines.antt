@@ -10,8 +10,9 @@ use borrow.Author.Tests.{lt-ltb, le-ltb}
 use Rattle.text.specs.Quoted.{bytes}
 use Rattle.text.specs.Scan.{count, same}
 use Rattle.text.proofs.Scans.{pair-unlike}
+use Rattle.refusal.specs.declared.Reason.the-variants.{FileTooLong, NoLineEnd, UnknownRecord, OutOfOrder, FieldCount, FeatureLacks}
+use Rattle.refusal.specs.Table.{because}
 use Rattle.refusal.specs.declared.Refusal.{Refusal}
-use Rattle.refusal.specs.declared.Refusal.the-variants.{FileTooLong, NoLineEnd, UnknownRecord, OutOfOrder, FieldCount, FeatureLacks}
 use Rattle.fields.specs.Profile.{profile, Rules}
 use Rattle.fields.specs.Record.{named, countFits, mayCome}
 use Rattle.fields.specs.declared.record.Record.{Record}
@@ -47,7 +48,7 @@ module _ (rules : Rules) (kind : Record) (at : ℕ) (line : List ℕ) (n : ℕ) 
   fits : t ≡ countFits kind (length (fieldsOf line))
   fits = et ∙ ap (countFits kind) (count-fields n line en)
 
-  pub count-wrong : not t ≡ true → Refused FieldCount at ≡ ofKind rules kind at line
+  pub count-wrong : not t ≡ true → Refused (because FieldCount at) ≡ ofKind rules kind at line
   unfolding ofKind
   count-wrong e = rw (← fits, e)
 
@@ -56,14 +57,14 @@ module _ (rules : Rules) (kind : Record) (at : ℕ) (line : List ℕ) (n : ℕ) 
     unfolding ofKind
     walked a e = rw (← fits, right) (e ∙ ap (λ (v : Walk). afterWalk v kind at line) ew)
 
-    pub field-wrong : (why : Refusal) (place : ℕ) → w ≡ Stopped why place → Refused why place ≡ ofKind rules kind at line
+    pub field-wrong : (refusal : Refusal) → w ≡ Stopped refusal → Refused refusal ≡ ofKind rules kind at line
     unfolding afterWalk
-    field-wrong why place e = walked (Refused why place) (rw e)
+    field-wrong refusal e = walked (Refused refusal) (rw e)
 
     module _ (fine : w ≡ Fine) (u : Bool) (eu : u ≡ lacks kind (split line)) where
-      pub lacks-one : u ≡ true → Refused FeatureLacks at ≡ ofKind rules kind at line
+      pub lacks-one : u ≡ true → Refused (because FeatureLacks at) ≡ ofKind rules kind at line
       unfolding afterWalk
-      lacks-one e = walked (Refused FeatureLacks at) (rw (fine, ← eu, e))
+      lacks-one e = walked (Refused (because FeatureLacks at)) (rw (fine, ← eu, e))
 
       pub has-all : u ≡ false → Accepted (record { kind = kind; count = n; next = at + length line + 2 }) ≡ ofKind rules kind at line
       unfolding afterWalk
@@ -76,14 +77,14 @@ module _ (told : Told) (at : ℕ) (line name : List ℕ) (en : name ≡ nameOf l
   unfolding ofText
   typed a e = e ∙ ap (λ (m : Named). ofNamed m told at line) (ed ∙ ap named en)
 
-  pub type-unknown : nd ≡ Unknown → Refused UnknownRecord at ≡ ofText told at line
+  pub type-unknown : nd ≡ Unknown → Refused (because UnknownRecord at) ≡ ofText told at line
   unfolding ofNamed
-  type-unknown e = typed (Refused UnknownRecord at) (rw e)
+  type-unknown e = typed (Refused (because UnknownRecord at)) (rw e)
 
   module _ (kind : Record) (known : nd ≡ Known kind) (t : Bool) (et : t ≡ mayCome (told .due) kind) where
-    pub out-of-order : not t ≡ true → Refused OutOfOrder at ≡ ofText told at line
+    pub out-of-order : not t ≡ true → Refused (because OutOfOrder at) ≡ ofText told at line
     unfolding ofNamed
-    out-of-order e = typed (Refused OutOfOrder at) (rw (known, ← et, e))
+    out-of-order e = typed (Refused (because OutOfOrder at)) (rw (known, ← et, e))
 
     pub in-order : not t ≡ false → (a : LineAnswer) → a ≡ ofKind (told .rules) kind at line → a ≡ ofText told at line
     unfolding ofNamed
@@ -91,17 +92,17 @@ module _ (told : Told) (at : ℕ) (line name : List ℕ) (en : name ≡ nameOf l
 
 -- the file's length, the offset, the line's end
 module _ (told : Told) (s : List ℕ) (at : ℕ) where
-  pub file-long : 65535 < length s → lineAnswer told s at ≡ Refused FileTooLong 65535
+  pub file-long : 65535 < length s → lineAnswer told s at ≡ Refused (because FileTooLong 65535)
   unfolding lineAnswer
   file-long h = simp (lt-ltb 65535 (length s))
 
   module _ (h : length s ≤ 65535) where
-    pub past-file : length s < at → lineAnswer told s at ≡ Refused NoLineEnd (length s)
+    pub past-file : length s < at → lineAnswer told s at ≡ Refused (because NoLineEnd (length s))
     unfolding lineAnswer
     past-file l = simp (le-ltb 65535 (length s), lt-ltb (length s) at)
 
     module _ (l : at ≤ length s) (end : ℕ) (ee : end ≡ lineEnd s at) (t : Bool) (et : t ≡ endsWell s end) where
-      pub no-end : not t ≡ true → Refused NoLineEnd end ≡ lineAnswer told s at
+      pub no-end : not t ≡ true → Refused (because NoLineEnd end) ≡ lineAnswer told s at
       unfolding lineAnswer
       no-end e = simp (le-ltb 65535 (length s), le-ltb (length s) at, ← ee, ← et, e)
 

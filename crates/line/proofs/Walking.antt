@@ -5,7 +5,8 @@ use mathlib.Core.List.{List}
 use native.Mathlib.Numerals.{add-one}
 use native.Mathlib.Omega.{arith}
 use lib.ListN.{length, take, drop}
-use Rattle.refusal.specs.declared.Refusal.{Refusal}
+use Rattle.refusal.specs.declared.Reason.{Reason}
+use Rattle.refusal.specs.Table.{because}
 use Rattle.fields.specs.Profile.{Row}
 use Rattle.fields.specs.Field.{tested}
 use Rattle.fields.specs.declared.field.Tested.{Tested}
@@ -42,7 +43,7 @@ module _ (rows : List Row) (line : List ℕ) (at number beside start : ℕ) (who
         rw (et, ee)
         (sym (ap (walk rows number (at + start) (take (start - 1 - beside) (drop beside line))) (rest-step line start h)) ∙ left)
 
-    pub walk-stops : (why : Refusal) → t ≡ Bad why → Stopped why (at + start) ≡ whole
+    pub walk-stops : (why : Reason) → t ≡ Bad why → Stopped (because why (at + start)) ≡ whole
     walk-stops why e = rw e at turn
 
     pub walk-on : t ≡ Good → Left rows line at (number + 1) start (end + 1) whole

@@ -5,25 +5,25 @@ use mathlib.Core.List.{List}
 use lib.Dec.{ltb, eqb}
 use lib.ListN.{length}
 use Rattle.text.specs.Choice.{if_then_else_}
-use Rattle.refusal.specs.Table.{numberOf, Verdict}
-use Rattle.refusal.specs.declared.Refusal.the-variants.{NotThere}
+use Rattle.refusal.specs.Table.{because, verdictOf, Verdict}
+use Rattle.refusal.specs.declared.Reason.the-variants.{NotThere}
 use Rattle.fields.specs.Profile.{Rules}
 use Rattle.line.specs.Parts.{startOf, partAt}
 use Rattle.line.specs.Line.{textAt, alone, lineAnswer}
 use Rattle.line.specs.declared.read.LineAnswer.{LineAnswer}
 use Rattle.line.specs.declared.read.LineAnswer.the-variants.{Accepted, Refused}
 use Rattle.line.specs.declared.find.FieldAnswer.{FieldAnswer}
-use Rattle.line.specs.declared.find.FieldAnswer.the-variants.{Found, NotFound}
+use Rattle.line.specs.declared.find.FieldAnswer.the-variants.{Found, Refused}
 
 -- the line's refusal, handed on
 abbrev pub handedOn : LineAnswer → FieldAnswer
-handedOn (Accepted line) = NotFound NotThere 0
-handedOn (Refused why place) = NotFound why place
+handedOn (Accepted line) = Refused (because NotThere 0)
+handedOn (Refused refusal) = Refused refusal
 
 unfoldable pub inLine : LineAnswer → List ℕ → ℕ → ℕ → FieldAnswer
-inLine (Refused why place) s at n = NotFound why place
+inLine (Refused refusal) s at n = Refused refusal
 inLine (Accepted line) s at n =
-    if eqb n 0 || ltb (line .count) n then NotFound NotThere 0
+    if eqb n 0 || ltb (line .count) n then Refused (because NotThere 0)
     else Found (at + startOf (textAt s at) n) (length (partAt (textAt s at) n))
 
 unfoldable pub fieldAnswer : Rules → List ℕ → ℕ → ℕ → FieldAnswer
@@ -32,4 +32,4 @@ fieldAnswer rules s at n = inLine (lineAnswer (alone rules) s at) s at n
 -- the paper's number and place for each answer
 abbrev pub fieldVerdict : FieldAnswer → Verdict
 fieldVerdict (Found start length) = Verdict.passes
-fieldVerdict (NotFound why place) = Verdict.refused (numberOf why) place
+fieldVerdict (Refused refusal) = verdictOf refusal

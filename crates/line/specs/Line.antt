@@ -8,8 +8,8 @@ use Rattle.text.specs.Choice.{if_then_else_}
 use Rattle.text.specs.Byte.{textByte}
 use Rattle.text.specs.Quoted.{bytes}
 use Rattle.text.specs.Scan.{firstFailing, same}
-use Rattle.refusal.specs.Table.{numberOf, Verdict}
-use Rattle.refusal.specs.declared.Refusal.the-variants.{FileTooLong, NoLineEnd, UnknownRecord, OutOfOrder, FieldCount, FeatureLacks}
+use Rattle.refusal.specs.Table.{because, verdictOf, Verdict}
+use Rattle.refusal.specs.declared.Reason.the-variants.{FileTooLong, NoLineEnd, UnknownRecord, OutOfOrder, FieldCount, FeatureLacks}
 use Rattle.fields.specs.Profile.{Rules}
 use Rattle.fields.specs.Record.{named, countFits, mayCome}
 use Rattle.fields.specs.declared.record.Record.{Record}
@@ -39,21 +39,21 @@ textAt s at = take (lineEnd s at - at) (drop at s)
 
 -- the fields are in order, or one is not; then 9
 unfoldable pub afterWalk : Walk → Record → ℕ → List ℕ → LineAnswer
-afterWalk (Stopped why place) kind at line = Refused why place
+afterWalk (Stopped refusal) kind at line = Refused refusal
 afterWalk Fine kind at line =
-    if lacks kind (split line) then Refused FeatureLacks at
+    if lacks kind (split line) then Refused (because FeatureLacks at)
     else Accepted (record { kind = kind; count = length (fieldsOf line); next = at + length line + 2 })
 
 -- the text of a line of this record that starts at this place: 5, then the fields
 unfoldable pub ofKind : Rules → Record → ℕ → List ℕ → LineAnswer
 ofKind rules kind at line =
-    if not (countFits kind (length (fieldsOf line))) then Refused FieldCount at
+    if not (countFits kind (length (fieldsOf line))) then Refused (because FieldCount at)
     else afterWalk (walk (rules kind) 1 (at + length (nameOf line) + 1) (nameOf line) (fieldsOf line)) kind at line
 
 -- 3, then 4
 unfoldable pub ofNamed : Named → Told → ℕ → List ℕ → LineAnswer
-ofNamed Unknown told at line = Refused UnknownRecord at
-ofNamed (Known kind) told at line = if not (mayCome (told .due) kind) then Refused OutOfOrder at else ofKind (told .rules) kind at line
+ofNamed Unknown told at line = Refused (because UnknownRecord at)
+ofNamed (Known kind) told at line = if not (mayCome (told .due) kind) then Refused (because OutOfOrder at) else ofKind (told .rules) kind at line
 
 unfoldable pub ofText : Told → ℕ → List ℕ → LineAnswer
 ofText told at line = ofNamed (named (nameOf line)) told at line
@@ -65,12 +65,12 @@ alone rules = record { rules = rules; due = Any }
 -- 1, then 2
 unfoldable pub lineAnswer : Told → List ℕ → ℕ → LineAnswer
 lineAnswer told s at =
-    if ltb 65535 (length s) then Refused FileTooLong 65535
-    else if ltb (length s) at then Refused NoLineEnd (length s)
-    else if not (endsWell s (lineEnd s at)) then Refused NoLineEnd (lineEnd s at)
+    if ltb 65535 (length s) then Refused (because FileTooLong 65535)
+    else if ltb (length s) at then Refused (because NoLineEnd (length s))
+    else if not (endsWell s (lineEnd s at)) then Refused (because NoLineEnd (lineEnd s at))
     else ofText told at (textAt s at)
 
 -- the paper's number and place for each answer
 abbrev pub lineVerdict : LineAnswer → Verdict
 lineVerdict (Accepted line) = Verdict.passes
-lineVerdict (Refused why place) = Verdict.refused (numberOf why) place
+lineVerdict (Refused refusal) = verdictOf refusal

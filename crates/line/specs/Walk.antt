@@ -2,6 +2,7 @@
 use Prim.Native.Nat.{ℕ, suc, _+_}
 use mathlib.Core.List.{List, [], _∷_}
 use lib.ListN.{length}
+use Rattle.refusal.specs.Table.{because}
 use Rattle.fields.specs.Profile.{Row}
 use Rattle.fields.specs.Field.{tested}
 use Rattle.fields.specs.declared.field.Tested.{Tested}
@@ -12,7 +13,7 @@ use Rattle.line.specs.declared.walk.Walk.the-variants.{Fine, Stopped}
 -- a bad field stops the walk at its place; a good one lets it go on
 abbrev pub onTest : Tested → ℕ → Walk → Walk
 onTest Good place rest = rest
-onTest (Bad why) place rest = Stopped why place
+onTest (Bad why) place rest = Stopped (because why place)
 
 -- these fields, the first with this number and at this place; beside it stands the part in front of it
 abbrev pub walk : List Row → ℕ → ℕ → List ℕ → List (List ℕ) → Walk

@@ -8,11 +8,12 @@ ghost use Rattle.line.specs.Find.{handedOn, fieldAnswer};
 use crate::part;
 use crate::read;
 use crate::read::LineAnswer;
+use refusal::Reason;
 use refusal::Refusal;
 
 pub enum FieldAnswer {
     Found { start: usize, length: usize },
-    NotFound { why: Refusal, place: usize },
+    Refused(Refusal),
 }
 
 // Finds the field with this number of the line that starts here.
@@ -24,16 +25,16 @@ pub fn find_field(s: &[u8], at: usize, number: usize) -> FieldAnswer
         return refusal_of(answer);
     };
     if number == 0 {
-        return FieldAnswer::NotFound {
-            why: Refusal::NotThere,
+        return FieldAnswer::Refused(Refusal {
+            why: Reason::NotThere,
             place: 0,
-        };
+        });
     }
     if line.count < number {
-        return FieldAnswer::NotFound {
-            why: Refusal::NotThere,
+        return FieldAnswer::Refused(Refusal {
+            why: Reason::NotThere,
             place: 0,
-        };
+        });
     }
     let end = line.next - 2;
     in_text(at, &s[at..end], number)
@@ -44,11 +45,11 @@ fn refusal_of(answer: LineAnswer) -> FieldAnswer
     ensures { λ r. ⌜ r ≡ handedOn answer ⌝ }
 {
     match answer {
-        LineAnswer::Accepted(_) => FieldAnswer::NotFound {
-            why: Refusal::NotThere,
+        LineAnswer::Accepted(_) => FieldAnswer::Refused(Refusal {
+            why: Reason::NotThere,
             place: 0,
-        },
-        LineAnswer::Refused { why, place } => FieldAnswer::NotFound { why, place },
+        }),
+        LineAnswer::Refused(refusal) => FieldAnswer::Refused(refusal),
     }
 }
 

@@ -13,6 +13,7 @@ use crate::walk::Walk;
 use fields::Due;
 use fields::Named;
 use fields::Record;
+use refusal::Reason;
 use refusal::Refusal;
 
 pub struct Line {
@@ -24,7 +25,7 @@ pub struct Line {
 
 pub enum LineAnswer {
     Accepted(Line),
-    Refused { why: Refusal, place: usize },
+    Refused(Refusal),
 }
 
 // Judges the line that starts here, alone.
@@ -40,23 +41,23 @@ pub fn judge_line(due: Due, s: &[u8], at: usize) -> LineAnswer
 {
     let n = s.len();
     if 65535 < n {
-        return LineAnswer::Refused {
-            why: Refusal::FileTooLong,
+        return LineAnswer::Refused(Refusal {
+            why: Reason::FileTooLong,
             place: 65535,
-        };
+        });
     }
     if n < at {
-        return LineAnswer::Refused {
-            why: Refusal::NoLineEnd,
+        return LineAnswer::Refused(Refusal {
+            why: Reason::NoLineEnd,
             place: n,
-        };
+        });
     }
     let end = scan::line_end(s, at);
     if !scan::ends_well(s, end) {
-        return LineAnswer::Refused {
-            why: Refusal::NoLineEnd,
+        return LineAnswer::Refused(Refusal {
+            why: Reason::NoLineEnd,
             place: end,
-        };
+        });
     }
     of_text(due, at, &s[at..end])
 }
@@ -69,16 +70,16 @@ fn of_text(due: Due, at: usize, line: &[u8]) -> LineAnswer
     let name = field_in(line, 0);
     let named = fields::record_named(name);
     let Named::Known(kind) = named else {
-        return LineAnswer::Refused {
-            why: Refusal::UnknownRecord,
+        return LineAnswer::Refused(Refusal {
+            why: Reason::UnknownRecord,
             place: at,
-        };
+        });
     };
     if !fields::may_come(due, kind) {
-        return LineAnswer::Refused {
-            why: Refusal::OutOfOrder,
+        return LineAnswer::Refused(Refusal {
+            why: Reason::OutOfOrder,
             place: at,
-        };
+        });
     }
     of_kind(kind, at, line, name.len())
 }
@@ -90,20 +91,20 @@ fn of_kind(kind: Record, at: usize, line: &[u8], name: usize) -> LineAnswer
 {
     let count = scan::field_count(line);
     if !fields::count_fits(kind, count) {
-        return LineAnswer::Refused {
-            why: Refusal::FieldCount,
+        return LineAnswer::Refused(Refusal {
+            why: Reason::FieldCount,
             place: at,
-        };
+        });
     }
     let walked = walk::walk_fields(kind, line, at, name);
-    if let Walk::Stopped { why, place } = walked {
-        return LineAnswer::Refused { why, place };
+    if let Walk::Stopped(refusal) = walked {
+        return LineAnswer::Refused(refusal);
     }
     if need::lacks_field(kind, line) {
-        return LineAnswer::Refused {
-            why: Refusal::FeatureLacks,
+        return LineAnswer::Refused(Refusal {
+            why: Reason::FeatureLacks,
             place: at,
-        };
+        });
     }
     LineAnswer::Accepted(Line {
         kind,

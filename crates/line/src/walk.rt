@@ -12,7 +12,7 @@ use refusal::Refusal;
 
 pub enum Walk {
     Fine,
-    Stopped { why: Refusal, place: usize },
+    Stopped(Refusal),
 }
 
 // Tests the fields of a line that starts at the place at and whose record type is so long. Beside a field stands the part in front
@@ -28,10 +28,10 @@ pub fn walk_fields(kind: Record, line: &[u8], at: usize, name: usize) -> Walk
         let end = field_end(line, start);
         let tested = fields::test_field(kind, number, &line[beside..start - 1], &line[start..end]);
         if let Tested::Bad(why) = tested {
-            return Walk::Stopped {
+            return Walk::Stopped(Refusal {
                 why,
                 place: at + start,
-            };
+            });
         }
         beside = start;
         start = end + 1;

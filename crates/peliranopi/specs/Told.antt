@@ -7,13 +7,13 @@ use Rattle.check_characters.specs.declared.number.Kind.the-variants.{Tracking, 
 use Rattle.check_characters.specs.declared.number.NumberAnswer.{NumberAnswer}
 use Rattle.check_characters.specs.declared.number.NumberAnswer.the-variants as checked
 use Rattle.check_characters.specs.declared.number.IssueAnswer.{IssueAnswer}
-use Rattle.check_characters.specs.declared.number.IssueAnswer.the-variants.{Issued, NotIssued}
+use Rattle.check_characters.specs.declared.number.IssueAnswer.the-variants.{Issued, Refused}
 use Rattle.fields.specs.declared.record.Record.{Record}
 use Rattle.fields.specs.declared.record.Record.the-variants.{Header, Sender, Shipment, Parcel, Product, Feature}
 use Rattle.line.specs.declared.read.LineAnswer.{LineAnswer}
 use Rattle.line.specs.declared.read.LineAnswer.the-variants as read
 use Rattle.line.specs.declared.find.FieldAnswer.{FieldAnswer}
-use Rattle.line.specs.declared.find.FieldAnswer.the-variants.{Found, NotFound}
+use Rattle.line.specs.declared.find.FieldAnswer.the-variants.{Found, Refused}
 use Rattle.file.specs.declared.whole.FileAnswer.{FileAnswer}
 use Rattle.file.specs.declared.whole.FileAnswer.the-variants as judged
 use Rattle.writer.specs.declared.write.WriteAnswer.{WriteAnswer}
@@ -34,15 +34,15 @@ placeIn (Verdict.refused number place) = place
 -- of a whole file: "number of lines, number of 040 lines, and the cash total in cents"
 abbrev pub linesIn : FileAnswer → ℕ
 linesIn (judged.Accepted totals) = totals .lines
-linesIn (judged.Refused why place) = 0
+linesIn (judged.Refused refusal) = 0
 
 abbrev pub parcelsIn : FileAnswer → ℕ
 parcelsIn (judged.Accepted totals) = totals .parcels
-parcelsIn (judged.Refused why place) = 0
+parcelsIn (judged.Refused refusal) = 0
 
 abbrev pub centsIn : FileAnswer → ℕ
 centsIn (judged.Accepted totals) = totals .cents
-centsIn (judged.Refused why place) = 0
+centsIn (judged.Refused refusal) = 0
 
 -- "Record type as a number (10 for 010, up to 60)"
 abbrev pub recordNumber : Record → ℕ
@@ -56,37 +56,37 @@ recordNumber Feature = 60
 -- of one line: "the record kind, the field count and where the next line starts"
 abbrev pub recordIn : LineAnswer → ℕ
 recordIn (read.Accepted line) = recordNumber (line .kind)
-recordIn (read.Refused why place) = 0
+recordIn (read.Refused refusal) = 0
 
 abbrev pub countIn : LineAnswer → ℕ
 countIn (read.Accepted line) = line .count
-countIn (read.Refused why place) = 0
+countIn (read.Refused refusal) = 0
 
 abbrev pub nextIn : LineAnswer → ℕ
 nextIn (read.Accepted line) = line .next
-nextIn (read.Refused why place) = 0
+nextIn (read.Refused refusal) = 0
 
 -- of one field: "start and length"
 abbrev pub startIn : FieldAnswer → ℕ
 startIn (Found start length) = start
-startIn (NotFound why place) = 0
+startIn (Refused refusal) = 0
 
 abbrev pub lengthIn : FieldAnswer → ℕ
 lengthIn (Found start length) = length
-lengthIn (NotFound why place) = 0
+lengthIn (Refused refusal) = 0
 
 -- of what is written: "how many bytes were written"
 abbrev pub writtenIn : WriteAnswer → ℕ
 writtenIn (wrote.Written n) = n
-writtenIn (wrote.NotWritten why place) = 0
+writtenIn (wrote.Refused refusal) = 0
 
 abbrev pub purposeIn : PurposeAnswer → ℕ
 purposeIn (purposed.Written n) = n
-purposeIn (purposed.NotWritten why place) = 0
+purposeIn (purposed.Refused refusal) = 0
 
 abbrev pub issuedIn : IssueAnswer → ℕ
 issuedIn (Issued n) = n
-issuedIn (NotIssued why place) = 0
+issuedIn (Refused refusal) = 0
 
 -- of a number: "the length (15 or 28) telling the kind"
 abbrev pub kindNumber : Kind → ℕ
@@ -95,4 +95,4 @@ kindNumber Label = 2
 
 abbrev pub kindIn : NumberAnswer → ℕ
 kindIn (checked.Accepted kind) = kindNumber kind
-kindIn (checked.Refused why place) = 0
+kindIn (checked.Refused refusal) = 0

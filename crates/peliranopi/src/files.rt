@@ -25,11 +25,11 @@ pub extern "C" fn peliranopi_judge(
             *cents = totals.cents;
             tell::accepted(place)
         }
-        FileAnswer::Refused { why, place: at } => {
+        FileAnswer::Refused(refusal) => {
             *lines = 0;
             *parcels = 0;
             *cents = 0;
-            tell::refused(why, at, place)
+            tell::refused(refusal, place)
         }
     }
 }
@@ -52,9 +52,9 @@ pub extern "C" fn peliranopi_write_purpose(
             *written = bytes;
             tell::accepted(place)
         }
-        PurposeAnswer::NotWritten { why, place: at } => {
+        PurposeAnswer::Refused(refusal) => {
             *written = 0;
-            tell::refused(why, at, place)
+            tell::refused(refusal, place)
         }
     }
 }

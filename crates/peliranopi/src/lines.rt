@@ -28,11 +28,11 @@ pub extern "C" fn peliranopi_read_line(
             *next = line.next;
             tell::accepted(place)
         }
-        LineAnswer::Refused { why, place: at } => {
+        LineAnswer::Refused(refusal) => {
             *kind = 0;
             *fields = 0;
             *next = 0;
-            tell::refused(why, at, place)
+            tell::refused(refusal, place)
         }
     }
 }
@@ -58,10 +58,10 @@ pub extern "C" fn peliranopi_find_field(
             *length = long;
             tell::accepted(place)
         }
-        FieldAnswer::NotFound { why, place: at } => {
+        FieldAnswer::Refused(refusal) => {
             *start = 0;
             *length = 0;
-            tell::refused(why, at, place)
+            tell::refused(refusal, place)
         }
     }
 }
@@ -85,9 +85,9 @@ pub extern "C" fn peliranopi_write_line(
             *written = bytes;
             tell::accepted(place)
         }
-        WriteAnswer::NotWritten { why, place: at } => {
+        WriteAnswer::Refused(refusal) => {
             *written = 0;
-            tell::refused(why, at, place)
+            tell::refused(refusal, place)
         }
     }
 }

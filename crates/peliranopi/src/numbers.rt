@@ -18,9 +18,9 @@ pub extern "C" fn peliranopi_check_number(symbols: &[u8], kind: &mut u32, place:
             *kind = kind_number(which);
             tell::accepted(place)
         }
-        NumberAnswer::Refused { why, place: at } => {
+        NumberAnswer::Refused(refusal) => {
             *kind = 0;
-            tell::refused(why, at, place)
+            tell::refused(refusal, place)
         }
     }
 }
@@ -40,9 +40,9 @@ pub extern "C" fn peliranopi_issue_number(
             *written = bytes;
             tell::accepted(place)
         }
-        IssueAnswer::NotIssued { why, place: at } => {
+        IssueAnswer::Refused(refusal) => {
             *written = 0;
-            tell::refused(why, at, place)
+            tell::refused(refusal, place)
         }
     }
 }
@@ -54,7 +54,7 @@ pub extern "C" fn peliranopi_check_iban(symbols: &[u8], place: &mut usize) -> u3
     let answer = check_characters::check_iban(symbols);
     match answer {
         IbanAnswer::Accepted => tell::accepted(place),
-        IbanAnswer::Refused { why, place: at } => tell::refused(why, at, place),
+        IbanAnswer::Refused(refusal) => tell::refused(refusal, place),
     }
 }
 

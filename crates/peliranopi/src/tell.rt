@@ -12,9 +12,10 @@ pub fn accepted(place: &mut usize) -> u32
 }
 
 // Refused: the number, and the place.
-pub fn refused(why: Refusal, at: usize, place: &mut usize) -> u32
-    ensures { λ r. ⌜ (r ≡ numberOf why) × (now (place .exit) ≡ at) ⌝ }
+pub fn refused(refusal: Refusal, place: &mut usize) -> u32
+    ensures { λ r. ⌜ (r ≡ numberOf (refusal .why)) × (now (place .exit) ≡ refusal .place) ⌝ }
 {
-    *place = at;
+    *place = refusal.place;
+    let why = refusal.why;
     refusal::number(why)
 }

@@ -7,8 +7,9 @@ use lib.ListN.{length, take, replicate}
 use lib.Seq.{take-at}
 use borrow.Author.Tests.{lt-ltb, le-ltb}
 use Rattle.text.specs.Placed.{written}
+use Rattle.refusal.specs.declared.Reason.the-variants.{OutputTooShort, NotThere}
+use Rattle.refusal.specs.Table.{because}
 use Rattle.refusal.specs.declared.Refusal.{Refusal}
-use Rattle.refusal.specs.declared.Refusal.the-variants.{OutputTooShort, NotThere}
 use Rattle.file.specs.File.{judged, listOf}
 use Rattle.file.specs.declared.whole.Totals.{Totals}
 use Rattle.file.specs.declared.whole.FileAnswer.{FileAnswer}
@@ -21,30 +22,30 @@ use Rattle.purpose.specs.declared.source.Source.{Source}
 use Rattle.purpose.specs.declared.source.Sourced.{Sourced}
 use Rattle.purpose.specs.declared.source.Sourced.the-variants.{From, Nowhere}
 use Rattle.purpose.specs.declared.write.PurposeAnswer.{PurposeAnswer}
-use Rattle.purpose.specs.declared.write.PurposeAnswer.the-variants.{Written, NotWritten}
+use Rattle.purpose.specs.declared.write.PurposeAnswer.the-variants.{Written, Refused}
 
 pub handed-as : (a case : FileAnswer) (r : PurposeAnswer) → a ≡ case → r ≡ handedOn case → r ≡ handedOn a
 handed-as a case r e f = rw e f
 
 -- the file is refused
-module _ (s : List ℕ) (m : ℕ) (a : FileAnswer) (ea : a ≡ judged s m .answer) (why : Refusal) (place : ℕ) (e : a ≡ Refused why place)
+module _ (s : List ℕ) (m : ℕ) (a : FileAnswer) (ea : a ≡ judged s m .answer) (refusal : Refusal) (e : a ≡ Refused refusal)
     (r : PurposeAnswer) (er : r ≡ handedOn a) where
-  refusal : r ≡ NotWritten why place
-  refusal = er ∙ ap handedOn e
+  handed : r ≡ Refused refusal
+  handed = er ∙ ap handedOn e
 
   pub file-answer : (n room : ℕ) → r ≡ purposeAnswer s n m room
   unfolding onFile
-  file-answer n room = refusal ∙ rw (← ea, e)
+  file-answer n room = handed ∙ rw (← ea, e)
 
   pub file-list : (list : List ℕ) → list ≡ listOf m (judged s m .starts) → list ≡ listAfter r m (judged s m .starts)
   file-list list el =
       let none : judged s m .starts ≡ [] = none-listed s m (sym ea ∙ e) in
       let k : m - 0 ≡ m = omega arith in
       el ∙ ap (listOf m) none ∙ ap (λ (n : ℕ). replicate n 0) k ∙ sym
-      (ap (λ (x : PurposeAnswer). listAfter x m (judged s m .starts)) refusal)
+      (ap (λ (x : PurposeAnswer). listAfter x m (judged s m .starts)) handed)
 
   pub file-output : (text out : List ℕ) → out ≡ outputAfter r text out
-  file-output text out = sym (ap (λ (x : PurposeAnswer). outputAfter x text out) refusal)
+  file-output text out = sym (ap (λ (x : PurposeAnswer). outputAfter x text out) handed)
 
 -- the file is accepted
 module _ (s : List ℕ) (m : ℕ) (a : FileAnswer) (ea : a ≡ judged s m .answer) (totals : Totals) (et : a ≡ Accepted totals) where
@@ -71,14 +72,14 @@ module _ (s : List ℕ) (m : ℕ) (a : FileAnswer) (ea : a ≡ judged s m .answe
     unfolding onFile
     answered room r er = rw (← ea, et, ← source-is) er
 
-    pub not-there : (room : ℕ) → found ≡ Nowhere → NotWritten NotThere 0 ≡ purposeAnswer s n m room
+    pub not-there : (room : ℕ) → found ≡ Nowhere → Refused (because NotThere 0) ≡ purposeAnswer s n m room
     unfolding onSource
-    not-there room e = answered room (NotWritten NotThere 0) (rw e)
+    not-there room e = answered room (Refused (because NotThere 0)) (rw e)
 
     module _ (source : Source) (es : found ≡ From source) (out : List ℕ) where
-      pub too-short : length out < 35 → NotWritten OutputTooShort 0 ≡ purposeAnswer s n m (length out)
+      pub too-short : length out < 35 → Refused (because OutputTooShort 0) ≡ purposeAnswer s n m (length out)
       unfolding onSource
-      too-short h = answered (length out) (NotWritten OutputTooShort 0) (rw (es, lt-ltb (length out) 35 h))
+      too-short h = answered (length out) (Refused (because OutputTooShort 0)) (rw (es, lt-ltb (length out) 35 h))
 
       pub was-written : 35 ≤ length out → (r : ℕ) → r ≡ length (cut (sourceText s source)) → Written r ≡ purposeAnswer s n m (length out)
       unfolding onSource

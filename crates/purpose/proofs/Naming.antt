@@ -16,7 +16,8 @@ use Rattle.text.specs.Quoted.{bytes}
 use Rattle.text.specs.Scan.{same}
 use Rattle.text.proofs.Choices.{and-left, and-right, and-both, true-or-false}
 use Rattle.text.proofs.Scans.{same-eq, same-refl}
-use Rattle.refusal.specs.declared.Refusal.the-variants.{NotThere}
+use Rattle.refusal.specs.declared.Reason.the-variants.{NotThere}
+use Rattle.refusal.specs.Table.{because}
 use Rattle.fields.specs.Record.{typeOf}
 use Rattle.fields.specs.declared.record.Record.the-variants.{Shipment, Parcel, Feature}
 use Rattle.line.specs.Parts.{split, partAt}
@@ -35,7 +36,7 @@ use Rattle.purpose.specs.declared.source.Source.the-variants.{Field, Joi
 use Rattle.purpose.specs.declared.source.Sourced.{Sourced}
 use Rattle.purpose.specs.declared.source.Sourced.the-variants.{From, Nowhere}
 use Rattle.purpose.specs.declared.write.PurposeAnswer.{PurposeAnswer}
-use Rattle.purpose.specs.declared.write.PurposeAnswer.the-variants.{Written, NotWritten}
+use Rattle.purpose.specs.declared.write.PurposeAnswer.the-variants.{Written, Refused}
 use Rattle.purpose.proofs.Seeking.{past-lines, no-cash-line}
 use Rattle.purpose.proofs.Placed.{line-there, line-counted, parts-at, kind-told, is-typed, not-typed}
 
@@ -190,10 +191,10 @@ module _
     (s : List ℕ) (ls : List FileLine) (g : AllowedFile s ls) (words : ℕ) (room : length ls ≤ words) (n : ℕ) (out : List ℕ)
     (answer : PurposeAnswer) (list after : List ℕ) (p : Purposes s n words out answer list after)
   where
-    nowhere : sourceOf s (lineStarts 0 ls) n ≡ Nowhere → (answer ≡ NotWritten NotThere 0) × (list ≡ replicate words 0) × (after ≡ out)
+    nowhere : sourceOf s (lineStarts 0 ls) n ≡ Nowhere → (answer ≡ Refused (because NotThere 0)) × (list ≡ replicate words 0) × (after ≡ out)
     unfolding onFile onSource
     nowhere e =
-        let a : answer ≡ NotWritten NotThere 0 =
+        let a : answer ≡ Refused (because NotThere 0) =
         p .0
         ∙ ap (λ (j : Judged). onFile (j .answer) (sourceOf s (j .starts) n) s (length out)) (whole s ls g words room)
         ∙ ap (λ (x : Sourced). onSource x s (length out)) e
@@ -203,7 +204,7 @@ module _
           p .2 ∙ ap (λ (x : PurposeAnswer). outputAfter x (purposeText s n words) out) a,
         )
 
-    pub no-such-line : length ls ≤ n → (answer ≡ NotWritten NotThere 0) × (list ≡ replicate words 0) × (after ≡ out)
+    pub no-such-line : length ls ≤ n → (answer ≡ Refused (because NotThere 0)) × (list ≡ replicate words 0) × (after ≡ out)
     no-such-line h = nowhere (sym (past-lines s (lineStarts 0 ls) n (omega (arith, starts-count 0 ls))))
 
     module _ (l : FileLine) (h : LineNo ls n l) where
@@ -221,7 +222,7 @@ module _
                 ∙ same-eq (partAt (textAt s at) 1) (bytes "006") coded;
           }
 
-      pub not-a-cash-line : (CashLine l → ⊥) → (answer ≡ NotWritten NotThere 0) × (list ≡ replicate words 0) × (after ≡ out)
+      pub not-a-cash-line : (CashLine l → ⊥) → (answer ≡ Refused (because NotThere 0)) × (list ≡ replicate words 0) × (after ≡ out)
       not-a-cash-line never =
           let none : false ≡ isCashLine s at = ⊎-elim (λ e. absurd (never (cash e))) (λ e. sym e) (true-or-false (isCashLine s at)) in
           nowhere (sym (no-cash-line s (lineStarts 0 ls) n (omega (

@@ -7,8 +7,8 @@ use lib.ListN.{length, take, replicate}
 use Rattle.text.specs.Choice.{if_then_else_}
 use Rattle.text.specs.Placed.{written}
 use Rattle.text.specs.Quoted.{bytes}
-use Rattle.refusal.specs.Table.{numberOf, Verdict}
-use Rattle.refusal.specs.declared.Refusal.the-variants.{OutputTooShort, NotThere}
+use Rattle.refusal.specs.Table.{because, verdictOf, Verdict}
+use Rattle.refusal.specs.declared.Reason.the-variants.{OutputTooShort, NotThere}
 use Rattle.file.specs.File.{judged, listOf}
 use Rattle.file.specs.declared.whole.FileAnswer.{FileAnswer}
 use Rattle.file.specs.declared.whole.FileAnswer.the-variants.{Accepted, Refused}
@@ -18,7 +18,7 @@ use Rattle.purpose.specs.declared.source.Source.the-variants.{Field, Joi
 use Rattle.purpose.specs.declared.source.Sourced.{Sourced}
 use Rattle.purpose.specs.declared.source.Sourced.the-variants.{From, Nowhere}
 use Rattle.purpose.specs.declared.write.PurposeAnswer.{PurposeAnswer}
-use Rattle.purpose.specs.declared.write.PurposeAnswer.the-variants.{Written, NotWritten}
+use Rattle.purpose.specs.declared.write.PurposeAnswer.the-variants.{Written, Refused}
 
 -- "The first 35 bytes count."
 abbrev pub cut : List ℕ → List ℕ
@@ -35,17 +35,17 @@ textFrom s Nowhere = []
 
 -- the file's refusal, handed on
 abbrev pub handedOn : FileAnswer → PurposeAnswer
-handedOn (Accepted totals) = NotWritten NotThere 0
-handedOn (Refused why place) = NotWritten why place
+handedOn (Accepted totals) = Refused (because NotThere 0)
+handedOn (Refused refusal) = Refused refusal
 
 -- 15, then 13: "output under 35", for an output of so many bytes
 unfoldable pub onSource : Sourced → List ℕ → ℕ → PurposeAnswer
-onSource Nowhere s room = NotWritten NotThere 0
-onSource (From source) s room = if ltb room 35 then NotWritten OutputTooShort 0 else Written (length (cut (sourceText s source)))
+onSource Nowhere s room = Refused (because NotThere 0)
+onSource (From source) s room = if ltb room 35 then Refused (because OutputTooShort 0) else Written (length (cut (sourceText s source)))
 
 -- "Order: the file's refusals, 15, 13"
 unfoldable pub onFile : FileAnswer → Sourced → List ℕ → ℕ → PurposeAnswer
-onFile (Refused why place) sourced s room = NotWritten why place
+onFile (Refused refusal) sourced s room = Refused refusal
 onFile (Accepted totals) sourced s room = onSource sourced s room
 
 -- the source for the line with this number, where the list has so many words
@@ -61,12 +61,12 @@ purposeText s n words = textFrom s (purposeSource s n words)
 -- "list lent as for the whole file", and "the list's words are all 0 after 15 or 13 too"
 abbrev pub listAfter : PurposeAnswer → ℕ → List ℕ → List ℕ
 listAfter (Written n) words starts = listOf words starts
-listAfter (NotWritten why place) words starts = replicate words 0
+listAfter (Refused refusal) words starts = replicate words 0
 
 -- "The output's other bytes stay, and all of them on a refusal"
 abbrev pub outputAfter : PurposeAnswer → List ℕ → List ℕ → List ℕ
 outputAfter (Written n) text out = written out 0 text
-outputAfter (NotWritten why place) text out = out
+outputAfter (Refused refusal) text out = out
 
 -- the answer, the list and the output that the call allows
 abbrev pub Purposes : List ℕ → ℕ → ℕ → List ℕ → PurposeAnswer → List ℕ → List ℕ → Type 0
@@ -78,4 +78,4 @@ Purposes s n words out answer list after =
 -- the paper's number and place for each answer
 abbrev pub purposeVerdict : PurposeAnswer → Verdict
 purposeVerdict (Written n) = Verdict.passes
-purposeVerdict (NotWritten why place) = Verdict.refused (numberOf why) place
+purposeVerdict (Refused refusal) = verdictOf refusal

@@ -6,11 +6,12 @@ use crate::cut;
 use crate::source;
 use crate::source::Sourced;
 use file::FileAnswer;
+use refusal::Reason;
 use refusal::Refusal;
 
 pub enum PurposeAnswer {
     Written(usize),
-    NotWritten { why: Refusal, place: usize },
+    Refused(Refusal),
 }
 
 // Writes the purpose of the line with this number at the output's start. Written, the list is as for the whole file; otherwise all
@@ -25,17 +26,17 @@ pub fn write_purpose(s: &[u8], number: usize, words: &mut [u32], out: &mut [u8])
     let sourced = source::find_source(s, words, totals.lines, number);
     let Sourced::From(source) = sourced else {
         file::clear(words);
-        return PurposeAnswer::NotWritten {
-            why: Refusal::NotThere,
+        return PurposeAnswer::Refused(Refusal {
+            why: Reason::NotThere,
             place: 0,
-        };
+        });
     };
     if out.len() < 35 {
         file::clear(words);
-        return PurposeAnswer::NotWritten {
-            why: Refusal::OutputTooShort,
+        return PurposeAnswer::Refused(Refusal {
+            why: Reason::OutputTooShort,
             place: 0,
-        };
+        });
     }
     PurposeAnswer::Written(cut::write_source(s, source, out))
 }
@@ -45,10 +46,10 @@ fn refusal_of(answer: FileAnswer) -> PurposeAnswer
     ensures { λ r. ⌜ r ≡ handedOn answer ⌝ }
 {
     match answer {
-        FileAnswer::Accepted(_) => PurposeAnswer::NotWritten {
-            why: Refusal::NotThere,
+        FileAnswer::Accepted(_) => PurposeAnswer::Refused(Refusal {
+            why: Reason::NotThere,
             place: 0,
-        },
-        FileAnswer::Refused { why, place } => PurposeAnswer::NotWritten { why, place },
+        }),
+        FileAnswer::Refused(refusal) => PurposeAnswer::Refused(refusal),
     }
 }

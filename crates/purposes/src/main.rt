@@ -61,15 +61,16 @@ fn say(answer: PurposeAnswer) {
             io::write_all(1, b"ok ");
             io::print_decimal(1, n as u64);
         }
-        PurposeAnswer::NotWritten { why, place } => say_no(why, place),
+        PurposeAnswer::Refused(refusal) => say_no(refusal),
     }
 }
 
-fn say_no(why: Refusal, place: usize) {
+fn say_no(refusal: Refusal) {
+    let why = refusal.why;
     io::write_all(1, b"no ");
     io::print_decimal(1, refusal::number(why) as u64);
     io::write_all(1, b" ");
-    io::print_decimal(1, place as u64);
+    io::print_decimal(1, refusal.place as u64);
 }
 
 fn say_list(list: &[u32]) {

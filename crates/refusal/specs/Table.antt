@@ -1,7 +1,8 @@
 -- Document 01, 'Refusal numbers': the number of each refusal, and when it is given.
 use Prim.Native.Nat.{ℕ}
+use Rattle.refusal.specs.declared.Reason.{Reason}
 use Rattle.refusal.specs.declared.Refusal.{Refusal}
-use Rattle.refusal.specs.declared.Refusal.the-variants.{
+use Rattle.refusal.specs.declared.Reason.the-variants.{
   FileTooLong,
   NoLineEnd,
   UnknownRecord,
@@ -22,7 +23,7 @@ use Rattle.refusal.specs.declared.Refusal.the-variants.{
   WrongCheck,
 }
 
-abbrev pub numberOf : Refusal → ℕ
+abbrev pub numberOf : Reason → ℕ
 -- "file over 65,535 bytes"
 numberOf FileTooLong = 1
 -- "a line's first non-text byte is missing or not CR LF, or an offset lies past the file"
@@ -60,7 +61,14 @@ numberOf WrongSymbol = 17
 -- "check wrong"
 numberOf WrongCheck = 18
 
+-- "Given when", and "Place": why, and where
+abbrev pub because : Reason → ℕ → Refusal
+because why place = record { why = why; place = place }
+
 -- what the paper says of an input: it passes, or it is refused by a number and at a place
 pub data Verdict : Type 0 where
   passes : Verdict
   refused : ℕ → ℕ → Verdict
+
+abbrev pub verdictOf : Refusal → Verdict
+verdictOf refusal = Verdict.refused (numberOf (refusal .why)) (refusal .place)

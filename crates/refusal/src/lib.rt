@@ -1,8 +1,8 @@
-// The refusal table: why an entry point refuses what it was given. The place is given beside the reason.
+// The refusal table: why an entry point refuses what it was given, and at which place. Every answer that refuses holds one `Refusal`.
 ghost use mathlib.Core.Path.{_≡_};
 ghost use Rattle.refusal.specs.Table.{numberOf};
 
-pub enum Refusal {
+pub enum Reason {
     FileTooLong,
     NoLineEnd,
     UnknownRecord,
@@ -23,28 +23,33 @@ pub enum Refusal {
     WrongCheck,
 }
 
-// The number of a refusal in the paper's table.
-pub fn number(why: Refusal) -> u32
+pub struct Refusal {
+    pub why: Reason,
+    pub place: usize,
+}
+
+// The number of a reason in the paper's table.
+pub fn number(why: Reason) -> u32
     ensures { λ r. ⌜ r ≡ numberOf why ⌝ }
 {
     match why {
-        Refusal::FileTooLong => 1,
-        Refusal::NoLineEnd => 2,
-        Refusal::UnknownRecord => 3,
-        Refusal::OutOfOrder => 4,
-        Refusal::FieldCount => 5,
-        Refusal::FieldTooLong => 6,
-        Refusal::FieldEmpty => 7,
-        Refusal::FieldForm => 8,
-        Refusal::FeatureLacks => 9,
-        Refusal::IdentcodeRepeated => 10,
-        Refusal::ListFull => 11,
-        Refusal::FileEnds => 12,
-        Refusal::OutputTooShort => 13,
-        Refusal::FieldEnds => 14,
-        Refusal::NotThere => 15,
-        Refusal::WrongLength => 16,
-        Refusal::WrongSymbol => 17,
-        Refusal::WrongCheck => 18,
+        Reason::FileTooLong => 1,
+        Reason::NoLineEnd => 2,
+        Reason::UnknownRecord => 3,
+        Reason::OutOfOrder => 4,
+        Reason::FieldCount => 5,
+        Reason::FieldTooLong => 6,
+        Reason::FieldEmpty => 7,
+        Reason::FieldForm => 8,
+        Reason::FeatureLacks => 9,
+        Reason::IdentcodeRepeated => 10,
+        Reason::ListFull => 11,
+        Reason::FileEnds => 12,
+        Reason::OutputTooShort => 13,
+        Reason::FieldEnds => 14,
+        Reason::NotThere => 15,
+        Reason::WrongLength => 16,
+        Reason::WrongSymbol => 17,
+        Reason::WrongCheck => 18,
     }
 }

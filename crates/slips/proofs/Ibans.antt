@@ -11,8 +11,10 @@ use lib.Dec.{eqb, ltb, leb}
 use lib.ListN.{length, getD, take, drop, length-append}
 use lib.Seq.{split-at}
 use borrow.Author.Tests.{eqb-true, eq-eqb, ltb-false, leb-true, le-leb, le-ltb, lt-leb, not-true, not-false}
+use Rattle.refusal.specs.declared.Reason.the-variants.{WrongLength, WrongSymbol, WrongCheck}
+use Rattle.refusal.specs.Table.{because}
 use Rattle.refusal.specs.declared.Refusal.{Refusal}
-use Rattle.refusal.specs.declared.Refusal.the-variants.{WrongLength, WrongSymbol, WrongCheck}
+use Rattle.refusal.proofs.Verdicts.{no-pass}
 use Rattle.text.specs.Choice.{if_then_else_}
 use Rattle.text.specs.Byte.{digit, capital}
 use Rattle.text.proofs.Choices.{and-left, and-right, or-cases, came-then, came-else, clash}
@@ -20,7 +22,7 @@ use Rattle.text.proofs.Bytes.{digit-range, capital-range, capital-low}
 use Rattle.text.proofs.Scans.{none-fails, all-pass}
 use Rattle.text.proofs.Finite.{every-at, tells, told-apart}
 use Rattle.check_characters.specs.Symbol.{valueOf}
-use Rattle.check_characters.specs.Iban.{allowed, wrongSymbol, digitsOf, spread, decimalFrom, decimal, moved, ibanNumber}
+use Rattle.check_characters.specs.Iban.{allowed, wrongSymbol, digitsOf, spread, decimalFrom, decimal, moved, ibanNumber, ibanVerdict}
 use Rattle.check_characters.specs.Iban.{checkDigits, barred, soundOf, checked}
 use Rattle.check_characters.specs.declared.iban.IbanAnswer.the-variants.{Accepted, Refused}
 use Rattle.check_characters.proofs.Symbols.{value-le, value-digit, value-capital}
@@ -31,19 +33,15 @@ use Rattle.slips.proofs.Places.{in-pieces, agree-there, pair-at, swap-a
 use Rattle.slips.proofs.Remainders.{decimal-append, weight, weighed, after, remainderFrom, remainder-spread}
 use Rattle.slips.proofs.Remainders.{remainder-append, weight-tells, cancel, tell-remainders, tell-order, tell-value}
 
-refused : {why : Refusal} {place : ℕ} → Refused why place ≡ Accepted → ⊥
-refused e = let z : _≡_ {A = ℕ} 0 1 = cc in omega arith
-
 pub accepted-sound : (s : List ℕ) → checked s ≡ Accepted → SoundIban s
 unfolding checked soundOf
 accepted-sound s e =
     let inside = leb 15 (length s) && leb (length s) 34 in
     let wrong = ltb (wrongSymbol s) (length s) in
-    let tail = if soundOf s then Accepted else Refused WrongCheck 2 in
-    let a = came-else (not inside) (Refused WrongLength 0) (if wrong then Refused WrongSymbol
-    (wrongSymbol s) else tail) Accepted refused e in
-    let b = came-else wrong (Refused WrongSymbol (wrongSymbol s)) tail Accepted refused (a .1) in
-    let c = came-then (soundOf s) Accepted (Refused WrongCheck 2) Accepted refused (b .1) in
+    let tail = if soundOf s then Accepted else Refused (because WrongCheck 2) in
+    let a = came-else (not inside) (Refused (because WrongLength 0)) (if wrong then Refused (because WrongSymbol (wrongSymbol s)) else tail) Accepted (no-pass ibanVerdict refl refl) e in
+    let b = came-else wrong (Refused (because WrongSymbol (wrongSymbol s))) tail Accepted (no-pass ibanVerdict refl refl) (a .1) in
+    let c = came-then (soundOf s) Accepted (Refused (because WrongCheck 2)) Accepted (no-pass ibanVerdict refl refl) (b .1) in
     let long = not-false inside (a .0) in
     record {
       long = leb-true 15 (length s) (and-left (leb 15 (length s)) (leb (length s) 34) long);

@@ -9,8 +9,10 @@ use lib.Dec.{eqb, ltb}
 use lib.ListN.{length, getD, take, drop, length-append, length-take, List·getD-append}
 use lib.Seq.{take-at, getD-take, getD-at, append-snoc}
 use borrow.Author.Tests.{eqb-true, ltb-false}
+use Rattle.refusal.specs.declared.Reason.the-variants.{OutputTooShort, WrongLength, WrongSymbol}
+use Rattle.refusal.specs.Table.{because}
 use Rattle.refusal.specs.declared.Refusal.{Refusal}
-use Rattle.refusal.specs.declared.Refusal.the-variants.{OutputTooShort, WrongLength, WrongSymbol}
+use Rattle.refusal.proofs.Verdicts.{no-pass}
 use Rattle.text.specs.Byte.{symbol}
 use Rattle.text.specs.Choice.{if_then_else_}
 use Rattle.text.proofs.Choices.{came-then, came-else, true-or-false}
@@ -18,19 +20,16 @@ use Rattle.text.proofs.Numbers.{le-or-lt}
 use Rattle.text.proofs.Finite.{every-at}
 use Rattle.check_characters.specs.Symbol.{valueOf, symbolOf}
 use Rattle.check_characters.specs.Mod37.{carry, checkOf}
-use Rattle.check_characters.specs.Number.{lengthOf, allowed, wrongSymbol, issueAs, issueAnswer, issuedTo, Issues}
+use Rattle.check_characters.specs.Number.{lengthOf, allowed, wrongSymbol, issueAs, issueAnswer, issuedTo, Issues, issueVerdict}
 use Rattle.check_characters.specs.declared.number.Kind.{Kind}
 use Rattle.check_characters.specs.declared.number.Kind.the-variants.{Tracking, Label}
 use Rattle.check_characters.specs.declared.number.IssueAnswer.{IssueAnswer}
-use Rattle.check_characters.specs.declared.number.IssueAnswer.the-variants.{Issued, NotIssued}
+use Rattle.check_characters.specs.declared.number.IssueAnswer.the-variants.{Issued, Refused}
 use Rattle.check_characters.proofs.Carries.{carry-of, check-value}
 use Rattle.check_characters.proofs.Shapes.{has-last, tracking-check, label-check}
 use Rattle.check_characters.proofs.Issuing.{issue-fits, issue-tracking, issue-label}
 use Rattle.slips.specs.Exactly.{Shaped, SoundNumber, bodyOf}
 use Rattle.slips.proofs.Numbers.{all-and-last, shaped-of, of-shaped, two-passes, carry-append, two-of-one, one-symbol}
-
-not-issued : {why : Refusal} {place n : ℕ} → NotIssued why place ≡ Issued n → ⊥
-not-issued e = let z : _≡_ {A = ℕ} 0 1 = cc in omega arith
 
 -- what an issued answer tells of the body
 pub record Body (k : Kind) (body : List ℕ) (n : ℕ) : Type 0 where
@@ -41,9 +40,9 @@ pub record Body (k : Kind) (body : List ℕ) (n : ℕ) : Type 0 where
 body-as : (k : Kind) (body : List ℕ) (room n : ℕ) → length body + 1 ≡ lengthOf k → issueAs k body room ≡ Issued n → Body k body n
 unfolding issueAs
 body-as k body room n long e =
-    let w = came-else (ltb (wrongSymbol k body) (length body)) (NotIssued WrongSymbol (wrongSymbol k body))
-    (if ltb room (lengthOf k) then NotIssued OutputTooShort 0 else Issued (lengthOf k)) (Issued n) not-issued e in
-    let r = came-else (ltb room (lengthOf k)) (NotIssued OutputTooShort 0) (Issued (lengthOf k)) (Issued n) not-issued (w .1) in
+    let w = came-else (ltb (wrongSymbol k body) (length body)) (Refused (because WrongSymbol (wrongSymbol k body)))
+    (if ltb room (lengthOf k) then Refused (because OutputTooShort 0) else Issued (lengthOf k)) (Issued n) (no-pass issueVerdict refl refl) e in
+    let r = came-else (ltb room (lengthOf k)) (Refused (because OutputTooShort 0)) (Issued (lengthOf k)) (Issued n) (no-pass issueVerdict refl refl) (w .1) in
     record { long = long; shaped = shaped-of k body (ltb-false (wrongSymbol k body) (length body) (w .0)); whole = cc }
 
 body-of : (body : List ℕ) (room n : ℕ) → issueAnswer body room ≡ Issued n → (k : Kind) × Body k body n
@@ -55,7 +54,7 @@ body-of body room n e =
           (simp t at e),
     ))
     (λ (f : eqb (length body) 14 ≡ false).
-    let w = came-then (eqb (length body) 27) (issueAs Label body room) (NotIssued WrongLength 0) (Issued n) not-issued (simp f at e) in
+    let w = came-then (eqb (length body) 27) (issueAs Label body room) (Refused (because WrongLength 0)) (Issued n) (no-pass issueVerdict refl refl) (simp f at e) in
     (Label, body-as Label body room n (omega (arith, eqb-true (length body) 27 (w .0))) (w .1)))
     (true-or-false (eqb (length body) 14))
 

@@ -10,8 +10,10 @@ use lib.Dec.{eqb, ltb}
 use lib.ListN.{length, getD, take, drop, length-append}
 use lib.Seq.{split-at, take-suc, take-all, getD-at}
 use borrow.Author.Tests.{eqb-true, eq-eqb, ltb-false, le-ltb}
+use Rattle.refusal.specs.declared.Reason.the-variants.{WrongLength, WrongSymbol, WrongCheck}
+use Rattle.refusal.specs.Table.{because}
 use Rattle.refusal.specs.declared.Refusal.{Refusal}
-use Rattle.refusal.specs.declared.Refusal.the-variants.{WrongLength, WrongSymbol, WrongCheck}
+use Rattle.refusal.proofs.Verdicts.{no-pass}
 use Rattle.text.specs.Byte.{digit, capital, symbol}
 use Rattle.text.specs.Choice.{if_then_else_}
 use Rattle.text.proofs.Choices.{came-then, came-else, or-cases, clash, true-or-false}
@@ -20,7 +22,7 @@ use Rattle.text.proofs.Bytes.{digit-range, capital-range}
 use Rattle.text.proofs.Scans.{none-fails, all-pass}
 use Rattle.check_characters.specs.Symbol.{valueOf}
 use Rattle.check_characters.specs.Mod37.{step, carryFrom, carry, passes}
-use Rattle.check_characters.specs.Number.{lengthOf, allowed, wrongSymbol, checkedAs, checked}
+use Rattle.check_characters.specs.Number.{lengthOf, allowed, wrongSymbol, checkedAs, checked, checkVerdict}
 use Rattle.check_characters.specs.declared.number.Kind.{Kind}
 use Rattle.check_characters.specs.declared.number.Kind.the-variants.{Tracking, Label}
 use Rattle.check_characters.specs.declared.number.NumberAnswer.the-variants.{Accepted, Refused}
@@ -32,10 +34,6 @@ use Rattle.slips.specs.Slips.{AgreeBut, swapped, OneFollows}
 use Rattle.slips.specs.Exactly.{Shaped, SoundNumber}
 use Rattle.slips.proofs.Places.{in-pieces, agree-there, pair-at}
 use Rattle.slips.proofs.Steps.{step-sum, step-value, step-back, swap-follows, follows-swap}
-
--- a refusal is no acceptance
-pub refused : {why : Refusal} {place : ℕ} {k : Kind} → Refused why place ≡ Accepted k → ⊥
-refused e = let z : _≡_ {A = ℕ} 0 1 = cc in omega arith
 
 pub shaped-of : (k : Kind) (s : List ℕ) → length s ≤ wrongSymbol k s → Shaped (allowed k) s
 shaped-of k s h i l = rw zero-add at (none-fails (allowed k) 0 s (omega arith) i l)
@@ -53,9 +51,9 @@ one-of-two c v e = step-sum c v 36 1 e
 sound-as : (j k : Kind) (s : List ℕ) → length s ≡ lengthOf j → checkedAs j s ≡ Accepted k → SoundNumber k s
 unfolding checkedAs
 sound-as j k s n e =
-    let w = came-else (ltb (wrongSymbol j s) (length s)) (Refused WrongSymbol (wrongSymbol j s))
-    (if passes s then Accepted j else Refused WrongCheck (length s - 1)) (Accepted k) refused e in
-    let p = came-then (passes s) (Accepted j) (Refused WrongCheck (length s - 1)) (Accepted k) refused (w .1) in
+    let w = came-else (ltb (wrongSymbol j s) (length s)) (Refused (because WrongSymbol (wrongSymbol j s)))
+    (if passes s then Accepted j else Refused (because WrongCheck (length s - 1))) (Accepted k) (no-pass checkVerdict refl refl) e in
+    let p = came-then (passes s) (Accepted j) (Refused (because WrongCheck (length s - 1))) (Accepted k) (no-pass checkVerdict refl refl) (w .1) in
     let q : j ≡ k = cc in
     let g : SoundNumber j s = record { long = n; shaped = shaped-of j s (ltb-false (wrongSymbol j s) (length s) (w .0)); closed = p .0 } in
     rw q at g
@@ -65,7 +63,7 @@ unfolding checked
 accepted-sound k s e =
     ⊎-elim (λ (t : eqb (length s) 15 ≡ true). sound-as Tracking k s (eqb-true (length s) 15 t) (simp t at e))
     (λ (n : eqb (length s) 15 ≡ false).
-    let w = came-then (eqb (length s) 28) (checkedAs Label s) (Refused WrongLength 0) (Accepted k) refused (simp n at e) in
+    let w = came-then (eqb (length s) 28) (checkedAs Label s) (Refused (because WrongLength 0)) (Accepted k) (no-pass checkVerdict refl refl) (simp n at e) in
     sound-as Label k s (eqb-true (length s) 28 (w .0)) (w .1))
     (true-or-false (eqb (length s) 15))
 

@@ -45,11 +45,12 @@ fn say_unknown() {
     io::write_all(1, b" ?\n");
 }
 
-fn say_no(why: Refusal, place: usize) {
+fn say_no(refusal: Refusal) {
+    let why = refusal.why;
     io::write_all(1, b" no ");
     io::print_decimal(1, refusal::number(why) as u64);
     io::write_all(1, b" ");
-    io::print_decimal(1, place as u64);
+    io::print_decimal(1, refusal.place as u64);
     io::write_all(1, b"\n");
 }
 
@@ -57,7 +58,7 @@ fn say_number(s: &[u8]) {
     let answer = check_characters::check_number(s);
     match answer {
         NumberAnswer::Accepted(kind) => say_kind(kind),
-        NumberAnswer::Refused { why, place } => say_no(why, place),
+        NumberAnswer::Refused(refusal) => say_no(refusal),
     }
 }
 
@@ -81,7 +82,7 @@ fn say_issued(body: &[u8]) {
             io::write_all(1, &out);
             io::write_all(1, b"\n");
         }
-        IssueAnswer::NotIssued { why, place } => say_no(why, place),
+        IssueAnswer::Refused(refusal) => say_no(refusal),
     }
 }
 
@@ -98,6 +99,6 @@ fn say_iban(s: &[u8]) {
         IbanAnswer::Accepted => {
             io::write_all(1, b" IBAN\n");
         }
-        IbanAnswer::Refused { why, place } => say_no(why, place),
+        IbanAnswer::Refused(refusal) => say_no(refusal),
     }
 }

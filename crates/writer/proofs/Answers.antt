@@ -10,8 +10,9 @@ use borrow.Author.Tests.{le-leb, lt-leb, ne-eqb, not-false}
 use Rattle.text.specs.Quoted.{bytes}
 use Rattle.text.specs.Placed.{written, placed}
 use Rattle.text.proofs.Placing.{placed-there}
+use Rattle.refusal.specs.declared.Reason.the-variants.{UnknownRecord, FieldCount, FeatureLacks, OutputTooShort, FieldEnds}
+use Rattle.refusal.specs.Table.{because}
 use Rattle.refusal.specs.declared.Refusal.{Refusal}
-use Rattle.refusal.specs.declared.Refusal.the-variants.{UnknownRecord, FieldCount, FeatureLacks, OutputTooShort, FieldEnds}
 use Rattle.fields.specs.Profile.{profile}
 use Rattle.fields.specs.Record.{typeOf, countFits}
 use Rattle.fields.specs.declared.record.Record.{Record}
@@ -27,7 +28,7 @@ use Rattle.grammar.proofs.Lines.{render-long}
 use Rattle.grammar.proofs.Sizes.{count-le, sound, fields-le}
 use Rattle.writer.specs.Write.{recordNumbered, endsHold, between, walked, ofFields, ofRecord, writeAnswer, lineTo, writtenTo}
 use Rattle.writer.specs.declared.write.WriteAnswer.{WriteAnswer}
-use Rattle.writer.specs.declared.write.WriteAnswer.the-variants.{Written, NotWritten}
+use Rattle.writer.specs.declared.write.WriteAnswer.the-variants.{Written, Refused}
 use Rattle.writer.proofs.Ends.{between-count}
 use Rattle.writer.proofs.Walks.{walked-fields}
 use Rattle.writer.proofs.Puts.{together-long}
@@ -65,16 +66,16 @@ module _ (kind : Record) (text ends room line : List ℕ) (long : ℕ) (fits : l
     asked = et ∙ ap (λ (l : List ℕ). lacks kind (split l)) text-taken
         ∙ ap (lacks kind) (fields-split profile kind (between text ends) (walked-fields (profile kind) 1 (typeOf kind) (between text ends) fine))
 
-    pub fields-lack : t ≡ true → NotWritten FeatureLacks 0 ≡ ofFields kind (between text ends) size fill
+    pub fields-lack : t ≡ true → Refused (because FeatureLacks 0) ≡ ofFields kind (between text ends) size fill
     unfolding ofFields
     fields-lack e = rw (← asked, e)
 
     module _ (has : t ≡ false) where
-      pub fill-past : size < fill → NotWritten OutputTooShort 0 ≡ ofFields kind (between text ends) size fill
+      pub fill-past : size < fill → Refused (because OutputTooShort 0) ≡ ofFields kind (between text ends) size fill
       unfolding ofFields
       fill-past h = rw (← asked, has, ← en, lt-leb (fill + long) size (omega arith))
 
-      pub too-short : fill ≤ size → size - fill < long → NotWritten OutputTooShort 0 ≡ ofFields kind (between text ends) size fill
+      pub too-short : fill ≤ size → size - fill < long → Refused (because OutputTooShort 0) ≡ ofFields kind (between text ends) size fill
       unfolding ofFields
       too-short l h = rw (← asked, has, ← en, lt-leb (fill + long) size (omega arith))
 
@@ -93,25 +94,25 @@ module _ (number : ℕ) (text ends : List ℕ) (size fill : ℕ) (nd : Named) (e
   unfolding writeAnswer
   recorded a e = e ∙ ap (λ (m : Named). ofRecord m text ends size fill) ed
 
-  pub number-unknown : nd ≡ Unknown → NotWritten UnknownRecord 0 ≡ writeAnswer number text ends size fill
+  pub number-unknown : nd ≡ Unknown → Refused (because UnknownRecord 0) ≡ writeAnswer number text ends size fill
   unfolding ofRecord
-  number-unknown e = recorded (NotWritten UnknownRecord 0) (rw e)
+  number-unknown e = recorded (Refused (because UnknownRecord 0)) (rw e)
 
   module _ (kind : Record) (known : nd ≡ Known kind) (t : Bool) (et : t ≡ endsHold ends (length text)) where
-    pub ends-wrong : not t ≡ true → NotWritten FieldEnds 0 ≡ writeAnswer number text ends size fill
+    pub ends-wrong : not t ≡ true → Refused (because FieldEnds 0) ≡ writeAnswer number text ends size fill
     unfolding ofRecord
-    ends-wrong e = recorded (NotWritten FieldEnds 0) (rw (known, ← et, e))
+    ends-wrong e = recorded (Refused (because FieldEnds 0)) (rw (known, ← et, e))
 
     module _ (hold : not t ≡ false) (u : Bool) (eu : u ≡ countFits kind (length ends)) where
-      pub count-wrong : not u ≡ true → NotWritten FieldCount 0 ≡ writeAnswer number text ends size fill
+      pub count-wrong : not u ≡ true → Refused (because FieldCount 0) ≡ writeAnswer number text ends size fill
       unfolding ofRecord
-      count-wrong e = recorded (NotWritten FieldCount 0) (rw (known, ← et, hold, ← eu, e))
+      count-wrong e = recorded (Refused (because FieldCount 0)) (rw (known, ← et, hold, ← eu, e))
 
       module _ (right : not u ≡ false) (w : Walk) (ew : w ≡ walked (profile kind) 1 (typeOf kind) (between text ends)) where
-        pub field-wrong : (why : Refusal) (place : ℕ) → w ≡ Stopped why place →
-            NotWritten why place ≡ writeAnswer number text ends size fill
+        pub field-wrong : (refusal : Refusal) → w ≡ Stopped refusal →
+            Refused refusal ≡ writeAnswer number text ends size fill
         unfolding ofRecord
-        field-wrong why place e = recorded (NotWritten why place) (rw (known, ← et, hold, ← eu, right, ← ew, e))
+        field-wrong refusal e = recorded (Refused refusal) (rw (known, ← et, hold, ← eu, right, ← ew, e))
 
         pub fields-good : w ≡ Fine → (a : WriteAnswer) → a ≡ ofFields kind (between text ends) size fill →
             a ≡ writeAnswer number text ends size fill
@@ -134,11 +135,11 @@ module _ (kind : Record) (text ends : List ℕ) (w : Walk) (ew : w ≡ walked (p
       omega (arith, c, f, between-count text ends, together-long kind text ends (ends-held ends (length text) t et hold))
 
 -- the output
-pub output-stays : (why : Refusal) (place : ℕ) (nd : Named) (fs : List (List ℕ)) (out : List ℕ) (fill : ℕ) →
-    out ≡ writtenTo (NotWritten why place) nd fs out fill
+pub output-stays : (refusal : Refusal) (nd : Named) (fs : List (List ℕ)) (out : List ℕ) (fill : ℕ) →
+    out ≡ writtenTo (Refused refusal) nd fs out fill
 unfolding writtenTo
-output-stays why place Unknown fs out fill = refl
-output-stays why place (Known kind) fs out fill = refl
+output-stays refusal Unknown fs out fill = refl
+output-stays refusal (Known kind) fs out fill = refl
 
 pub output-after : (number : ℕ) (nd : Named) (kind : Record) (fs : List (List ℕ)) (out after : List ℕ) (fill : ℕ) (a : WriteAnswer) →
     nd ≡ recordNumbered number → nd ≡ Known kind → after ≡ lineTo a kind fs out fill →

@@ -13,8 +13,10 @@ use borrow.Author.Tests.{le-leb, leb-true, eq-eqb, not-false}
 use Rattle.text.specs.Choice.{if_then_else_}
 use Rattle.text.specs.Placed.{written}
 use Rattle.text.proofs.Choices.{and-both, came-then, came-else}
+use Rattle.refusal.specs.declared.Reason.the-variants.{FieldCount, FeatureLacks, OutputTooShort, FieldEnds}
+use Rattle.refusal.specs.Table.{because}
 use Rattle.refusal.specs.declared.Refusal.{Refusal}
-use Rattle.refusal.specs.declared.Refusal.the-variants.{FieldCount, FeatureLacks, OutputTooShort, FieldEnds}
+use Rattle.refusal.proofs.Verdicts.{no-pass}
 use Rattle.fields.specs.Profile.{profile}
 use Rattle.fields.specs.Record.{typeOf, countFits}
 use Rattle.fields.specs.declared.record.Record.{Record}
@@ -28,10 +30,10 @@ use Rattle.line.specs.declared.walk.Walk.the-variants.{Fine, Stopped}
 use Rattle.grammar.specs.Grammar.{render, fieldNo, LineOk, Reads}
 use Rattle.grammar.proofs.Sizes.{render-reads, render-accepted, sound}
 use Rattle.grammar.proofs.Finding.{found, field-exactly}
-use Rattle.writer.specs.Write.{recordNumbered, risesTo, endsHold, fieldsFrom, between, walked, ofFields, afterWalk}
+use Rattle.writer.specs.Write.{recordNumbered, risesTo, endsHold, fieldsFrom, between, walked, ofFields, afterWalk, writeVerdict}
 use Rattle.writer.specs.Write.{ofRecord, writeAnswer, writtenTo, Writes, inOne, endsFrom, Writable, ReadsBack}
 use Rattle.writer.specs.declared.write.WriteAnswer.{WriteAnswer}
-use Rattle.writer.specs.declared.write.WriteAnswer.the-variants.{Written, NotWritten}
+use Rattle.writer.specs.declared.write.WriteAnswer.the-variants.{Written, Refused}
 use Rattle.writer.proofs.Ends.{between-count}
 use Rattle.writer.proofs.Walks.{walked-fields, fields-walked}
 
@@ -43,34 +45,31 @@ one-outcome number text ends out fill a b x y g h =
     let e : a ≡ b = g .0 ∙ sym (h .0) in
     (e, g .1 ∙ ap (λ (r : WriteAnswer). writtenTo r (recordNumbered number) (between text ends) out fill) e ∙ sym (h .1))
 
-not-written : {why : Refusal} {place n : ℕ} → NotWritten why place ≡ Written n → ⊥
-not-written e = let z : _≡_ {A = ℕ} 0 1 = cc in omega arith
-
 -- a line that was written could be
 module _ (number : ℕ) (text ends : List ℕ) (size fill n : ℕ) where
   wrote : (nd : Named) → recordNumbered number ≡ nd → ofRecord nd text ends size fill ≡ Written n → Writable number text ends size fill n
   unfolding ofRecord ofFields
-  wrote Unknown k e = absurd (not-written e)
+  wrote Unknown k e = absurd (no-pass writeVerdict refl refl e)
   wrote (Known kind) k e =
       let held = endsHold ends (length text) in
       let fits = countFits kind (length ends) in
       let w = walked (profile kind) 1 (typeOf kind) (between text ends) in
       let after = afterWalk w kind (between text ends) size fill in
-      let a = came-else (not held) (NotWritten FieldEnds 0) (if not fits then NotWritten FieldCount 0 else after)
-      (Written n) not-written e in
-      let b = came-else (not fits) (NotWritten FieldCount 0) after (Written n) not-written (a .1) in
+      let a = came-else (not held) (Refused (because FieldEnds 0)) (if not fits then Refused (because FieldCount 0) else after)
+      (Written n) (no-pass writeVerdict refl refl) e in
+      let b = came-else (not fits) (Refused (because FieldCount 0)) after (Written n) (no-pass writeVerdict refl refl) (a .1) in
       go w refl (not-false held (a .0)) (not-false fits (b .0)) (b .1)
     where
       go :
           (w : Walk) → walked (profile kind) 1 (typeOf kind) (between text ends) ≡ w → endsHold ends (length text) ≡ true →
           countFits kind (length ends) ≡ true →
           afterWalk w kind (between text ends) size fill ≡ Written n → Writable number text ends size fill n
-      go (Stopped why place) ew eh ec e = absurd (not-written e)
+      go (Stopped refusal) ew eh ec e = absurd (no-pass writeVerdict refl refl e)
       go Fine ew eh ec e =
           let line = render kind (between text ends) in
-          let room = if leb (fill + length line) size then Written (length line) else NotWritten OutputTooShort 0 in
-          let a = came-else (lacks kind (typeOf kind ∷ between text ends)) (NotWritten FeatureLacks 0) room (Written n) not-written e in
-          let b = came-then (leb (fill + length line) size) (Written (length line)) (NotWritten OutputTooShort 0) (Written n) not-written
+          let room = if leb (fill + length line) size then Written (length line) else Refused (because OutputTooShort 0) in
+          let a = came-else (lacks kind (typeOf kind ∷ between text ends)) (Refused (because FeatureLacks 0)) room (Written n) (no-pass writeVerdict refl refl) e in
+          let b = came-then (leb (fill + length line) size) (Written (length line)) (Refused (because OutputTooShort 0)) (Written n) (no-pass writeVerdict refl refl)
           (a .1) in
           record {
             kind = kind;

@@ -9,8 +9,9 @@ use lib.ListN.{length, take, drop, getD, drop-of-length-le}
 use lib.Seq.{drop-cons}
 use Rattle.text.specs.Scan.{all}
 use Rattle.text.proofs.Choices.{came-then}
-use Rattle.refusal.specs.declared.Refusal.{Refusal}
-use Rattle.refusal.specs.declared.Refusal.the-variants.{FieldForm}
+use Rattle.refusal.specs.declared.Reason.{Reason}
+use Rattle.refusal.specs.declared.Reason.the-variants.{FieldForm}
+use Rattle.refusal.specs.Table.{because}
 use Rattle.fields.specs.Record.{typeOf}
 use Rattle.fields.specs.Profile.{profile, hasForm, Row, widthOf, widthInTable, isRequired}
 use Rattle.fields.specs.Field.{tested}
@@ -26,7 +27,7 @@ use Rattle.grammar.proofs.Fields.{good-field, field-good, on-fine}
 use Rattle.writer.specs.Write.{fieldsFrom, between, ifPlain, testedToWrite, walked}
 
 module _ (rows : List Row) (n : ℕ) (beside f : List ℕ) (t : Tested) (et : t ≡ tested rows n beside f) where
-  pub test-bad : (why : Refusal) → t ≡ Bad why → Bad why ≡ testedToWrite rows n beside f
+  pub test-bad : (why : Reason) → t ≡ Bad why → Bad why ≡ testedToWrite rows n beside f
   unfolding testedToWrite
   test-bad why e = rw (← et, e)
 
@@ -70,7 +71,7 @@ module _ (rows : List Row) (text ends : List ℕ) (i start : ℕ) (beside : List
         (fieldsFrom (getD ends i 0) text (drop (suc i) ends))) ≡ whole
     turn = rw et (sym (ap (λ (l : List ℕ). walked rows (i + 1) beside (fieldsFrom start text l)) (drop-cons ends i 0 h)) ∙ left)
 
-    pub walk-stops : (why : Refusal) → t ≡ Bad why → Stopped why (i + 1) ≡ whole
+    pub walk-stops : (why : Reason) → t ≡ Bad why → Stopped (because why (i + 1)) ≡ whole
     walk-stops why e = rw e at turn
 
     pub walk-on : t ≡ Good → walked rows (i + 1 + 1) (take (getD ends i 0 - start) (drop start text))
@@ -85,7 +86,7 @@ module _ (rows : List Row) (text ends : List ℕ) (i start : ℕ) (beside : List
         ∙ on
 
 -- the walk passes exactly the fields that are allowed
-bad : {why : Refusal} → Bad why ≡ Good → ⊥
+bad : {why : Reason} → Bad why ≡ Good → ⊥
 bad e = let z : _≡_ {A = ℕ} 0 1 = cc in omega arith
 
 plain-good : (t : Tested) (f : List ℕ) → ifPlain t f ≡ Good → (t ≡ Good) × (all plain f ≡ true)

@@ -9,8 +9,8 @@ use lib.ListN.{length, take, drop}
 use Rattle.text.specs.Choice.{if_then_else_}
 use Rattle.text.specs.Placed.{written}
 use Rattle.text.specs.Scan.{all}
-use Rattle.refusal.specs.Table.{numberOf, Verdict}
-use Rattle.refusal.specs.declared.Refusal.the-variants.{UnknownRecord, FieldCount, FieldForm, FeatureLacks, OutputTooShort, FieldEnds}
+use Rattle.refusal.specs.Table.{because, verdictOf, Verdict}
+use Rattle.refusal.specs.declared.Reason.the-variants.{UnknownRecord, FieldCount, FieldForm, FeatureLacks, OutputTooShort, FieldEnds}
 use Rattle.fields.specs.Profile.{Row, profile}
 use Rattle.fields.specs.Record.{typeOf, countFits}
 use Rattle.fields.specs.Field.{tested}
@@ -30,7 +30,7 @@ use Rattle.line.specs.declared.read.LineAnswer.the-variants.{Accepted}
 use Rattle.line.specs.declared.find.FieldAnswer.the-variants.{Found}
 use Rattle.grammar.specs.Grammar.{render, plain, fieldNo, LineOk}
 use Rattle.writer.specs.declared.write.WriteAnswer.{WriteAnswer}
-use Rattle.writer.specs.declared.write.WriteAnswer.the-variants.{Written, NotWritten}
+use Rattle.writer.specs.declared.write.WriteAnswer.the-variants.{Written, Refused}
 
 -- "Record type as a number (10 for 010, up to 60)"; any other is of no record
 unfoldable pub recordNumbered : ℕ → Named
@@ -78,21 +78,21 @@ walked rows n beside (f ∷ fs) = onTest (testedToWrite rows n beside f) n (walk
 -- 9, then 13: whether the line fits into an output of this size behind its fill. "A fill past the output is 13."
 unfoldable pub ofFields : Record → List (List ℕ) → ℕ → ℕ → WriteAnswer
 ofFields kind fs size fill =
-    if lacks kind (typeOf kind ∷ fs) then NotWritten FeatureLacks 0
+    if lacks kind (typeOf kind ∷ fs) then Refused (because FeatureLacks 0)
     else if leb (fill + length (render kind fs)) size then Written (length (render kind fs))
-    else NotWritten OutputTooShort 0
+    else Refused (because OutputTooShort 0)
 
 -- the fields are in order, or one is not
 abbrev pub afterWalk : Walk → Record → List (List ℕ) → ℕ → ℕ → WriteAnswer
-afterWalk (Stopped why place) kind fs size fill = NotWritten why place
+afterWalk (Stopped refusal) kind fs size fill = Refused refusal
 afterWalk Fine kind fs size fill = ofFields kind fs size fill
 
 -- 3, then 14, then 5, then the fields
 unfoldable pub ofRecord : Named → List ℕ → List ℕ → ℕ → ℕ → WriteAnswer
-ofRecord Unknown text ends size fill = NotWritten UnknownRecord 0
+ofRecord Unknown text ends size fill = Refused (because UnknownRecord 0)
 ofRecord (Known kind) text ends size fill =
-    if not (endsHold ends (length text)) then NotWritten FieldEnds 0
-    else if not (countFits kind (length ends)) then NotWritten FieldCount 0
+    if not (endsHold ends (length text)) then Refused (because FieldEnds 0)
+    else if not (countFits kind (length ends)) then Refused (because FieldCount 0)
     else afterWalk (walked (profile kind) 1 (typeOf kind) (between text ends)) kind (between text ends) size fill
 
 -- "The answer is how many bytes were written"
@@ -101,7 +101,7 @@ writeAnswer number text ends size fill = ofRecord (recordNumbered number) text e
 
 -- "The line goes at the fill, other output bytes stay; a refusal changes none."
 abbrev pub lineTo : WriteAnswer → Record → List (List ℕ) → List ℕ → ℕ → List ℕ
-lineTo (NotWritten why place) kind fs out fill = out
+lineTo (Refused refusal) kind fs out fill = out
 lineTo (Written n) kind fs out fill = written out fill (render kind fs)
 
 -- the output after an answer; under an unknown record nothing is written
@@ -118,7 +118,7 @@ Writes number text ends out fill answer after =
 -- the paper's number and place for each answer
 abbrev pub writeVerdict : WriteAnswer → Verdict
 writeVerdict (Written n) = Verdict.passes
-writeVerdict (NotWritten why place) = Verdict.refused (numberOf why) place
+writeVerdict (Refused refusal) = verdictOf refusal
 
 -- what a caller hands over for fields: "one text with all fields joined", and "a list of field ends"
 abbrev pub inOne : List (List ℕ) → List ℕ

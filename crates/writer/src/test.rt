@@ -10,6 +10,7 @@ ghost use Rattle.writer.specs.Write.{endsHold, between, testedToWrite, w
 use fields::Record;
 use fields::Tested;
 use line::Walk;
+use refusal::Reason;
 use refusal::Refusal;
 
 // Whether the ends never fall and the last is the length of the text.
@@ -40,7 +41,7 @@ pub fn walk_fields(kind: Record, text: &[u8], ends: &[usize]) -> Walk
         let end = ends[i];
         let tested = test_to_write(kind, i + 1, &text[beside..start], &text[start..end]);
         if let Tested::Bad(why) = tested {
-            return Walk::Stopped { why, place: i + 1 };
+            return Walk::Stopped(Refusal { why, place: i + 1 });
         }
         beside = start;
         start = end;
@@ -60,7 +61,7 @@ fn test_to_write(kind: Record, number: usize, beside: &[u8], field: &[u8]) -> Te
     if all_plain(field) {
         return Tested::Good;
     }
-    Tested::Bad(Refusal::FieldForm)
+    Tested::Bad(Reason::FieldForm)
 }
 
 // Whether every byte may stand in a field.

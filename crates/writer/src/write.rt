@@ -12,12 +12,13 @@ use crate::test;
 use fields::Named;
 use fields::Record;
 use line::Walk;
+use refusal::Reason;
 use refusal::Refusal;
 
 pub enum WriteAnswer {
     // How many bytes.
     Written(usize),
-    NotWritten { why: Refusal, place: usize },
+    Refused(Refusal),
 }
 
 // Writes the line of the record with this number, whose fields stand one behind the other in the text and end at these ends, into
@@ -33,26 +34,26 @@ pub fn write_line(
 {
     let named = record_numbered(number);
     let Named::Known(kind) = named else {
-        return WriteAnswer::NotWritten {
-            why: Refusal::UnknownRecord,
+        return WriteAnswer::Refused(Refusal {
+            why: Reason::UnknownRecord,
             place: 0,
-        };
+        });
     };
     if !test::ends_hold(ends, text.len()) {
-        return WriteAnswer::NotWritten {
-            why: Refusal::FieldEnds,
+        return WriteAnswer::Refused(Refusal {
+            why: Reason::FieldEnds,
             place: 0,
-        };
+        });
     }
     if !fields::count_fits(kind, ends.len()) {
-        return WriteAnswer::NotWritten {
-            why: Refusal::FieldCount,
+        return WriteAnswer::Refused(Refusal {
+            why: Reason::FieldCount,
             place: 0,
-        };
+        });
     }
     let walked = test::walk_fields(kind, text, ends);
-    if let Walk::Stopped { why, place } = walked {
-        return WriteAnswer::NotWritten { why, place };
+    if let Walk::Stopped(refusal) = walked {
+        return WriteAnswer::Refused(refusal);
     }
     // No allowed line is longer than 4,045 bytes.
     let mut line = [0u8; 4096];
@@ -91,22 +92,22 @@ fn write_fields(
 {
     let long = put::put_line(line, kind, text, ends);
     if line::lacks_field(kind, &line[..long - 2]) {
-        return WriteAnswer::NotWritten {
-            why: Refusal::FeatureLacks,
+        return WriteAnswer::Refused(Refusal {
+            why: Reason::FeatureLacks,
             place: 0,
-        };
+        });
     }
     if out.len() < fill {
-        return WriteAnswer::NotWritten {
-            why: Refusal::OutputTooShort,
+        return WriteAnswer::Refused(Refusal {
+            why: Reason::OutputTooShort,
             place: 0,
-        };
+        });
     }
     if out.len() - fill < long {
-        return WriteAnswer::NotWritten {
-            why: Refusal::OutputTooShort,
+        return WriteAnswer::Refused(Refusal {
+            why: Reason::OutputTooShort,
             place: 0,
-        };
+        });
     }
     text::place(out, fill, &line[..long]);
     WriteAnswer::Written(long)

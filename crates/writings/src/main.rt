@@ -79,7 +79,7 @@ fn write(call: Call, text: &[u8], ends: &[usize], out: &mut [u8]) {
     let answer = writer::write_line(call.number, text, ends, out, call.fill);
     match answer {
         WriteAnswer::Written(n) => say_written(n),
-        WriteAnswer::NotWritten { why, place } => say_no(why, place),
+        WriteAnswer::Refused(refusal) => say_no(refusal),
     }
     io::write_all(1, out);
     io::write_all(1, b"\n");
@@ -91,10 +91,11 @@ fn say_written(n: usize) {
     io::write_all(1, b" ");
 }
 
-fn say_no(why: Refusal, place: usize) {
+fn say_no(refusal: Refusal) {
+    let why = refusal.why;
     io::write_all(1, b"no ");
     io::print_decimal(1, refusal::number(why) as u64);
     io::write_all(1, b" ");
-    io::print_decimal(1, place as u64);
+    io::print_decimal(1, refusal.place as u64);
     io::write_all(1, b" ");
 }

@@ -2,12 +2,12 @@
 use Prim.Native.Nat.{ℕ}
 use mathlib.Core.Path.{_≡_, sym, ap, _∙_}
 use borrow.Author.Needs.{needs}
-use Rattle.refusal.specs.declared.Refusal.{Refusal}
+use Rattle.refusal.specs.declared.Reason.{Reason}
 use Rattle.refusal.specs.Table.{numberOf}
 use Rattle.refusal.proofs.number.Statement.{statement}
 use Rattle.refusal.proofs.number.Tie as tie
 
-row : (why case : Refusal) (n : ℕ) → why ≡ case → n ≡ numberOf case → n ≡ numberOf why
+row : (why case : Reason) (n : ℕ) → why ≡ case → n ≡ numberOf case → n ≡ numberOf why
 row why case n told r = r ∙ sym (ap numberOf told)
 
 ruleset laws = (needs, row)
