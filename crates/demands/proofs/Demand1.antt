@@ -21,9 +21,8 @@ use Rattle.line.specs.Find.{fieldAnswer}
 use Rattle.line.specs.declared.read.LineAnswer.{LineAnswer}
 use Rattle.line.specs.declared.find.FieldAnswer.{FieldAnswer}
 use Rattle.file.specs.File.{Judges}
-use Rattle.writer.specs.Write.{Writes}
+use Rattle.writer.specs.Write.{recordNumbered, between, writtenTo, Writes}
 use Rattle.writer.specs.declared.write.WriteAnswer.{WriteAnswer}
-use Rattle.writer.proofs.Back.{one-outcome}
 use Rattle.purpose.specs.Purpose.{Purposes}
 use Rattle.purpose.specs.declared.write.PurposeAnswer.{PurposeAnswer}
 use Rattle.purpose.proofs.Settled as settled
@@ -71,7 +70,9 @@ clear-unique words = one-answer (λ (w : List ℕ). replicate (length w) 0) word
 pub write-line-unique :
     (number : ℕ) (text ends out : List ℕ) (fill : ℕ) (a b : WriteAnswer) (x y : List ℕ) →
     Writes number text ends out fill a x → Writes number text ends out fill b y → (a ≡ b) × (x ≡ y)
-write-line-unique = one-outcome
+write-line-unique number text ends out fill a b x y p q =
+    let same : a ≡ b = p .0 ∙ sym (q .0) in
+    (same, p .1 ∙ ap (λ (r : WriteAnswer). writtenTo r (recordNumbered number) (between text ends) out fill) same ∙ sym (q .1))
 
 pub write-purpose-unique :
     (s : List ℕ) (n words : ℕ) (out : List ℕ) (a b : PurposeAnswer) (list list₂ x y : List ℕ) →

@@ -14,7 +14,6 @@ use Rattle.check_characters.specs.declared.number.IssueAnswer.{IssueAnswer}
 use Rattle.check_characters.specs.declared.number.IssueAnswer.the-variants.{Issued}
 use Rattle.check_characters.specs.declared.iban.IbanAnswer.the-variants.{Accepted as AcceptedIban}
 use Rattle.fields.specs.Profile.{profile}
-use Rattle.grammar.proofs.Sizes.{sound}
 use Rattle.line.specs.Line.{lineAnswer, alone}
 use Rattle.line.specs.Find.{fieldAnswer}
 use Rattle.line.specs.declared.read.Line.{Line}
@@ -30,10 +29,11 @@ use Rattle.file.specs.declared.whole.FileAnswer.the-variants.{Accepted as Accep
 use Rattle.fields.specs.declared.record.Record.{Record}
 use Rattle.fields.specs.declared.record.Named.the-variants.{Known}
 use Rattle.text.specs.Placed.{written}
-use Rattle.writer.specs.Write.{recordNumbered, between, writeAnswer, Writes, inOne, endsFrom, Writable, ReadsBack}
+use Rattle.writer.specs.Write.{recordNumbered, between, writeAnswer, Writes}
+use Rattle.grammar.specs.Written.{inOne, endsFrom, Writable, ReadsBack}
 use Rattle.writer.specs.declared.write.WriteAnswer.{WriteAnswer}
 use Rattle.writer.specs.declared.write.WriteAnswer.the-variants.{Written}
-use Rattle.writer.proofs.Back as writing
+use Rattle.grammar.proofs.Back as writing
 use Rattle.allowed.specs.Allowed.{FileLine, AllowedFile, totalsOf, lineStarts}
 use Rattle.allowed.proofs.Files.{accepted-allowed, allowed-accepted, one-division}
 use Rattle.slips.specs.Exactly.{SoundNumber, SoundIban, bodyOf}

@@ -2,3 +2,5 @@ pub mod Records
 pub mod Tables
 pub mod Forms
 pub mod Tests
+pub mod Types
+pub mod Rules

@@ -10,14 +10,14 @@ use lib.Seq.{drop-drop, take-append-seam, drop-append-seam}
 use borrow.Author.Tests.{le-ltb, lt-ltb, eq-eqb, ne-eqb}
 use Rattle.text.specs.Quoted.{bytes}
 use Rattle.text.proofs.Numbers.{le-or-lt}
-use Rattle.refusal.specs.declared.Reason.{Reason}
 use Rattle.refusal.specs.declared.Reason.the-variants.{NotThere}
 use Rattle.refusal.specs.Table.{because}
 use Rattle.refusal.specs.declared.Refusal.{Refusal}
 use Rattle.refusal.proofs.Verdicts.{no-pass}
 use Rattle.fields.specs.Record.{typeOf}
 use Rattle.fields.specs.Profile.{Rules}
-use Rattle.line.specs.Parts.{startIn, startOf, fieldsOf}
+use Rattle.line.specs.Parts.{startIn, startOf, fieldsOf, fieldNo}
+use Rattle.line.specs.Render.{joined, textOf}
 use Rattle.line.specs.Line.{textAt, lineAnswer, alone}
 use Rattle.line.specs.Find.{inLine, fieldAnswer, fieldVerdict}
 use Rattle.line.specs.Told.{Told}
@@ -25,7 +25,7 @@ use Rattle.line.specs.declared.read.Line.{Line}
 use Rattle.line.specs.declared.read.LineAnswer.{LineAnswer}
 use Rattle.line.specs.declared.read.LineAnswer.the-variants.{Accepted, Refused}
 use Rattle.line.specs.declared.find.FieldAnswer.the-variants.{Found, Refused}
-use Rattle.grammar.specs.Grammar.{joined, textOf, fieldNo, Reads, Finds}
+use Rattle.grammar.specs.Grammar.{Reads, Finds}
 use Rattle.grammar.proofs.Lines.{accepted-reads, reads-accepted, reads-alone, read-parts, read-field}
 
 -- the bytes in front of a field

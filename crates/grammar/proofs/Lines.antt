@@ -1,63 +1,55 @@
 -- One line: it is accepted exactly when an allowed line stands at the offset, and the bytes can be read in one way only.
 use Prim.Native.Nat.{ℕ, suc, _+_, _-_, _≤_}
 use mathlib.Core.Path.{_≡_, refl, sym, ap, _∙_}
-use mathlib.Core.Bool.{true, not}
+use mathlib.Core.Bool.{true}
 use mathlib.Core.List.{List, [], _∷_, _++_, append-assoc}
 use mathlib.Core.Logic.{_↔_}
 use native.Mathlib.Omega.{arith}
-use lib.Dec.{ltb, eqb}
+use lib.Dec.{eqb}
 use lib.ListN.{length, drop, getD, length-append, length-drop}
 use lib.Seq.{drop-drop, drop-append-seam}
-use borrow.Author.Tests.{ltb-false, le-ltb, eqb-true, not-false}
-use Rattle.text.specs.Choice.{if_then_else_}
+use borrow.Author.Tests.{le-ltb, eqb-true}
 use Rattle.text.specs.Byte.{textByte}
 use Rattle.text.specs.Quoted.{bytes}
 use Rattle.text.specs.Scan.{all}
-use Rattle.text.proofs.Choices.{and-left, came-else}
+use Rattle.text.proofs.Choices.{and-left}
 use Rattle.text.proofs.Runs.{run-once}
-use Rattle.refusal.specs.declared.Reason.the-variants.{FileTooLong, NoLineEnd}
-use Rattle.refusal.specs.Table.{because}
-use Rattle.refusal.proofs.Verdicts.{no-pass}
 use Rattle.forms.specs.Shape.{digits, allDigits}
 use Rattle.fields.specs.Record.{typeOf, mayCome}
-use Rattle.fields.specs.Profile.{profile, isRequired, hasForm, Rules}
+use Rattle.fields.specs.Profile.{Rules}
 use Rattle.fields.specs.declared.record.Due.{Due}
 use Rattle.fields.specs.declared.record.Record.{Record}
 use Rattle.fields.specs.declared.record.Record.the-variants.{Parcel}
-use Rattle.line.specs.Parts.{split, partAt, nameOf, fieldsOf}
-use Rattle.line.specs.Line.{lineEnd, endsWell, textAt, ofText, lineAnswer, alone, lineVerdict}
+use Rattle.fields.proofs.Types.{type-long, type-tells}
+use Rattle.fields.proofs.Rules.{Sound}
+use Rattle.line.specs.Parts.{split, partAt, nameOf, fieldsOf, fieldNo}
+use Rattle.line.specs.Render.{joined, textOf, render}
+use Rattle.line.specs.Line.{lineEnd, textAt, textAnswer, lineAnswer, alone}
 use Rattle.line.specs.Told.{Told}
 use Rattle.line.specs.declared.read.Line.{Line}
-use Rattle.line.specs.declared.read.LineAnswer.the-variants.{Accepted, Refused}
-use Rattle.grammar.specs.Grammar.{joined, textOf, render, fieldNo, LineOk, Reads, Sound}
-use Rattle.grammar.proofs.Ends.{ended, ends-at, ends-well, text-there}
-use Rattle.grammar.proofs.Texts.{type-long, type-tells, text-split, text-bytes, text-accepted, accepted-text}
-
-pub render-long : (kind : Record) (fs : List (List ℕ)) → length (render kind fs) ≡ length (textOf kind fs) + 2
-render-long kind fs = length-append (textOf kind fs) (bytes "\r\n")
+use Rattle.line.specs.declared.read.LineAnswer.the-variants.{Accepted}
+use Rattle.line.proofs.Plain.{render-long}
+use Rattle.line.proofs.Ends.{ended, ends-at, ends-well, text-there}
+use Rattle.line.proofs.Accepting.{line-ok}
+use Rattle.grammar.specs.Grammar.{LineOk, Reads}
+use Rattle.grammar.proofs.Texts.{text-split, text-bytes, text-accepted, text-written, text-allowed}
 
 -- an accepted line stands there
 pub accepted-reads : (told : Told) (s : List ℕ) (at : ℕ) (line : Line) → lineAnswer told s at ≡ Accepted line →
     Reads told s at line (fieldsOf (textAt s at))
-unfolding lineAnswer
 accepted-reads told s at line e =
     let text = textAt s at in
-    let end = lineEnd s at in
-    let ending = if not (endsWell s end) then Refused (because NoLineEnd end) else ofText told at text in
-    let inside = if ltb (length s) at then Refused (because NoLineEnd (length s)) else ending in
-    let a = came-else (ltb 65535 (length s)) (Refused (because FileTooLong 65535)) inside (Accepted line) (no-pass lineVerdict refl refl) e in
-    let b = came-else (ltb (length s) at) (Refused (because NoLineEnd (length s))) ending (Accepted line) (no-pass lineVerdict refl refl) (a .1) in
-    let c = came-else (not (endsWell s end)) (Refused (because NoLineEnd end)) (ofText told at text) (Accepted line) (no-pass lineVerdict refl refl) (b .1) in
-    let d = ended s at (not-false (endsWell s end) (c .0)) in
-    let g = accepted-text at text line told (d .text) (c .1) in
+    let g = line-ok told s at line e in
+    let d = ended s at (g .well) in
+    let written = text-written told at text line (d .text) (g .text) in
     record {
-      small = ltb-false 65535 (length s) (a .0);
-      comes = g .comes;
-      allowed = g .allowed;
+      small = g .short;
+      comes = g .text .comes;
+      allowed = text-allowed told at text line (d .text) (g .text);
       rest = d .rest;
-      stands = d .whole ∙ ap (λ (l : List ℕ). l ++ bytes "\r\n" ++ d .rest) (g .written);
-      count = g .count;
-      next = omega (arith, g .next, ap length (g .written), render-long (line .kind) (fieldsOf text));
+      stands = d .whole ∙ ap (λ (l : List ℕ). l ++ bytes "\r\n" ++ d .rest) written;
+      count = g .text .counted;
+      next = omega (arith, g .text .ends, ap length written, render-long (line .kind) (fieldsOf text));
     }
 
 -- what a line that stands there tells
@@ -113,7 +105,7 @@ module _ {told : Told} {s : List ℕ} {at : ℕ} {line : Line} {fs : List (List 
       go m e = rw (e, read-parts)
 
   pub reads-accepted : lineAnswer told s at ≡ Accepted line
-  unfolding lineAnswer
+  unfolding lineAnswer textAnswer
   reads-accepted =
       let n : at + length (textOf (line .kind) fs) + 2 ≡ line .next = omega (arith, g .next, render-long (line .kind) fs) in
       rw (

@@ -1,39 +1,19 @@
 -- Document 01, 'The file': what an allowed line is, apart from any order of tests, and how it stands in a file.
 use Prim.Native.Nat.{ℕ, suc, _+_, _-_, _≤_}
 use mathlib.Core.Path.{_≡_}
-use mathlib.Core.Bool.{Bool, true, false, _&&_}
+use mathlib.Core.Bool.{true, false}
 use mathlib.Core.List.{List, [], _∷_, _++_}
-use lib.Dec.{leb}
-use Rattle.forms.specs.Shape.{digits}
-use lib.ListN.{length, take, drop, getD}
-use Rattle.text.specs.Byte.{textByte}
+use lib.ListN.{length, take, drop}
 use Rattle.text.specs.Quoted.{bytes}
 use Rattle.text.specs.Scan.{all}
 use Rattle.fields.specs.Record.{typeOf, countFits, mayCome}
-use Rattle.fields.specs.Profile.{isRequired, hasForm, Row, profile, widthOf, Rules, But, always, instead}
+use Rattle.fields.specs.Profile.{isRequired, hasForm, Row, widthOf, Rules}
 use Rattle.fields.specs.declared.record.Record.{Record}
-use Rattle.fields.specs.declared.record.Record.the-variants.{Parcel}
-use Rattle.line.specs.Parts.{inField}
+use Rattle.line.specs.Parts.{fieldNo}
+use Rattle.line.specs.Render.{textOf, render, plain}
 use Rattle.line.specs.Need.{lacks}
 use Rattle.line.specs.Told.{Told}
 use Rattle.line.specs.declared.read.Line.{Line}
-
--- "Semicolons divide fields": each field stands after a semicolon
-abbrev pub joined : List (List ℕ) → List ℕ
-joined [] = []
-joined (f ∷ fs) = bytes ";" ++ f ++ joined fs
-
--- "The first field is the record type. Fields are numbered from 1 after it."
-abbrev pub textOf : Record → List (List ℕ) → List ℕ
-textOf kind fs = typeOf kind ++ joined fs
-
--- "A line runs to its first other byte, which must be CR followed by LF."
-abbrev pub render : Record → List (List ℕ) → List ℕ
-render kind fs = textOf kind fs ++ bytes "\r\n"
-
--- a byte that may stand in a field: a text byte, and no semicolon, since "nothing quotes them"
-abbrev pub plain : ℕ → Bool
-plain b = textByte b && inField b
 
 -- "only zero bytes is empty"
 abbrev pub Filled : List ℕ → Type 0
@@ -75,10 +55,6 @@ pub record Reads (told : Told) (s : List ℕ) (at : ℕ) (line : Line) (fs : Lis
   pub count : line .count ≡ length fs
   pub next : line .next ≡ at + length (render (line .kind) fs)
 
--- the field with a number, "numbered from 1"
-abbrev pub fieldNo : List (List ℕ) → ℕ → List ℕ
-fieldNo fs n = getD fs (n - 1) []
-
 -- "One field adds a field number, then 15 for 0 or above the count, and answers start and length."
 pub record Finds (kind : Record) (fs : List (List ℕ)) (s : List ℕ) (at n start long : ℕ) : Type 0 where
   pub first : 1 ≤ n
@@ -87,17 +63,3 @@ pub record Finds (kind : Record) (fs : List (List ℕ)) (s : List ℕ) (at n sta
   pub starts : start ≡ at + length (textOf kind (take (n - 1) fs) ++ bytes ";")
   pub measures : long ≡ length (fieldNo fs n)
   pub there : take long (drop start s) ≡ fieldNo fs n
-
--- what is asked of rules: no width above 100, and 040.1 must be filled with 22 digits
-abbrev pub narrow : But → Bool
-narrow always = true
-narrow (instead width test) = leb width 100
-
-abbrev pub within : List Row → Bool
-within [] = true
-within (row ∷ rows) = leb (row .width) 100 && (narrow (row .but) && within rows)
-
-pub record Sound (rules : Rules) : Type 0 where
-  pub narrows : (kind : Record) → within (rules kind) ≡ true
-  pub coded : isRequired (rules Parcel) 1 ≡ true
-  pub digital : (beside f : List ℕ) → hasForm (rules Parcel) 1 beside f ≡ digits 22 f

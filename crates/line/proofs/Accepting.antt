@@ -23,7 +23,9 @@ use Rattle.fields.specs.declared.record.Named.the-variants.{Known, Unknown}
 use Rattle.line.specs.Parts.{split, nameOf, fieldsOf}
 use Rattle.line.specs.Walk.{walk}
 use Rattle.line.specs.Need.{lacks}
-use Rattle.line.specs.Line.{lineEnd, endsWell, textAt, afterWalk, ofKind, ofNamed, ofText, lineAnswer, lineVerdict}
+use Rattle.line.specs.Line.{lineEnd, endsWell, textAt, afterWalk, ofKind, ofNamed, ofText, textAnswer, onText, lineAnswer, textVerdict, lineVerdict}
+use Rattle.line.specs.declared.scan.TextAnswer.{TextAnswer}
+use Rattle.line.specs.declared.scan.TextAnswer.the-variants.{Ends, Refused}
 use Rattle.line.specs.declared.walk.Walk.{Walk}
 use Rattle.line.specs.declared.walk.Walk.the-variants.{Fine, Stopped}
 use Rattle.line.specs.declared.read.Line.{Line}
@@ -89,39 +91,69 @@ module _ (told : Told) (at : ℕ) (line : List ℕ) (l : Line) where
   unfolding ofText
   text-ok e = named-ok (named (nameOf line)) refl e
 
-pub line-ok : (told : Told) (s : List ℕ) (at : ℕ) (l : Line) → lineAnswer told s at ≡ Accepted l → LineAt told s at l
-unfolding lineAnswer
-line-ok told s at l e =
-    let text = ofText told at (textAt s at) in
+-- the text of a line that ends well
+pub record TextEnds (s : List ℕ) (at end : ℕ) : Type 0 where
+  pub short : length s ≤ 65535
+  pub inside : at ≤ length s
+  pub well : endsWell s (lineEnd s at) ≡ true
+  pub is : end ≡ lineEnd s at
+
+pub text-ends : (s : List ℕ) (at end : ℕ) → textAnswer s at ≡ Ends end → TextEnds s at end
+unfolding textAnswer
+text-ends s at end e =
     let well = endsWell s (lineEnd s at) in
-    let end = if not well then Refused (because NoLineEnd (lineEnd s at)) else text in
-    let a = came-else (ltb 65535 (length s)) (Refused (because FileTooLong 65535)) (if ltb (length s) at then Refused (because NoLineEnd (length s)) else end)
-    (Accepted l) (no-pass lineVerdict refl refl) e in
-    let b = came-else (ltb (length s) at) (Refused (because NoLineEnd (length s))) end (Accepted l) (no-pass lineVerdict refl refl) (a .1) in
-    let c = came-else (not well) (Refused (because NoLineEnd (lineEnd s at))) text (Accepted l) (no-pass lineVerdict refl refl) (b .1) in
+    let found = if not well then Refused (because NoLineEnd (lineEnd s at)) else Ends (lineEnd s at) in
+    let a = came-else (ltb 65535 (length s)) (Refused (because FileTooLong 65535)) (if ltb (length s) at then Refused (because NoLineEnd (length s)) else found)
+    (Ends end) (no-pass textVerdict refl refl) e in
+    let b = came-else (ltb (length s) at) (Refused (because NoLineEnd (length s))) found (Ends end) (no-pass textVerdict refl refl) (a .1) in
+    let c = came-else (not well) (Refused (because NoLineEnd (lineEnd s at))) (Ends (lineEnd s at)) (Ends end) (no-pass textVerdict refl refl) (b .1) in
     record {
       short = ltb-false 65535 (length s) (a .0);
       inside = ltb-false (length s) at (b .0);
       well = not-false well (c .0);
-      text = text-ok told at (textAt s at) l (c .1);
+      is = cc;
     }
 
--- the bounds of an accepted line
-module _ (told : Told) (s : List ℕ) (at : ℕ) (l : Line) (g : LineAt told s at l) where
-  text-long : length (textAt s at) ≡ lineEnd s at - at
+pub line-ok : (told : Told) (s : List ℕ) (at : ℕ) (l : Line) → lineAnswer told s at ≡ Accepted l → LineAt told s at l
+unfolding lineAnswer
+line-ok told s at l e = go (textAnswer s at) refl e
+  where
+    go : (a : TextAnswer) → textAnswer s at ≡ a → onText a told s at ≡ Accepted l → LineAt told s at l
+    go (Refused refusal) q e = absurd (no-pass lineVerdict refl refl e)
+    go (Ends end) q e =
+        let t = text-ends s at end q in
+        record { short = t .short; inside = t .inside; well = t .well; text = rw (t .is) at (text-ok told at (take (end - at) (drop at s)) l e) }
+
+-- where the text lies
+module _ (s : List ℕ) (at : ℕ) (inside : at ≤ length s) where
+  pub text-long : length (textAt s at) ≡ lineEnd s at - at
   text-long =
       let above = first-least (λ _ b. textByte b) at (drop at s) in
       let below = first-most (λ _ b. textByte b) at (drop at s) in
-      omega (arith, length-take (lineEnd s at - at) (drop at s), length-drop at s, g .inside)
-
-  pub next-is : l .next ≡ lineEnd s at + 2
-  next-is = omega (arith, g .text .ends, text-long, first-least (λ _ b. textByte b) at (drop at s))
+      omega (arith, length-take (lineEnd s at - at) (drop at s), length-drop at s, inside)
 
   pub end-inside : lineEnd s at ≤ length s
-  end-inside = omega (arith, first-most (λ _ b. textByte b) at (drop at s), length-drop at s, g .inside)
+  end-inside = omega (arith, first-most (λ _ b. textByte b) at (drop at s), length-drop at s, inside)
 
   pub end-after : at ≤ lineEnd s at
   end-after = first-least (λ _ b. textByte b) at (drop at s)
+
+-- the text as the judge of a line takes it from the answer
+module _ (s : List ℕ) (at : ℕ) (a : TextAnswer) (ea : a ≡ textAnswer s at) (end : ℕ) (ee : a ≡ Ends end) where
+  found : TextEnds s at end
+  found = text-ends s at end (sym ea ∙ ee)
+
+  pub found-after : at ≤ end
+  found-after = omega (arith, found .is, end-after s at (found .inside))
+
+  pub found-inside : end ≤ length s
+  found-inside = omega (arith, found .is, end-inside s at (found .inside))
+
+  pub found-small : at + length (take (end - at) (drop at s)) < 65536
+  found-small = omega (arith, length-take (end - at) (drop at s), length-drop at s, found-after, found-inside, found .short)
+
+pub next-is : (told : Told) (s : List ℕ) (at : ℕ) (l : Line) → LineAt told s at l → l .next ≡ lineEnd s at + 2
+next-is told s at l g = omega (arith, g .text .ends, text-long s at (g .inside), end-after s at (g .inside))
 
 -- the text of an accepted line, as the callers take it from the answer
 module _ (told : Told) (s : List ℕ) (at : ℕ) (a : LineAnswer) (ea : a ≡ lineAnswer told s at) (l : Line) (el : a ≡ Accepted l) where
@@ -132,16 +164,16 @@ module _ (told : Told) (s : List ℕ) (at : ℕ) (a : LineAnswer) (ea : a ≡ li
   text-end = omega (arith, next-is told s at l lies)
 
   pub text-starts : at ≤ l .next - 2
-  text-starts = omega (arith, next-is told s at l lies, end-after told s at l lies)
+  text-starts = omega (arith, next-is told s at l lies, end-after s at (lies .inside))
 
   pub text-inside : l .next - 2 ≤ length s
-  text-inside = omega (arith, next-is told s at l lies, end-inside told s at l lies)
+  text-inside = omega (arith, next-is told s at l lies, end-inside s at (lies .inside))
 
   pub next-least : 2 ≤ l .next
   next-least = omega (arith, next-is told s at l lies)
 
   pub next-after : at + 2 ≤ l .next
-  next-after = omega (arith, next-is told s at l lies, end-after told s at l lies)
+  next-after = omega (arith, next-is told s at l lies, end-after s at (lies .inside))
 
   pub text-small : at + length (take (l .next - 2 - at) (drop at s)) < 65536
   text-small = omega (arith, length-take (l .next - 2 - at) (drop at s), length-drop at s, text-starts, text-inside, lies .short)

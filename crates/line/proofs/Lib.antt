@@ -1,6 +1,10 @@
 pub mod Parts
+pub mod Splits
+pub mod Plain
 pub mod Walking
+pub mod Passing
 pub mod Needs
 pub mod Lines
+pub mod Ends
 pub mod Accepting
 pub mod Finding

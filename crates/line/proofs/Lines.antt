@@ -21,7 +21,9 @@ use Rattle.fields.specs.declared.record.Named.the-variants.{Known, Unknown}
 use Rattle.line.specs.Parts.{semicolon, split, nameOf, fieldsOf}
 use Rattle.line.specs.Walk.{walk}
 use Rattle.line.specs.Need.{lacks}
-use Rattle.line.specs.Line.{lineEnd, endsWell, textAt, afterWalk, ofKind, ofNamed, ofText, lineAnswer}
+use Rattle.line.specs.Line.{lineEnd, endsWell, textAt, afterWalk, ofKind, ofNamed, ofText, textAnswer, lineAnswer}
+use Rattle.line.specs.declared.scan.TextAnswer.{TextAnswer}
+use Rattle.line.specs.declared.scan.TextAnswer.the-variants.{Ends, Refused}
 use Rattle.line.specs.declared.walk.Walk.{Walk}
 use Rattle.line.specs.declared.walk.Walk.the-variants.{Fine, Stopped}
 use Rattle.line.specs.Told.{Told}
@@ -90,22 +92,32 @@ module _ (told : Told) (at : ℕ) (line name : List ℕ) (en : name ≡ nameOf l
     unfolding ofNamed
     in-order e a ea = typed a (rw (known, ← et, e) ea)
 
--- the file's length, the offset, the line's end
-module _ (told : Told) (s : List ℕ) (at : ℕ) where
-  pub file-long : 65535 < length s → lineAnswer told s at ≡ Refused (because FileTooLong 65535)
+-- the text, then what is answered of it
+module _ (told : Told) (s : List ℕ) (at : ℕ) (a : TextAnswer) (ea : a ≡ textAnswer s at) where
+  pub text-refused : (refusal : Refusal) → a ≡ Refused refusal → Refused refusal ≡ lineAnswer told s at
   unfolding lineAnswer
+  text-refused refusal e = rw (← ea, e)
+
+  pub text-judged : (end : ℕ) → a ≡ Ends end → (r : LineAnswer) → r ≡ ofText told at (take (end - at) (drop at s)) → r ≡ lineAnswer told s at
+  unfolding lineAnswer
+  text-judged end e r er = rw (← ea, e) er
+
+-- the file's length, the offset, the line's end
+module _ (s : List ℕ) (at : ℕ) where
+  pub file-long : 65535 < length s → textAnswer s at ≡ Refused (because FileTooLong 65535)
+  unfolding textAnswer
   file-long h = simp (lt-ltb 65535 (length s))
 
   module _ (h : length s ≤ 65535) where
-    pub past-file : length s < at → lineAnswer told s at ≡ Refused (because NoLineEnd (length s))
-    unfolding lineAnswer
+    pub past-file : length s < at → textAnswer s at ≡ Refused (because NoLineEnd (length s))
+    unfolding textAnswer
     past-file l = simp (le-ltb 65535 (length s), lt-ltb (length s) at)
 
     module _ (l : at ≤ length s) (end : ℕ) (ee : end ≡ lineEnd s at) (t : Bool) (et : t ≡ endsWell s end) where
-      pub no-end : not t ≡ true → Refused (because NoLineEnd end) ≡ lineAnswer told s at
-      unfolding lineAnswer
+      pub no-end : not t ≡ true → Refused (because NoLineEnd end) ≡ textAnswer s at
+      unfolding textAnswer
       no-end e = simp (le-ltb 65535 (length s), le-ltb (length s) at, ← ee, ← et, e)
 
-      pub line-ends : not t ≡ false → (a : LineAnswer) → a ≡ ofText told at (take (end - at) (drop at s)) → a ≡ lineAnswer told s at
-      unfolding lineAnswer
-      line-ends e a ea = simp (le-ltb 65535 (length s), le-ltb (length s) at, ← ee, ← et, e) ea
+      pub line-ends : not t ≡ false → Ends end ≡ textAnswer s at
+      unfolding textAnswer
+      line-ends e = simp (le-ltb 65535 (length s), le-ltb (length s) at, ← ee, ← et, e)

@@ -1,6 +1,7 @@
 pub mod Parts
+pub mod Render
+pub mod Told
 pub mod Walk
 pub mod Need
-pub mod Told
 pub mod Line
 pub mod Find

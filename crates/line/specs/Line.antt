@@ -19,6 +19,8 @@ use Rattle.fields.specs.declared.record.Due.the-variants.{Any}
 use Rattle.line.specs.Parts.{split, nameOf, fieldsOf}
 use Rattle.line.specs.Walk.{walk}
 use Rattle.line.specs.Need.{lacks}
+use Rattle.line.specs.declared.scan.TextAnswer.{TextAnswer}
+use Rattle.line.specs.declared.scan.TextAnswer.the-variants.{Ends, Refused}
 use Rattle.line.specs.declared.walk.Walk.{Walk}
 use Rattle.line.specs.declared.walk.Walk.the-variants.{Fine, Stopped}
 use Rattle.line.specs.Told.{Told}
@@ -36,6 +38,14 @@ endsWell s end = same (take 2 (drop end s)) (bytes "\r\n")
 -- the text of the line that starts here
 abbrev pub textAt : List ℕ → ℕ → List ℕ
 textAt s at = take (lineEnd s at - at) (drop at s)
+
+-- 1, then 2: where the text of the line that starts here ends
+unfoldable pub textAnswer : List ℕ → ℕ → TextAnswer
+textAnswer s at =
+    if ltb 65535 (length s) then Refused (because FileTooLong 65535)
+    else if ltb (length s) at then Refused (because NoLineEnd (length s))
+    else if not (endsWell s (lineEnd s at)) then Refused (because NoLineEnd (lineEnd s at))
+    else Ends (lineEnd s at)
 
 -- the fields are in order, or one is not; then 9
 unfoldable pub afterWalk : Walk → Record → ℕ → List ℕ → LineAnswer
@@ -62,15 +72,19 @@ ofText told at line = ofNamed (named (nameOf line)) told at line
 abbrev pub alone : Rules → Told
 alone rules = record { rules = rules; due = Any }
 
--- 1, then 2
+-- the line that starts here: its text, and what is answered of it
+abbrev pub onText : TextAnswer → Told → List ℕ → ℕ → LineAnswer
+onText (Refused refusal) told s at = Refused refusal
+onText (Ends end) told s at = ofText told at (take (end - at) (drop at s))
+
 unfoldable pub lineAnswer : Told → List ℕ → ℕ → LineAnswer
-lineAnswer told s at =
-    if ltb 65535 (length s) then Refused (because FileTooLong 65535)
-    else if ltb (length s) at then Refused (because NoLineEnd (length s))
-    else if not (endsWell s (lineEnd s at)) then Refused (because NoLineEnd (lineEnd s at))
-    else ofText told at (textAt s at)
+lineAnswer told s at = onText (textAnswer s at) told s at
 
 -- the paper's number and place for each answer
+abbrev pub textVerdict : TextAnswer → Verdict
+textVerdict (Ends end) = Verdict.passes
+textVerdict (Refused refusal) = verdictOf refusal
+
 abbrev pub lineVerdict : LineAnswer → Verdict
 lineVerdict (Accepted line) = Verdict.passes
 lineVerdict (Refused refusal) = verdictOf refusal

@@ -1,6 +1,6 @@
 -- Document 01, 'The file': "Semicolons divide fields; nothing quotes them. The first field is the record type. Fields are numbered
 -- from 1 after it."
-use Prim.Native.Nat.{ℕ, zero, suc, _+_}
+use Prim.Native.Nat.{ℕ, zero, suc, _+_, _-_}
 use mathlib.Core.Bool.{Bool, not}
 use mathlib.Core.List.{List, [], _∷_}
 use lib.Dec.{eqb}
@@ -30,6 +30,10 @@ nameOf line = partAt line 0
 
 abbrev pub fieldsOf : List ℕ → List (List ℕ)
 fieldsOf line = drop 1 (split line)
+
+-- the field with a number, "numbered from 1"
+abbrev pub fieldNo : List (List ℕ) → ℕ → List ℕ
+fieldNo fs n = getD fs (n - 1) []
 
 -- where a part starts in its line
 abbrev pub startIn : List (List ℕ) → ℕ → ℕ

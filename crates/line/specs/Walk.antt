@@ -15,7 +15,15 @@ abbrev pub onTest : Tested → ℕ → Walk → Walk
 onTest Good place rest = rest
 onTest (Bad why) place rest = Stopped (because why place)
 
--- these fields, the first with this number and at this place; beside it stands the part in front of it
+-- these fields by a test of each, the first with this number and at this place, the next so much further; beside a field stands the part
+-- in front of it
+abbrev pub walkBy : (ℕ → List ℕ → List ℕ → Tested) → (ℕ → List ℕ → ℕ) → ℕ → ℕ → List ℕ → List (List ℕ) → Walk
+walkBy test further n place beside [] = Fine
+walkBy test further n place beside (f ∷ fs) = onTest (test n beside f) place (walkBy test further (suc n) (further place f) f fs)
+
+-- in a file: a field starts behind the semicolon that ends the one in front of it
+abbrev pub behind : ℕ → List ℕ → ℕ
+behind place f = place + length f + 1
+
 abbrev pub walk : List Row → ℕ → ℕ → List ℕ → List (List ℕ) → Walk
-walk rows n place beside [] = Fine
-walk rows n place beside (f ∷ fs) = onTest (tested rows n beside f) place (walk rows (suc n) (place + length f + 1) f fs)
+walk rows n place beside fs = walkBy (tested rows) behind n place beside fs

@@ -8,6 +8,7 @@ ghost use Rattle.line.specs.Line.{ofText, ofKind, alone, lineAnswer};
 use crate::need;
 use crate::part::field_in;
 use crate::scan;
+use crate::scan::TextAnswer;
 use crate::walk;
 use crate::walk::Walk;
 use fields::Due;
@@ -39,27 +40,11 @@ pub fn read_line(s: &[u8], at: usize) -> LineAnswer
 pub fn judge_line(due: Due, s: &[u8], at: usize) -> LineAnswer
     ensures { λ r. ⌜ r ≡ lineAnswer (record { rules = profile; due = due }) (now (s .entry)) at ⌝ }
 {
-    let n = s.len();
-    if 65535 < n {
-        return LineAnswer::Refused(Refusal {
-            why: Reason::FileTooLong,
-            place: 65535,
-        });
+    let answer = scan::find_text(s, at);
+    match answer {
+        TextAnswer::Ends(end) => of_text(due, at, &s[at..end]),
+        TextAnswer::Refused(refusal) => LineAnswer::Refused(refusal),
     }
-    if n < at {
-        return LineAnswer::Refused(Refusal {
-            why: Reason::NoLineEnd,
-            place: n,
-        });
-    }
-    let end = scan::line_end(s, at);
-    if !scan::ends_well(s, end) {
-        return LineAnswer::Refused(Refusal {
-            why: Reason::NoLineEnd,
-            place: end,
-        });
-    }
-    of_text(due, at, &s[at..end])
 }
 
 // The text of a line that starts at this place and ends well.

@@ -5,7 +5,42 @@ ghost use lib.ListN.{length};
 ghost use Rattle.text.specs.Choice.{if_then_else_};
 ghost use Rattle.text.specs.Scan.{count};
 ghost use Rattle.line.specs.Parts.{semicolon, inField, fieldEnd};
-ghost use Rattle.line.specs.Line.{lineEnd, endsWell, textAt};
+ghost use Rattle.line.specs.Line.{lineEnd, endsWell, textAt, textAnswer};
+use refusal::Reason;
+use refusal::Refusal;
+
+pub enum TextAnswer {
+    // The text of the line runs up to this byte, where CR LF stands.
+    Ends(usize),
+    Refused(Refusal),
+}
+
+// Finds the text of the line that starts here.
+pub fn find_text(s: &[u8], at: usize) -> TextAnswer
+    ensures { λ r. ⌜ r ≡ textAnswer (now (s .entry)) at ⌝ }
+{
+    let n = s.len();
+    if 65535 < n {
+        return TextAnswer::Refused(Refusal {
+            why: Reason::FileTooLong,
+            place: 65535,
+        });
+    }
+    if n < at {
+        return TextAnswer::Refused(Refusal {
+            why: Reason::NoLineEnd,
+            place: n,
+        });
+    }
+    let end = line_end(s, at);
+    if !ends_well(s, end) {
+        return TextAnswer::Refused(Refusal {
+            why: Reason::NoLineEnd,
+            place: end,
+        });
+    }
+    TextAnswer::Ends(end)
+}
 
 // The first byte from here on that is no text byte, or the end of the file.
 pub fn line_end(s: &[u8], at: usize) -> usize

@@ -22,15 +22,15 @@ use Rattle.line.specs.Parts.{split}
 use Rattle.line.specs.Need.{lacks}
 use Rattle.line.specs.declared.walk.Walk.{Walk}
 use Rattle.line.specs.declared.walk.Walk.the-variants.{Fine, Stopped}
-use Rattle.grammar.specs.Grammar.{textOf, render}
-use Rattle.grammar.proofs.Texts.{fields-split}
-use Rattle.grammar.proofs.Lines.{render-long}
-use Rattle.grammar.proofs.Sizes.{count-le, sound, fields-le}
-use Rattle.writer.specs.Write.{recordNumbered, endsHold, between, walked, ofFields, ofRecord, writeAnswer, lineTo, writtenTo}
+use Rattle.fields.proofs.Rules.{count-le, sound}
+use Rattle.line.specs.Render.{textOf, render}
+use Rattle.line.proofs.Plain.{render-long, plain-split}
+use Rattle.line.proofs.Passing.{Each, fine-each}
+use Rattle.writer.specs.Write.{recordNumbered, endsHold, between, testedToWrite, nextNumber, walked, ofFields, ofRecord, writeAnswer, lineTo, writtenTo}
 use Rattle.writer.specs.declared.write.WriteAnswer.{WriteAnswer}
 use Rattle.writer.specs.declared.write.WriteAnswer.the-variants.{Written, Refused}
 use Rattle.writer.proofs.Ends.{between-count}
-use Rattle.writer.proofs.Walks.{walked-fields}
+use Rattle.writer.proofs.Walks.{walked-plain, walked-le}
 use Rattle.writer.proofs.Puts.{together-long}
 
 -- the record's number, by the arm that names it
@@ -41,6 +41,11 @@ pub number-none : (n : ℕ) → (n ≡ 10 → ⊥) → (n ≡ 20 → ⊥) → (n
     Unknown ≡ recordNumbered n
 unfolding recordNumbered
 number-none n h1 h2 h3 h4 h5 h6 = simp (ne-eqb n 10 h1, ne-eqb n 20 h2, ne-eqb n 30 h3, ne-eqb n 40 h4, ne-eqb n 50 h5, ne-eqb n 60 h6)
+
+-- each field of a fine walk passes
+each : (kind : Record) (text ends : List ℕ) → walked (profile kind) 1 (typeOf kind) (between text ends) ≡ Fine →
+    Each (testedToWrite (profile kind)) 1 (typeOf kind) (between text ends)
+each kind text ends e = fine-each (testedToWrite (profile kind)) nextNumber 1 1 (typeOf kind) (between text ends) e
 
 -- good fields, put together as a line at the front of a room: 9, then 13
 module _ (kind : Record) (text ends room line : List ℕ) (long : ℕ) (fits : length text + length ends + 5 ≤ length room)
@@ -64,7 +69,7 @@ module _ (kind : Record) (text ends room line : List ℕ) (long : ℕ) (fits : l
       (size fill : ℕ) where
     asked : t ≡ lacks kind (typeOf kind ∷ between text ends)
     asked = et ∙ ap (λ (l : List ℕ). lacks kind (split l)) text-taken
-        ∙ ap (lacks kind) (fields-split profile kind (between text ends) (walked-fields (profile kind) 1 (typeOf kind) (between text ends) fine))
+        ∙ ap (lacks kind) (plain-split kind (between text ends) (walked-plain (profile kind) 1 (typeOf kind) (between text ends) (each kind text ends fine)))
 
     pub fields-lack : t ≡ true → Refused (because FeatureLacks 0) ≡ ofFields kind (between text ends) size fill
     unfolding ofFields
@@ -131,7 +136,7 @@ module _ (kind : Record) (text ends : List ℕ) (w : Walk) (ew : w ≡ walked (p
       length text + length ends + 5 ≤ 4096
   line-small t u et hold eu right =
       let c = count-le kind (length ends) (sym eu ∙ not-false u right) in
-      let f = fields-le (profile kind) 1 (typeOf kind) (between text ends) (sound .narrows kind) (walked-fields (profile kind) 1 (typeOf kind) (between text ends) walk-fine) in
+      let f = walked-le (profile kind) (sound .narrows kind) 1 (typeOf kind) (between text ends) (each kind text ends walk-fine) in
       omega (arith, c, f, between-count text ends, together-long kind text ends (ends-held ends (length text) t et hold))
 
 -- the output

@@ -10,7 +10,7 @@ use lib.ListN.{length, take, drop, getD, length-append, length-drop, drop-of-len
 use lib.Seq.{drop-cons, length-take-le}
 use borrow.Author.Tests.{le-leb, lt-leb, leb-true, eqb-true}
 use Rattle.text.proofs.Choices.{and-left, and-right}
-use Rattle.grammar.specs.Grammar.{joined}
+use Rattle.line.specs.Render.{joined}
 use Rattle.writer.specs.Write.{risesTo, fieldsFrom, between}
 
 -- a loop at the end with the number i, where the field in front ended at start: each premise is a fact that the loop has

@@ -2,4 +2,3 @@ pub mod Ends
 pub mod Walks
 pub mod Puts
 pub mod Answers
-pub mod Back

@@ -12,9 +12,9 @@ use Rattle.text.specs.Placed.{placed}
 use Rattle.text.proofs.Placing.{placed-none, placed-long, placed-on}
 use Rattle.fields.specs.Record.{typeOf}
 use Rattle.fields.specs.declared.record.Record.{Record}
-use Rattle.grammar.specs.Grammar.{joined, textOf, render}
-use Rattle.grammar.proofs.Texts.{type-long}
-use Rattle.grammar.proofs.Lines.{render-long}
+use Rattle.fields.proofs.Types.{type-long}
+use Rattle.line.specs.Render.{joined, textOf, render}
+use Rattle.line.proofs.Plain.{render-long}
 use Rattle.writer.specs.Write.{risesTo, endsHold, fieldsFrom, between}
 use Rattle.writer.proofs.Ends.{end-rises, rest-rises, end-inside, field-long, joined-long}
 

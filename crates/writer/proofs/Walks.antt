@@ -1,5 +1,5 @@
 -- The test of a field to be written, and the walk over the fields, one turn of it.
-use Prim.Native.Nat.{ℕ, suc, _+_, _-_, _≤_, _<_}
+use Prim.Native.Nat.{ℕ, suc, _+_, _*_, _-_, _≤_, _<_}
 use mathlib.Core.Path.{_≡_, refl, sym, ap, _∙_}
 use mathlib.Core.Bool.{Bool, true, false}
 use mathlib.Core.List.{List, [], _∷_}
@@ -8,7 +8,7 @@ use native.Mathlib.Omega.{arith}
 use lib.ListN.{length, take, drop, getD, drop-of-length-le}
 use lib.Seq.{drop-cons}
 use Rattle.text.specs.Scan.{all}
-use Rattle.text.proofs.Choices.{came-then}
+use Rattle.text.proofs.Choices.{and-both, came-then}
 use Rattle.refusal.specs.declared.Reason.{Reason}
 use Rattle.refusal.specs.declared.Reason.the-variants.{FieldForm}
 use Rattle.refusal.specs.Table.{because}
@@ -19,11 +19,14 @@ use Rattle.fields.specs.declared.record.Record.{Record}
 use Rattle.fields.specs.declared.record.Record.the-variants.{Header, Sender, Shipment, Parcel, Product, Feature}
 use Rattle.fields.specs.declared.field.Tested.{Tested}
 use Rattle.fields.specs.declared.field.Tested.the-variants.{Good, Bad}
+use Rattle.fields.proofs.Tests.{bad, good-passed}
+use Rattle.fields.proofs.Rules.{within, width-le}
+use Rattle.line.specs.Render.{joined, plain}
 use Rattle.line.specs.Walk.{onTest}
 use Rattle.line.specs.declared.walk.Walk.{Walk}
 use Rattle.line.specs.declared.walk.Walk.the-variants.{Fine, Stopped}
-use Rattle.grammar.specs.Grammar.{plain, FieldsOk}
-use Rattle.grammar.proofs.Fields.{good-field, field-good, on-fine}
+use Rattle.line.proofs.Splits.{allIn}
+use Rattle.line.proofs.Passing.{Each, each-le}
 use Rattle.writer.specs.Write.{fieldsFrom, between, ifPlain, testedToWrite, walked}
 
 module _ (rows : List Row) (n : ℕ) (beside f : List ℕ) (t : Tested) (et : t ≡ tested rows n beside f) where
@@ -85,25 +88,29 @@ module _ (rows : List Row) (text ends : List ℕ) (i start : ℕ) (beside : List
         (fieldsFrom (getD ends i 0) text (drop n ends))) (add-one i)
         ∙ on
 
--- the walk passes exactly the fields that are allowed
-bad : {why : Reason} → Bad why ≡ Good → ⊥
-bad e = let z : _≡_ {A = ℕ} 0 1 = cc in omega arith
-
-plain-good : (t : Tested) (f : List ℕ) → ifPlain t f ≡ Good → (t ≡ Good) × (all plain f ≡ true)
-plain-good (Bad why) f e = absurd (bad e)
-plain-good Good f e = (refl, came-then (all plain f) Good (Bad FieldForm) Good bad e .0)
-
-pub walked-fields : (rows : List Row) (n : ℕ) (beside : List ℕ) (fs : List (List ℕ)) → walked rows n beside fs ≡ Fine →
-    FieldsOk rows n beside fs
+-- a field that is written passes the reader's test and is plain
+pub test-passes : (rows : List Row) (n : ℕ) (beside f : List ℕ) → testedToWrite rows n beside f ≡ Good →
+    (tested rows n beside f ≡ Good) × (all plain f ≡ true)
 unfolding testedToWrite
-walked-fields rows n beside [] e = tt
-walked-fields rows n beside (f ∷ fs) e =
-    let a = on-fine (testedToWrite rows n beside f) n (walked rows (suc n) f fs) e in
-    let b = plain-good (tested rows n beside f) f (a .0) in
-    (good-field rows n beside f (b .1) (b .0), walked-fields rows (suc n) f fs (a .1))
+test-passes rows n beside f e = go (tested rows n beside f) e
+  where
+    go : (t : Tested) → ifPlain t f ≡ Good → (t ≡ Good) × (all plain f ≡ true)
+    go (Bad why) e = absurd (bad e)
+    go Good e = (refl, came-then (all plain f) Good (Bad FieldForm) Good bad e .0)
 
-pub fields-walked : (rows : List Row) (n : ℕ) (beside : List ℕ) (fs : List (List ℕ)) → FieldsOk rows n beside fs →
-    walked rows n beside fs ≡ Fine
+pub passes-test : (rows : List Row) (n : ℕ) (beside f : List ℕ) → tested rows n beside f ≡ Good → all plain f ≡ true →
+    testedToWrite rows n beside f ≡ Good
 unfolding testedToWrite
-fields-walked rows n beside [] g = refl
-fields-walked rows n beside (f ∷ fs) g = rw (field-good rows n beside f (g .0), g .0 .clean) (fields-walked rows (suc n) f fs (g .1))
+passes-test rows n beside f e p = rw (e, p)
+
+-- the fields of a fine walk: plain bytes, and not too many
+module _ (rows : List Row) where
+  pub walked-plain : (n : ℕ) (beside : List ℕ) (fs : List (List ℕ)) → Each (testedToWrite rows) n beside fs → allIn plain fs ≡ true
+  walked-plain n beside [] g = refl
+  walked-plain n beside (f ∷ fs) g = and-both (all plain f) (allIn plain fs) (test-passes rows n beside f (g .0) .1)
+      (walked-plain (suc n) f fs (g .1))
+
+  pub walked-le : within rows ≡ true → (n : ℕ) (beside : List ℕ) (fs : List (List ℕ)) → Each (testedToWrite rows) n beside fs →
+      length (joined fs) ≤ 101 * length fs
+  walked-le w = each-le (testedToWrite rows)
+      (λ n b f e. omega (arith, good-passed rows n b f (test-passes rows n b f e .0) .fits, width-le rows n b w))

@@ -1,9 +1,9 @@
 -- Document 01, 'Writer': "Record type as a number (10 for 010, up to 60), one text with all fields joined, a list of field ends, an
 -- output and its fill. Order: 3, 14, 5, fields (6, 7, 8), 9, 13."
-use Prim.Native.Nat.{ℕ, suc, _+_, _-_, _≤_}
+use Prim.Native.Nat.{ℕ, suc, _+_, _-_}
 use mathlib.Core.Path.{_≡_}
-use mathlib.Core.Bool.{Bool, true, not, _&&_}
-use mathlib.Core.List.{List, [], _∷_, _++_}
+use mathlib.Core.Bool.{Bool, not, _&&_}
+use mathlib.Core.List.{List, [], _∷_}
 use lib.Dec.{leb, eqb}
 use lib.ListN.{length, take, drop}
 use Rattle.text.specs.Choice.{if_then_else_}
@@ -20,15 +20,11 @@ use Rattle.fields.specs.declared.record.Named.{Named}
 use Rattle.fields.specs.declared.record.Named.the-variants.{Known, Unknown}
 use Rattle.fields.specs.declared.field.Tested.{Tested}
 use Rattle.fields.specs.declared.field.Tested.the-variants.{Good, Bad}
+use Rattle.line.specs.Render.{render, plain}
 use Rattle.line.specs.Need.{lacks}
-use Rattle.line.specs.Walk.{onTest}
-use Rattle.line.specs.Line.{lineAnswer, alone}
-use Rattle.line.specs.Find.{fieldAnswer}
+use Rattle.line.specs.Walk.{walkBy}
 use Rattle.line.specs.declared.walk.Walk.{Walk}
 use Rattle.line.specs.declared.walk.Walk.the-variants.{Fine, Stopped}
-use Rattle.line.specs.declared.read.LineAnswer.the-variants.{Accepted}
-use Rattle.line.specs.declared.find.FieldAnswer.the-variants.{Found}
-use Rattle.grammar.specs.Grammar.{render, plain, fieldNo, LineOk}
 use Rattle.writer.specs.declared.write.WriteAnswer.{WriteAnswer}
 use Rattle.writer.specs.declared.write.WriteAnswer.the-variants.{Written, Refused}
 
@@ -70,10 +66,13 @@ ifPlain Good f = if all plain f then Good else Bad FieldForm
 unfoldable pub testedToWrite : List Row → ℕ → List ℕ → List ℕ → Tested
 testedToWrite rows n beside f = ifPlain (tested rows n beside f) f
 
--- "Place is the field number for 6 to 8": these fields, the first with this number; beside it stands the part in front of it
+-- "Place is the field number for 6 to 8": the next field's is one more
+abbrev pub nextNumber : ℕ → List ℕ → ℕ
+nextNumber n f = suc n
+
+-- these fields, the first with this number; beside it stands the part in front of it
 abbrev pub walked : List Row → ℕ → List ℕ → List (List ℕ) → Walk
-walked rows n beside [] = Fine
-walked rows n beside (f ∷ fs) = onTest (testedToWrite rows n beside f) n (walked rows (suc n) f fs)
+walked rows n beside fs = walkBy (testedToWrite rows) nextNumber n n beside fs
 
 -- 9, then 13: whether the line fits into an output of this size behind its fill. "A fill past the output is 13."
 unfoldable pub ofFields : Record → List (List ℕ) → ℕ → ℕ → WriteAnswer
@@ -119,32 +118,3 @@ Writes number text ends out fill answer after =
 abbrev pub writeVerdict : WriteAnswer → Verdict
 writeVerdict (Written n) = Verdict.passes
 writeVerdict (Refused refusal) = verdictOf refusal
-
--- what a caller hands over for fields: "one text with all fields joined", and "a list of field ends"
-abbrev pub inOne : List (List ℕ) → List ℕ
-inOne [] = []
-inOne (f ∷ fs) = f ++ inOne fs
-
--- where each of these fields ends, the first from the place start on
-abbrev pub endsFrom : ℕ → List (List ℕ) → List ℕ
-endsFrom start [] = []
-endsFrom start (f ∷ fs) = (start + length f) ∷ endsFrom (start + length f) fs
-
--- when a line is written, apart from any order of tests: it is of a known record, its ends hold, it is allowed, and there is room
-pub record Writable (number : ℕ) (text ends : List ℕ) (size fill n : ℕ) : Type 0 where
-  pub kind : Record
-  pub known : recordNumbered number ≡ Known kind
-  pub held : endsHold ends (length text) ≡ true
-  pub allowed : LineOk profile kind (between text ends)
-  pub fits : fill + length (render kind (between text ends)) ≤ size
-  pub long : n ≡ length (render kind (between text ends))
-
--- "Reading back is of the written line's bytes by themselves": they are the line of this record with these fields, they are read as
--- that, and each field is found again
-pub record ReadsBack (kind : Record) (fs : List (List ℕ)) (line : List ℕ) : Type 0 where
-  pub allowed : LineOk profile kind fs
-  pub rendered : line ≡ render kind fs
-  pub read : lineAnswer (alone profile) line 0 ≡ Accepted (record { kind = kind; count = length fs; next = length line })
-  pub found :
-      (n : ℕ) → 1 ≤ n → n ≤ length fs → (start : ℕ) × ((fieldAnswer profile line 0 n ≡ Found start (length (fieldNo fs n))) ×
-      (take (length (fieldNo fs n)) (drop start line) ≡ fieldNo fs n))

@@ -5,7 +5,7 @@ ghost use Prim.Native.Nat.{_+_, _≤_};
 ghost use lib.ListN.{length};
 ghost use Rattle.text.specs.Placed.{placed};
 ghost use Rattle.fields.specs.Record.{typeOf};
-ghost use Rattle.grammar.specs.Grammar.{joined, render};
+ghost use Rattle.line.specs.Render.{joined, render};
 ghost use Rattle.writer.specs.Write.{endsHold, between};
 use fields::Record;
 

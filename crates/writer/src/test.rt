@@ -5,7 +5,7 @@ ghost use lib.ListN.{length};
 ghost use Rattle.text.specs.Scan.{all};
 ghost use Rattle.fields.specs.Record.{typeOf};
 ghost use Rattle.fields.specs.Profile.{profile};
-ghost use Rattle.grammar.specs.Grammar.{plain};
+ghost use Rattle.line.specs.Render.{plain};
 ghost use Rattle.writer.specs.Write.{endsHold, between, testedToWrite, walked};
 use fields::Record;
 use fields::Tested;

@@ -4,7 +4,7 @@ use mathlib.Core.Bool.{true}
 use mathlib.Core.Path.{_≡_}
 use lib.ListN.{length, drop}
 use Rattle.text.specs.Placed.{placed}
-use Rattle.grammar.specs.Grammar.{joined}
+use Rattle.line.specs.Render.{joined}
 use Rattle.writer.specs.Write.{risesTo, endsHold, fieldsFrom, between}
 use Rattle.writer.proofs.Ends.{end-rises, rest-rises, end-inside}
 use Rattle.writer.proofs.Puts.{still-long, put-done, put-on}

@@ -4,7 +4,7 @@ use mathlib.Core.Path.{_≡_}
 use lib.ListN.{length, drop}
 use Rattle.text.specs.Scan.{all}
 use Rattle.text.proofs.Scans.{all-on, all-stops, all-ends}
-use Rattle.grammar.specs.Grammar.{plain}
+use Rattle.line.specs.Render.{plain}
 use borrow.Author.Needs.{needs}
 use Rattle.writer.proofs.test.all_plain.Statement.{statement}
 use Rattle.writer.proofs.test.all_plain.Tie as tie

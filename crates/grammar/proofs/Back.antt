@@ -1,6 +1,5 @@
--- What is written reads back as what was handed over, a line that was read is written again with its own bytes, and an outcome is
--- the only one.
-use Prim.Native.Nat.{ℕ, _+_, _-_, _≤_}
+-- What is written reads back as what was handed over, and a line that was read is written again with its own bytes.
+use Prim.Native.Nat.{ℕ, suc, _+_, _-_, _≤_}
 use mathlib.Core.Path.{_≡_, refl, sym, ap, _∙_}
 use mathlib.Core.Bool.{true, not}
 use mathlib.Core.List.{List, [], _∷_, _++_, append-assoc}
@@ -17,7 +16,7 @@ use Rattle.refusal.specs.declared.Reason.the-variants.{FieldCount, FeatureLacks
 use Rattle.refusal.specs.Table.{because}
 use Rattle.refusal.specs.declared.Refusal.{Refusal}
 use Rattle.refusal.proofs.Verdicts.{no-pass}
-use Rattle.fields.specs.Profile.{profile}
+use Rattle.fields.specs.Profile.{Row, profile}
 use Rattle.fields.specs.Record.{typeOf, countFits}
 use Rattle.fields.specs.declared.record.Record.{Record}
 use Rattle.fields.specs.declared.record.Named.{Named}
@@ -27,23 +26,33 @@ use Rattle.fields.specs.declared.record.Due.{Due}
 use Rattle.line.specs.declared.read.Line.{Line}
 use Rattle.line.specs.declared.walk.Walk.{Walk}
 use Rattle.line.specs.declared.walk.Walk.the-variants.{Fine, Stopped}
-use Rattle.grammar.specs.Grammar.{render, fieldNo, LineOk, Reads}
-use Rattle.grammar.proofs.Sizes.{render-reads, render-accepted, sound}
-use Rattle.grammar.proofs.Finding.{found, field-exactly}
-use Rattle.writer.specs.Write.{recordNumbered, risesTo, endsHold, fieldsFrom, between, walked, ofFields, afterWalk, writeVerdict}
-use Rattle.writer.specs.Write.{ofRecord, writeAnswer, writtenTo, Writes, inOne, endsFrom, Writable, ReadsBack}
+use Rattle.line.specs.Parts.{fieldNo}
+use Rattle.line.specs.Render.{render}
+use Rattle.line.proofs.Passing.{Each, fine-each, each-fine}
+use Rattle.fields.proofs.Rules.{sound}
+use Rattle.writer.specs.Write.{recordNumbered, risesTo, endsHold, fieldsFrom, between, testedToWrite, nextNumber, walked, ofFields, afterWalk, writeVerdict}
+use Rattle.writer.specs.Write.{ofRecord, writeAnswer, writtenTo, Writes}
 use Rattle.writer.specs.declared.write.WriteAnswer.{WriteAnswer}
 use Rattle.writer.specs.declared.write.WriteAnswer.the-variants.{Written, Refused}
 use Rattle.writer.proofs.Ends.{between-count}
-use Rattle.writer.proofs.Walks.{walked-fields, fields-walked}
+use Rattle.writer.proofs.Walks.{test-passes, passes-test}
+use Rattle.grammar.specs.Grammar.{FieldsOk, LineOk, Reads}
+use Rattle.grammar.specs.Written.{inOne, endsFrom, Writable, ReadsBack}
+use Rattle.grammar.proofs.Fields.{good-field, field-good}
+use Rattle.grammar.proofs.Sizes.{render-reads, render-accepted}
+use Rattle.grammar.proofs.Finding.{found, field-exactly}
 
--- two outcomes that the contract allows are equal
-pub one-outcome :
-    (number : ℕ) (text ends out : List ℕ) (fill : ℕ) (a b : WriteAnswer) (x y : List ℕ) → Writes number text ends out fill a x →
-    Writes number text ends out fill b y → (a ≡ b) × (x ≡ y)
-one-outcome number text ends out fill a b x y g h =
-    let e : a ≡ b = g .0 ∙ sym (h .0) in
-    (e, g .1 ∙ ap (λ (r : WriteAnswer). writtenTo r (recordNumbered number) (between text ends) out fill) e ∙ sym (h .1))
+-- the writer's walk passes exactly the fields that are allowed
+walked-fields : (rows : List Row) (n : ℕ) (beside : List ℕ) (fs : List (List ℕ)) → Each (testedToWrite rows) n beside fs → FieldsOk rows n beside fs
+walked-fields rows n beside [] g = tt
+walked-fields rows n beside (f ∷ fs) g =
+    let p = test-passes rows n beside f (g .0) in
+    (good-field rows n beside f (p .1) (p .0), walked-fields rows (suc n) f fs (g .1))
+
+fields-walked : (rows : List Row) (n : ℕ) (beside : List ℕ) (fs : List (List ℕ)) → FieldsOk rows n beside fs → Each (testedToWrite rows) n beside fs
+fields-walked rows n beside [] g = tt
+fields-walked rows n beside (f ∷ fs) g =
+    (passes-test rows n beside f (field-good rows n beside f (g .0)) (g .0 .clean), fields-walked rows (suc n) f fs (g .1))
 
 -- a line that was written could be
 module _ (number : ℕ) (text ends : List ℕ) (size fill n : ℕ) where
@@ -78,7 +87,8 @@ module _ (number : ℕ) (text ends : List ℕ) (size fill n : ℕ) where
             allowed = record {
               counted = ap (countFits kind) (between-count text ends) ∙ ec;
               fields =
-                  walked-fields (profile kind) 1 (typeOf kind) (between text ends) ew;
+                  walked-fields (profile kind) 1 (typeOf kind) (between text ends)
+                  (fine-each (testedToWrite (profile kind)) nextNumber 1 1 (typeOf kind) (between text ends) ew);
               served = a .0;
             };
             fits = leb-true (fill + length line) size (b .0);
@@ -93,7 +103,8 @@ module _ (number : ℕ) (text ends : List ℕ) (size fill n : ℕ) where
         g .held,
         ← between-count text ends,
         g .allowed .counted,
-        fields-walked (profile (g .kind)) 1 (typeOf (g .kind)) (between text ends) (g .allowed .fields),
+        each-fine (testedToWrite (profile (g .kind))) nextNumber 1 1 (typeOf (g .kind)) (between text ends)
+            (fields-walked (profile (g .kind)) 1 (typeOf (g .kind)) (between text ends) (g .allowed .fields)),
         g .allowed .served,
         le-leb (fill + length (render (g .kind) (between text ends))) size (g .fits),
         g .long,

@@ -1,16 +1,15 @@
 -- A line's text taken apart at its semicolons and joined again: each is the other's inverse.
-use Prim.Native.Nat.{ℕ, _+_}
+use Prim.Native.Nat.{ℕ}
 use mathlib.Core.Path.{_≡_, refl, sym, ap, _∙_}
 use mathlib.Core.Bool.{Bool, true, false, _&&_}
 use mathlib.Core.List.{List, [], _∷_, _++_, append-nil}
-use native.Mathlib.Omega.{arith}
-use lib.ListN.{length, drop, getD}
+use lib.ListN.{drop, getD}
 use borrow.Author.Tests.{eqb-true, not-true}
 use Rattle.text.specs.Choice.{if_then_else_}
-use Rattle.text.specs.Scan.{all, count}
+use Rattle.text.specs.Scan.{all}
 use Rattle.text.proofs.Choices.{and-left, and-right}
 use Rattle.line.specs.Parts.{semicolon, intoFirst, split, nameOf, fieldsOf, inField}
-use Rattle.grammar.specs.Grammar.{joined}
+use Rattle.line.specs.Render.{joined}
 
 -- there is always a first part
 pub split-some : (line : List ℕ) → split line ≡ nameOf line ∷ fieldsOf line
@@ -22,16 +21,6 @@ split-some (b ∷ line) = go (semicolon b) (split-some line)
         drop 1 (if t then [] ∷ split line else intoFirst b (split line))
     go true h = refl
     go false h = rw h
-
--- each field stands behind a semicolon
-pub fields-count : (line : List ℕ) → length (fieldsOf line) ≡ count semicolon line
-fields-count [] = refl
-fields-count (b ∷ line) = go (semicolon b) (fields-count line) (split-some line)
-  where
-    go : (t : Bool) → length (fieldsOf line) ≡ count semicolon line → split line ≡ nameOf line ∷ fieldsOf line →
-        length (drop 1 (if t then [] ∷ split line else intoFirst b (split line))) ≡ (if t then 1 else 0) + count semicolon line
-    go true h k = rw k (omega (arith, h))
-    go false h k = rw k (omega (arith, h))
 
 -- the parts joined again
 abbrev whole : List (List ℕ) → List ℕ
