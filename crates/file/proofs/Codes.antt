@@ -7,23 +7,22 @@ use native.Mathlib.Omega.{arith}
 use lib.ListN.{length, take, drop, length-append}
 use lib.Seq.{take-at, drop-drop}
 use Rattle.text.specs.Quoted.{bytes}
-use Rattle.forms.specs.Shape.{digits}
+use Rattle.forms.specs.Shape.{identcode}
+use Rattle.forms.proofs.Shapes.{identcode-parts}
+use Rattle.identcodes.specs.Tree.{identcodeAt}
 use Rattle.fields.specs.Record.{typeOf}
 use Rattle.fields.specs.declared.record.Record.{Record}
 use Rattle.fields.specs.declared.record.Record.the-variants.{Header, Sender, Shipment, Parcel, Product, Feature}
-use Rattle.fields.specs.Profile.{Rules, profile}
-use Rattle.grammar.proofs.Sizes.{sound}
+use Rattle.fields.specs.Profile.{Rules}
 use Rattle.line.specs.Parts.{fieldsOf}
 use Rattle.line.specs.Line.{textAt, lineAnswer}
-use Rattle.fields.specs.declared.record.Due.{Due}
 use Rattle.line.specs.Told.{Told}
 use Rattle.line.specs.declared.read.Line.{Line}
 use Rattle.line.specs.declared.read.LineAnswer.{LineAnswer}
 use Rattle.line.specs.declared.read.LineAnswer.the-variants.{Accepted}
 use Rattle.grammar.specs.Grammar.{Sound, joined, render, LineOk, fieldNo}
-use Rattle.grammar.proofs.Lines.{identcode, accepted-reads}
+use Rattle.grammar.proofs.Lines.{parcel-code, accepted-reads}
 use Rattle.grammar.proofs.Texts.{type-long}
-use Rattle.file.specs.Identcode.{identcodeAt}
 use Rattle.file.specs.Step.{parcelsIn}
 
 -- what stands at a place where a line is rendered
@@ -39,7 +38,7 @@ pub code-there : {rules : Rules} → Sound rules → (s : List ℕ) (at : ℕ) (
 code-there w s at [] rest there ok = absurd (false≢true (ok .counted))
 code-there w s at (f ∷ fs) rest there ok =
     ap (take 22) (sym (drop-drop 4 at s) ∙ ap (drop 4) there ∙ regroup)
-    ∙ take-at f (joined fs ++ bytes "\r\n" ++ rest) 22 (identcode w Parcel (f ∷ fs) refl ok .1)
+    ∙ take-at f (joined fs ++ bytes "\r\n" ++ rest) 22 (identcode-parts f (parcel-code w Parcel (f ∷ fs) refl ok) .0)
   where
     regroup : ((f ++ joined fs) ++ bytes "\r\n") ++ rest ≡ f ++ (joined fs ++ bytes "\r\n" ++ rest)
     regroup = simp append-assoc
@@ -53,7 +52,7 @@ parcel-long w (f ∷ fs) ok =
       length-append (typeOf Parcel ++ joined (f ∷ fs)) (bytes "\r\n"),
       length-append (typeOf Parcel) (joined (f ∷ fs)),
       length-append f (joined fs),
-      identcode w Parcel (f ∷ fs) refl ok .1,
+      identcode-parts f (parcel-code w Parcel (f ∷ fs) refl ok),
     )
 
 record-far : {rules : Rules} → Sound rules → (kind : Record) (fs : List (List ℕ)) → LineOk rules kind fs → 28 * parcelsIn kind ≤ length (render kind fs)
@@ -71,21 +70,15 @@ module _ (told : Told) (s : List ℕ) (at : ℕ) (a : LineAnswer) (ea : a ≡ li
       let g = accepted-reads told s at line (sym ea ∙ el) in
       type-there s at (line .kind) (fieldsOf (textAt s at)) (g .rest) (g .stands)
 
-  pub accepted-code : Sound (told .rules) → line .kind ≡ Parcel → digits 22 (identcodeAt s at) ≡ true
+  pub accepted-code : Sound (told .rules) → line .kind ≡ Parcel → identcode (identcodeAt s at) ≡ true
   accepted-code w k =
       let g = accepted-reads told s at line (sym ea ∙ el) in
       let fs = fieldsOf (textAt s at) in
       let there : drop at s ≡ render Parcel fs ++ g .rest = g .stands ∙ ap (λ (r : Record). render r fs ++ g .rest) k in
       let ok : LineOk (told .rules) Parcel fs = rw k at (g .allowed) in
-      ap (digits 22) (code-there w s at fs (g .rest) there ok) ∙ identcode w Parcel fs refl ok .0
+      ap identcode (code-there w s at fs (g .rest) there ok) ∙ parcel-code w Parcel fs refl ok
 
   pub accepted-far : Sound (told .rules) → at + 28 * parcelsIn (line .kind) ≤ line .next
   accepted-far w =
       let g = accepted-reads told s at line (sym ea ∙ el) in
       omega (arith, g .next, record-far w (line .kind) (fieldsOf (textAt s at)) (g .allowed))
-
--- the same, under the rules of a version
-pub profile-code : (due : Due) (s : List ℕ) (at : ℕ) (a : LineAnswer) →
-    a ≡ lineAnswer (record { rules = profile; due = due }) s at → (line : Line) → a ≡ Accepted line → line .kind ≡ Parcel →
-    digits 22 (identcodeAt s at) ≡ true
-profile-code due s at a ea line el k = accepted-code (record { rules = profile; due = due }) s at a ea line el sound k

@@ -5,18 +5,18 @@ use mathlib.Core.Bool.{true, not}
 use mathlib.Core.List.{List, [], _∷_, _++_, append-assoc}
 use mathlib.Core.Logic.{_↔_}
 use native.Mathlib.Omega.{arith}
-use lib.Dec.{ltb, eqb}
+use lib.Dec.{ltb}
 use lib.ListN.{length, drop, getD, length-append, length-drop}
 use lib.Seq.{drop-drop, drop-append-seam}
-use borrow.Author.Tests.{ltb-false, le-ltb, eqb-true, not-false}
+use borrow.Author.Tests.{ltb-false, le-ltb, not-false}
 use Rattle.text.specs.Choice.{if_then_else_}
 use Rattle.text.specs.Byte.{textByte}
 use Rattle.text.specs.Quoted.{bytes}
 use Rattle.text.specs.Scan.{all}
-use Rattle.text.proofs.Choices.{and-left, came-else}
+use Rattle.text.proofs.Choices.{came-else}
 use Rattle.text.proofs.Runs.{run-once}
 use Rattle.refusal.specs.declared.Refusal.the-variants.{FileTooLong, NoLineEnd}
-use Rattle.forms.specs.Shape.{digits, allDigits}
+use Rattle.forms.specs.Shape.{identcode}
 use Rattle.fields.specs.Record.{typeOf, mayCome}
 use Rattle.fields.specs.Profile.{profile, isRequired, hasForm, Rules}
 use Rattle.fields.specs.declared.record.Due.{Due}
@@ -161,13 +161,10 @@ one-reading g h =
     (cc, sym (read-fields g) ∙ read-fields h)
 
 -- "040: 1 R 22 digits"
-pub identcode : {rules : Rules} → Sound rules → (kind : Record) (fs : List (List ℕ)) → kind ≡ Parcel → LineOk rules kind fs →
-    (digits 22 (fieldNo fs 1) ≡ true) × (length (fieldNo fs 1) ≡ 22)
-unfolding digits
-identcode {rules = rules} w kind fs e g = go fs (rw e at g)
+pub parcel-code : {rules : Rules} → Sound rules → (kind : Record) (fs : List (List ℕ)) → kind ≡ Parcel → LineOk rules kind fs →
+    identcode (fieldNo fs 1) ≡ true
+parcel-code {rules = rules} w kind fs e g = go fs (rw e at g)
   where
-    go : (fs : List (List ℕ)) → LineOk rules Parcel fs → (digits 22 (fieldNo fs 1) ≡ true) × (length (fieldNo fs 1) ≡ 22)
+    go : (fs : List (List ℕ)) → LineOk rules Parcel fs → identcode (fieldNo fs 1) ≡ true
     go [] g = let z : _≡_ {A = ℕ} 0 1 = cc in absurd (omega arith)
-    go (f ∷ fs) g =
-        let d : digits 22 f ≡ true = sym (w .digital (typeOf Parcel) f) ∙ g .fields .0 .formed (g .fields .0 .filled (w .coded)) in
-        (d, eqb-true (length f) 22 (and-left (eqb (length f) 22) (allDigits f) d))
+    go (f ∷ fs) g = sym (w .digital (typeOf Parcel) f) ∙ g .fields .0 .formed (g .fields .0 .filled (w .coded))

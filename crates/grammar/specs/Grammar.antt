@@ -4,7 +4,7 @@ use mathlib.Core.Path.{_≡_}
 use mathlib.Core.Bool.{Bool, true, false, _&&_}
 use mathlib.Core.List.{List, [], _∷_, _++_}
 use lib.Dec.{leb}
-use Rattle.forms.specs.Shape.{digits}
+use Rattle.forms.specs.Shape.{identcode}
 use lib.ListN.{length, take, drop, getD}
 use Rattle.text.specs.Byte.{textByte}
 use Rattle.text.specs.Quoted.{bytes}
@@ -88,7 +88,7 @@ pub record Finds (kind : Record) (fs : List (List ℕ)) (s : List ℕ) (at n sta
   pub measures : long ≡ length (fieldNo fs n)
   pub there : take long (drop start s) ≡ fieldNo fs n
 
--- what is asked of rules: no width above 100, and 040.1 must be filled with 22 digits
+-- what is asked of rules: no width above 100, and 040.1 must be filled with an identcode
 abbrev pub narrow : But → Bool
 narrow always = true
 narrow (instead width test) = leb width 100
@@ -100,4 +100,4 @@ within (row ∷ rows) = leb (row .width) 100 && (narrow (row .but) && within row
 pub record Sound (rules : Rules) : Type 0 where
   pub narrows : (kind : Record) → within (rules kind) ≡ true
   pub coded : isRequired (rules Parcel) 1 ≡ true
-  pub digital : (beside f : List ℕ) → hasForm (rules Parcel) 1 beside f ≡ digits 22 f
+  pub digital : (beside f : List ℕ) → hasForm (rules Parcel) 1 beside f ≡ identcode f
