@@ -12,7 +12,8 @@ use Rattle.fields.specs.declared.record.Record.the-variants.{Header, Sender, Sh
 use Rattle.fields.specs.Profile.{profile}
 use Rattle.grammar.proofs.Sizes.{sound}
 use Rattle.grammar.specs.Grammar.{render, LineOk, fieldNo}
-use Rattle.file.specs.Identcode.{identcodeAt, sameParcel, onEarlier, repeats}
+use Rattle.identcodes.specs.Tree.{identcodeAt}
+use Rattle.file.specs.Identcode.{sameParcel, onEarlier, repeats}
 use Rattle.file.proofs.Codes.{type-there, code-there}
 use Rattle.file.proofs.Sowing.{earlier-more}
 use Rattle.allowed.specs.Allowed.{codeOf, oneOfCodes}

@@ -54,7 +54,7 @@ abbrev pub oneOfCodes : List ℕ → List (List ℕ) → Bool
 oneOfCodes code [] = false
 oneOfCodes code (c ∷ cs) = same c code || oneOfCodes code cs
 
--- "No identcode sound (040.1) occurs twice in a file": none stands among those behind it
+-- "No identcode (040.1) occurs twice in a file": none stands among those behind it
 abbrev pub NoneTwice : List (List ℕ) → Type 0
 NoneTwice [] = Unit {0}
 NoneTwice (c ∷ cs) = (oneOfCodes c cs ≡ false) × NoneTwice cs

@@ -12,6 +12,8 @@ use Rattle.check_characters.specs.Iban.{checked as checkedIban}
 use Rattle.check_characters.specs.declared.number.NumberAnswer.{NumberAnswer}
 use Rattle.check_characters.specs.declared.number.IssueAnswer.{IssueAnswer}
 use Rattle.check_characters.specs.declared.iban.IbanAnswer.{IbanAnswer}
+use Rattle.identcodes.specs.Tree.{Finds}
+use Rattle.identcodes.specs.declared.CodeAnswer.{CodeAnswer}
 use Rattle.fields.specs.Profile.{profile}
 use Rattle.fields.specs.Field.{tested}
 use Rattle.fields.specs.declared.record.Record.{Record}
@@ -62,6 +64,11 @@ judge-unique s words a b x y p q = (p .0 ∙ sym (q .0), p .1 ∙ sym (q .1))
 -- a run placed in an output
 pub place-unique : (out : List ℕ) (at : ℕ) (src x y : List ℕ) → x ≡ placed out at src → y ≡ placed out at src → x ≡ y
 place-unique out at = one-answer (placed out at)
+
+-- an identcode looked for, and the tree then
+pub find-or-grow-unique : (file tree : List ℕ) (parcels offset : ℕ) (a b : CodeAnswer) (x y : List ℕ) →
+    Finds file tree parcels offset a x → Finds file tree parcels offset b y → (a ≡ b) × (x ≡ y)
+find-or-grow-unique file tree parcels offset a b x y p q = (p .0 ∙ sym (q .0), p .1 ∙ sym (q .1))
 
 -- a list cleared
 pub clear-unique : (words x y : List ℕ) → x ≡ replicate (length words) 0 → y ≡ replicate (length words) 0 → x ≡ y

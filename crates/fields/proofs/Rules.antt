@@ -8,7 +8,7 @@ use lib.Dec.{leb}
 use borrow.Author.Tests.{leb-true}
 use Rattle.text.specs.Choice.{if_then_else_}
 use Rattle.text.proofs.Choices.{and-left, and-right}
-use Rattle.forms.specs.Shape.{digits}
+use Rattle.forms.specs.Shape.{identcode}
 use Rattle.fields.specs.Record.{countFits}
 use Rattle.fields.specs.Profile.{Row, names, rowIn, profile, widthInTable, But, always, instead, narrowed, widthOf, Rules, isRequired, hasForm}
 use Rattle.fields.specs.declared.record.Record.{Record}
@@ -23,11 +23,11 @@ abbrev pub within : List Row → Bool
 within [] = true
 within (row ∷ rows) = leb (row .width) 100 && (narrow (row .but) && within rows)
 
--- and 040.1 must be filled with 22 digits
+-- and 040.1 must be filled with an identcode
 pub record Sound (rules : Rules) : Type 0 where
   pub narrows : (kind : Record) → within (rules kind) ≡ true
   pub coded : isRequired (rules Parcel) 1 ≡ true
-  pub digital : (beside f : List ℕ) → hasForm (rules Parcel) 1 beside f ≡ digits 22 f
+  pub digital : (beside f : List ℕ) → hasForm (rules Parcel) 1 beside f ≡ identcode f
 
 row-within : (rows : List Row) (n : ℕ) → within rows ≡ true → (rowIn rows n .width ≤ 100) × (narrow (rowIn rows n .but) ≡ true)
 row-within [] n e = (zero-le, refl)

@@ -5,7 +5,7 @@ use mathlib.Core.Bool.{Bool, true, false, _&&_}
 use mathlib.Core.List.{List, [], _∷_}
 use lib.Dec.{leb}
 use Rattle.text.specs.Choice.{if_then_else_}
-use Rattle.forms.specs.Shape.{allDigits, digits, capitals, customer, version, bic, mail, purposeText}
+use Rattle.forms.specs.Shape.{allDigits, digits, identcode, capitals, customer, version, bic, mail, purposeText}
 use Rattle.forms.specs.Amount.{amount}
 use Rattle.forms.specs.Date.{dateTime}
 use Rattle.forms.specs.Feature.{isFeature}
@@ -115,7 +115,7 @@ profile Shipment =
     field 40 wide 20 ∷ []
 -- 040: "1 R 22 digits (width 22); all others 64."
 profile Parcel =
-    field 1 R 22 is digits 22 ∷
+    field 1 R 22 is identcode ∷
     fields 2 to 24 wide 64 ∷ []
 -- 050: "1 R 20; all others 64."
 profile Product =

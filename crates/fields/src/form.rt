@@ -71,7 +71,7 @@ fn parcel_form(number: usize, beside: &[u8], field: &[u8]) -> bool
     ensures { λ r. ⌜ r ≡ hasForm (profile Record.Parcel) number (now (beside .entry)) (now (field .entry)) ⌝ }
 {
     match number {
-        1 => forms::shape::is_digits(field, 22),
+        1 => forms::shape::is_identcode(field),
         _ => true,
     }
 }

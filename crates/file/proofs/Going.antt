@@ -15,7 +15,7 @@ use Rattle.fields.specs.declared.record.Record.the-variants.{Header, Sender, Sh
 use Rattle.line.specs.Line.{lineAnswer, textAt}
 use Rattle.line.specs.Parts.{split}
 use Rattle.line.proofs.Accepting.{next-after}
-use Rattle.grammar.proofs.Sizes.{sound}
+use Rattle.fields.proofs.Rules.{sound}
 use Rattle.file.specs.Step.{toldBy, parcelsIn, behind, stepAnswer}
 use Rattle.file.specs.File.{Judged, begin, ended, onStep, fileFrom, judged, listOf, handed}
 use Rattle.file.specs.declared.step.State.{State}
@@ -23,7 +23,7 @@ use Rattle.file.specs.declared.step.Step.{Step}
 use Rattle.file.specs.declared.step.Step.the-variants.{Next, Stopped}
 use Rattle.file.specs.declared.whole.FileAnswer.{FileAnswer}
 use Rattle.file.specs.declared.whole.FileAnswer.the-variants.{Accepted, Refused}
-use Rattle.file.specs.Tree.{Sown}
+use Rattle.file.specs.Identcode.{Sown}
 use Rattle.file.proofs.Cashing.{cash-below}
 use Rattle.file.proofs.Codes.{accepted-far}
 use Rattle.file.proofs.Sowing.{sown-none}
@@ -44,10 +44,10 @@ pub record Going (s : List ℕ) (m : ℕ) (words codes : List ℕ) (state : Stat
   pub sown : Sown s (take (state .lines) words) (state .parcels) codes
   pub going : fileFrom (length s + 1 - state .lines) s m (take (state .lines) words) state ≡ judged s m
 
-pub going-none : (s words codes : List ℕ) → length s ≤ 65535 → words ≡ replicate (length words) 0 → 4681 ≤ length codes →
+pub going-none : (s words codes : List ℕ) → length s ≤ 65535 → words ≡ replicate (length words) 0 →
     Going s (length words) words codes begin
 unfolding judged
-going-none s words codes h e room =
+going-none s words codes h e =
     record {
       small = h;
       long = refl;
@@ -57,7 +57,7 @@ going-none s words codes h e room =
       cents = omega arith;
       cleared = e ∙ ap (λ (k : ℕ). replicate k 0) less;
       far = omega arith;
-      sown = sown-none s codes room;
+      sown = sown-none s codes;
       going = ap (λ (n : ℕ). fileFrom n s (length words) [] begin) whole ∙ sym (rw (le-ltb 65535 (length s) h));
     }
   where
@@ -214,3 +214,7 @@ module _ (s : List ℕ) (m n : ℕ) (e : m ≡ n) where
 pub clear-now : (words words₀ : List ℕ) → length words ≡ length words₀ → words ≡ replicate (length words₀) 0 →
     words ≡ replicate (length words) 0
 clear-now words words₀ long e = e ∙ ap (λ (k : ℕ). replicate k 0) (sym long)
+
+-- the tree keeps its room
+pub room-kept : (codes codes₀ : List ℕ) → length codes ≡ length codes₀ → 4681 ≤ length codes₀ → 4681 ≤ length codes
+room-kept codes codes₀ long room = omega arith

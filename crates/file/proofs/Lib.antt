@@ -1,9 +1,5 @@
 pub mod Lists
 pub mod Codes
-pub mod Forks
-pub mod Slots
-pub mod Unlike
-pub mod Parting
 pub mod Sowing
 pub mod Finding
 pub mod Cashing

@@ -23,10 +23,9 @@ use Rattle.line.specs.declared.read.LineAnswer.the-variants.{Accepted, Refused}
 use Rattle.line.proofs.Accepting.{text-starts, text-inside, next-least, text-is}
 use Rattle.file.proofs.Codes.{accepted-type, accepted-code}
 use Rattle.file.proofs.Sowing.{sown-line, sown-tells}
-use Rattle.file.specs.Identcode.{repeats}
-use Rattle.file.specs.Tree.{isThereFor, grownFor, Tree, Sown}
+use Rattle.file.specs.Identcode.{repeats, isThereFor, grownFor, Sown}
 use Rattle.file.specs.Cash.{cashOf}
-use Rattle.grammar.proofs.Sizes.{sound}
+use Rattle.fields.proofs.Rules.{sound}
 use Rattle.file.specs.Step.{toldBy, parcelsIn, behind, handedOn, onLine, stepAnswer}
 use Rattle.file.specs.declared.step.State.{State}
 use Rattle.file.specs.declared.step.Step.{Step}
@@ -44,11 +43,10 @@ module _ (s : List ℕ) (words : ℕ) (starts : List ℕ) (state : State) (a : L
   unfolding onLine
   line-stops refusal r e er = stepped r (er ∙ rw e)
 
-  module _ (line : Line) (el : a ≡ Accepted line) (codes : List ℕ) (g : Sown s starts (state .parcels) codes)
-      (few : state .parcels ≤ 2340) (t : Bool) (et : t ≡ isThereFor (line .kind) s codes (state .parcels) (state .at)) where
+  module _ (line : Line) (el : a ≡ Accepted line) (codes : List ℕ) (g : Sown s starts (state .parcels) codes) (t : Bool) (et : t ≡ isThereFor (line .kind) s codes (state .parcels) (state .at)) where
     er : t ≡ repeats (line .kind) s starts (state .at)
     er =
-        et ∙ sown-tells s starts (state .parcels) codes g few (state .at) (line .kind)
+        et ∙ sown-tells s starts (state .parcels) codes g (state .at) (line .kind)
         (λ k. accepted-code (toldBy state) s (state .at) a ea line el sound k)
 
     pub code-stops : t ≡ true → Stopped (because IdentcodeRepeated (state .at + 4)) ≡ stepAnswer s words starts state
@@ -65,12 +63,12 @@ module _ (s : List ℕ) (words : ℕ) (starts : List ℕ) (state : State) (a : L
       line-next h next en = stepped (Next next) (rw (el, ← er, fresh, lt-leb words (state .lines) h, en))
 
       -- the tree behind the line
-      pub line-sown : state .at < 65536 → (after : List ℕ) → after ≡ grownFor (line .kind) s codes (state .parcels) (state .at) →
+      pub line-sown : 4681 ≤ length codes → state .parcels ≤ 2340 → state .at < 65536 → (after : List ℕ) → after ≡ grownFor (line .kind) s codes (state .parcels) (state .at) →
           (now : State) → now ≡ behind s state line → (next : State) → Next now ≡ Next next →
           Sown s (starts ++ (state .at ∷ [])) (next .parcels) after
-      line-sown small after ef now en next e =
+      line-sown long few small after ef now en next e =
           let q : now ≡ next = cc in
-          rw (ef, ← q, en) (sown-line s starts (state .parcels) codes g few (state .at) (line .kind) small
+          rw (ef, ← q, en) (sown-line s starts (state .parcels) codes g (state .at) (line .kind) long few small
           (λ k. accepted-code (toldBy state) s (state .at) a ea line el sound k) (accepted-type (toldBy state) s (state .at) a ea line el)
           (sym et ∙ fresh))
 
@@ -136,9 +134,6 @@ stopped-sown s starts codes refusal next e = absurd (stopped e)
 pub handed-sown : (s starts codes : List ℕ) (a : LineAnswer) (refusal : Refusal) (r : Step) → a ≡ Refused refusal →
     r ≡ handedOn a → (next : State) → r ≡ Next next → Sown s starts (next .parcels) codes
 handed-sown s starts codes a refusal r ea er next e = absurd (stopped (sym (er ∙ ap handedOn ea) ∙ e))
-
-pub sown-whole : (s starts : List ℕ) (parcels : ℕ) (codes : List ℕ) → Sown s starts parcels codes → Tree s parcels codes
-sown-whole s starts parcels codes g = g .whole
 
 pub was-accepted : (told : Told) (s : List ℕ) (at : ℕ) (a : LineAnswer) (line : Line) → a ≡ lineAnswer told s at → a ≡ Accepted line →
     lineAnswer told s at ≡ Accepted line

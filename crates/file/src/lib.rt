@@ -3,7 +3,6 @@ mod cash;
 mod identcode;
 mod list;
 mod step;
-mod tree;
 mod whole;
 
 pub use list::clear;

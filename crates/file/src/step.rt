@@ -6,7 +6,7 @@ ghost use mathlib.Core.List.{[], _∷_, _++_};
 ghost use Rattle.line.specs.Line.{lineAnswer};
 ghost use Rattle.line.specs.declared.read.LineAnswer.the-variants.{Accepted};
 ghost use Rattle.file.specs.Step.{toldBy, handedOn, parcelsIn, behind, stepAnswer};
-ghost use Rattle.file.specs.Tree.{Sown};
+ghost use Rattle.file.specs.Identcode.{Sown};
 ghost use Rattle.file.specs.declared.step.State.{State};
 ghost use Rattle.file.specs.declared.step.Step.the-variants.{Next};
 use crate::cash;
@@ -36,7 +36,8 @@ pub enum Step {
 pub fn one_line(s: &[u8], words: &[u32], codes: &mut [u32], state: State) -> Step
     requires { ⌜ (state .at < 65536) × (state .lines ≤ state .at) × (state .lines ≤ length (now words)) × (state .parcels ≤ state .lines)
         × (state .cents ≤ 99999999 * state .lines) ⌝ }
-    requires { ⌜ Sown (now s) (take (state .lines) (now words)) (state .parcels) (now codes) × (state .parcels ≤ 2340) ⌝ }
+    requires { ⌜ Sown (now s) (take (state .lines) (now words)) (state .parcels) (now codes) × (state .parcels ≤ 2340)
+        × (4681 ≤ length (now codes)) ⌝ }
     ensures { λ r. ⌜ r ≡ stepAnswer (now (s .entry)) (length (now (words .entry))) (take (state .lines) (now (words .entry))) state ⌝ }
     ensures { λ r. ⌜ ((next : State) → r ≡ Next next →
         Sown (now (s .entry)) (take (state .lines) (now (words .entry)) ++ (state .at ∷ [])) (next .parcels) (now (codes .exit))) ⌝ }

@@ -12,9 +12,13 @@ use Rattle.text.specs.Scan.{all, count, same}
 unfoldable pub allDigits : List ℕ → Bool
 allDigits s = all digit s
 
--- "four digits", "22 digits"
+-- "four digits", "ten digits"
 unfoldable pub digits : ℕ → List ℕ → Bool
 digits n s = eqb (length s) n && allDigits s
+
+-- "22 digits": an identcode
+unfoldable pub identcode : List ℕ → Bool
+identcode s = digits 22 s
 
 -- "two capitals", "three capitals"
 unfoldable pub capitals : ℕ → List ℕ → Bool

@@ -1,11 +1,11 @@
-// Forms that look at bytes one by one: digits, capitals, the customer number, the version, a BIC, an e-mail address and a
-// payment purpose.
+// Forms that look at bytes one by one: digits, an identcode, capitals, the customer number, the version, a BIC, an e-mail address
+// and a payment purpose.
 ghost use mathlib.Core.Path.{_≡_};
 ghost use Prim.Native.Nat.{_≤_};
 ghost use Rattle.text.specs.Byte.{capital, symbol};
 ghost use Rattle.text.specs.Choice.{if_then_else_};
 ghost use Rattle.text.specs.Scan.{all, count};
-ghost use Rattle.forms.specs.Shape.{allDigits, digits, capitals, customer, version, bic, atSign, mail, purposeText};
+ghost use Rattle.forms.specs.Shape.{allDigits, digits, identcode, capitals, customer, version, bic, atSign, mail, purposeText};
 
 // Whether every byte is a digit.
 pub fn all_digits(s: &[u8]) -> bool
@@ -29,6 +29,13 @@ pub fn is_digits(s: &[u8], n: usize) -> bool
         return false;
     }
     all_digits(s)
+}
+
+// Whether s is an identcode.
+pub fn is_identcode(s: &[u8]) -> bool
+    ensures { λ r. ⌜ r ≡ identcode (now (s .entry)) ⌝ }
+{
+    is_digits(s, 22)
 }
 
 // Whether s is n capitals.

@@ -5,16 +5,14 @@ use mathlib.Core.Bool.{true}
 use mathlib.Core.List.{List, [], _∷_, _++_, append-assoc}
 use mathlib.Core.Logic.{_↔_}
 use native.Mathlib.Omega.{arith}
-use lib.Dec.{eqb}
 use lib.ListN.{length, drop, getD, length-append, length-drop}
 use lib.Seq.{drop-drop, drop-append-seam}
-use borrow.Author.Tests.{le-ltb, eqb-true}
+use borrow.Author.Tests.{le-ltb}
 use Rattle.text.specs.Byte.{textByte}
 use Rattle.text.specs.Quoted.{bytes}
 use Rattle.text.specs.Scan.{all}
-use Rattle.text.proofs.Choices.{and-left}
 use Rattle.text.proofs.Runs.{run-once}
-use Rattle.forms.specs.Shape.{digits, allDigits}
+use Rattle.forms.specs.Shape.{identcode}
 use Rattle.fields.specs.Record.{typeOf, mayCome}
 use Rattle.fields.specs.Profile.{Rules}
 use Rattle.fields.specs.declared.record.Due.{Due}
@@ -30,9 +28,9 @@ use Rattle.line.specs.declared.read.Line.{Line}
 use Rattle.line.specs.declared.read.LineAnswer.the-variants.{Accepted}
 use Rattle.line.proofs.Plain.{render-long}
 use Rattle.line.proofs.Ends.{ended, ends-at, ends-well, text-there}
-use Rattle.line.proofs.Accepting.{line-ok}
+use Rattle.line.proofs.Accepting.{line-ok, text-written, line-stands}
 use Rattle.grammar.specs.Grammar.{LineOk, Reads}
-use Rattle.grammar.proofs.Texts.{text-split, text-bytes, text-accepted, text-written, text-allowed}
+use Rattle.grammar.proofs.Texts.{text-split, text-bytes, text-accepted, text-allowed}
 
 -- an accepted line stands there
 pub accepted-reads : (told : Told) (s : List ℕ) (at : ℕ) (line : Line) → lineAnswer told s at ≡ Accepted line →
@@ -41,15 +39,15 @@ accepted-reads told s at line e =
     let text = textAt s at in
     let g = line-ok told s at line e in
     let d = ended s at (g .well) in
-    let written = text-written told at text line (d .text) (g .text) in
     record {
       small = g .short;
       comes = g .text .comes;
       allowed = text-allowed told at text line (d .text) (g .text);
       rest = d .rest;
-      stands = d .whole ∙ ap (λ (l : List ℕ). l ++ bytes "\r\n" ++ d .rest) written;
+      stands = line-stands told s at line g;
       count = g .text .counted;
-      next = omega (arith, g .text .ends, ap length written, render-long (line .kind) (fieldsOf text));
+      next =
+          omega (arith, g .text .ends, ap length (text-written told at text line (g .text)), render-long (line .kind) (fieldsOf text));
     }
 
 -- what a line that stands there tells
@@ -155,13 +153,10 @@ one-reading g h =
     (cc, sym (read-fields g) ∙ read-fields h)
 
 -- "040: 1 R 22 digits"
-pub identcode : {rules : Rules} → Sound rules → (kind : Record) (fs : List (List ℕ)) → kind ≡ Parcel → LineOk rules kind fs →
-    (digits 22 (fieldNo fs 1) ≡ true) × (length (fieldNo fs 1) ≡ 22)
-unfolding digits
-identcode {rules = rules} w kind fs e g = go fs (rw e at g)
+pub parcel-code : {rules : Rules} → Sound rules → (kind : Record) (fs : List (List ℕ)) → kind ≡ Parcel → LineOk rules kind fs →
+    identcode (fieldNo fs 1) ≡ true
+parcel-code {rules = rules} w kind fs e g = go fs (rw e at g)
   where
-    go : (fs : List (List ℕ)) → LineOk rules Parcel fs → (digits 22 (fieldNo fs 1) ≡ true) × (length (fieldNo fs 1) ≡ 22)
+    go : (fs : List (List ℕ)) → LineOk rules Parcel fs → identcode (fieldNo fs 1) ≡ true
     go [] g = let z : _≡_ {A = ℕ} 0 1 = cc in absurd (omega arith)
-    go (f ∷ fs) g =
-        let d : digits 22 f ≡ true = sym (w .digital (typeOf Parcel) f) ∙ g .fields .0 .formed (g .fields .0 .filled (w .coded)) in
-        (d, eqb-true (length f) 22 (and-left (eqb (length f) 22) (allDigits f) d))
+    go (f ∷ fs) g = sym (w .digital (typeOf Parcel) f) ∙ g .fields .0 .formed (g .fields .0 .filled (w .coded))

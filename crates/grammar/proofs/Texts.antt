@@ -2,7 +2,7 @@
 use Prim.Native.Nat.{ℕ, _+_}
 use mathlib.Core.Path.{_≡_, refl, sym, ap, _∙_}
 use mathlib.Core.Bool.{true, false}
-use mathlib.Core.List.{List, _∷_, _++_}
+use mathlib.Core.List.{List, _∷_}
 use lib.ListN.{length}
 use Rattle.text.specs.Byte.{textByte}
 use Rattle.text.specs.Scan.{all}
@@ -15,14 +15,14 @@ use Rattle.fields.specs.declared.record.Named.the-variants.{Known}
 use Rattle.fields.specs.declared.record.Due.{Due}
 use Rattle.fields.proofs.Types.{type-named, named-type}
 use Rattle.line.specs.Parts.{split, nameOf, fieldsOf}
-use Rattle.line.specs.Render.{joined, textOf, plain}
+use Rattle.line.specs.Render.{textOf, plain}
 use Rattle.line.specs.Told.{Told}
 use Rattle.line.specs.Walk.{behind}
 use Rattle.line.specs.Need.{lacks}
 use Rattle.line.specs.Line.{afterWalk, ofKind, ofNamed, ofText}
 use Rattle.line.specs.declared.read.Line.{Line}
 use Rattle.line.specs.declared.read.LineAnswer.the-variants.{Accepted}
-use Rattle.line.proofs.Splits.{split-some, join-split, allIn}
+use Rattle.line.proofs.Splits.{split-some, allIn}
 use Rattle.line.proofs.Plain.{split-plain, plain-split, plain-bytes}
 use Rattle.line.proofs.Passing.{fine-each, each-fine}
 use Rattle.line.proofs.Accepting.{TextOk}
@@ -58,9 +58,6 @@ module _ {rules : Rules} (kind : Record) (fs : List (List ℕ)) (g : LineOk rule
 module _ (told : Told) (at : ℕ) (text : List ℕ) (line : Line) (bytes : all textByte text ≡ true) (g : TextOk told at text line) where
   name : nameOf text ≡ typeOf (line .kind)
   name = named-type (nameOf text) (line .kind) (g .known)
-
-  pub text-written : text ≡ textOf (line .kind) (fieldsOf text)
-  text-written = sym (join-split text) ∙ ap (λ (n : List ℕ). n ++ joined (fieldsOf text)) name
 
   pub text-allowed : LineOk (told .rules) (line .kind) (fieldsOf text)
   text-allowed =

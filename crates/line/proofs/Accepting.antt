@@ -2,12 +2,13 @@
 use Prim.Native.Nat.{ℕ, _+_, _-_, _≤_, _<_}
 use mathlib.Core.Path.{_≡_, refl, sym, ap, _∙_}
 use mathlib.Core.Bool.{true, false, not}
-use mathlib.Core.List.{List}
+use mathlib.Core.List.{List, _++_}
 use native.Mathlib.Omega.{arith}
 use lib.Dec.{ltb}
 use lib.ListN.{length, take, drop, length-take, length-drop}
 use borrow.Author.Tests.{ltb-false, not-false}
 use Rattle.text.specs.Byte.{textByte}
+use Rattle.text.specs.Quoted.{bytes}
 use Rattle.text.specs.Choice.{if_then_else_}
 use Rattle.text.proofs.Choices.{came-else}
 use Rattle.text.proofs.Runs.{first-least, first-most}
@@ -15,12 +16,13 @@ use Rattle.refusal.specs.declared.Reason.the-variants.{FileTooLong, NoLineEnd, 
 use Rattle.refusal.specs.Table.{because}
 use Rattle.refusal.specs.declared.Refusal.{Refusal}
 use Rattle.refusal.proofs.Verdicts.{no-pass}
-use Rattle.fields.specs.Profile.{profile}
 use Rattle.fields.specs.Record.{named, countFits, mayCome}
 use Rattle.fields.specs.declared.record.Record.{Record}
 use Rattle.fields.specs.declared.record.Named.{Named}
 use Rattle.fields.specs.declared.record.Named.the-variants.{Known, Unknown}
 use Rattle.line.specs.Parts.{split, nameOf, fieldsOf}
+use Rattle.fields.proofs.Types.{named-type}
+use Rattle.line.specs.Render.{joined, textOf, render}
 use Rattle.line.specs.Walk.{walk}
 use Rattle.line.specs.Need.{lacks}
 use Rattle.line.specs.Line.{lineEnd, endsWell, textAt, afterWalk, ofKind, ofNamed, ofText, textAnswer, onText, lineAnswer, textVerdict, lineVerdict}
@@ -32,6 +34,8 @@ use Rattle.line.specs.declared.read.Line.{Line}
 use Rattle.line.specs.Told.{Told}
 use Rattle.line.specs.declared.read.LineAnswer.{LineAnswer}
 use Rattle.line.specs.declared.read.LineAnswer.the-variants.{Accepted, Refused}
+use Rattle.line.proofs.Splits.{join-split}
+use Rattle.line.proofs.Ends.{ended}
 
 -- the text of an accepted line
 pub record TextOk (told : Told) (at : ℕ) (line : List ℕ) (l : Line) : Type 0 where
@@ -180,3 +184,14 @@ module _ (told : Told) (s : List ℕ) (at : ℕ) (a : LineAnswer) (ea : a ≡ li
 
   pub text-is : take (l .next - 2 - at) (drop at s) ≡ textAt s at
   text-is = ap (λ (k : ℕ). take (k - at) (drop at s)) text-end
+
+-- an accepted line is the rendering of its record and its fields
+pub text-written : (told : Told) (at : ℕ) (text : List ℕ) (l : Line) → TextOk told at text l → text ≡ textOf (l .kind) (fieldsOf text)
+text-written told at text l g =
+    sym (join-split text) ∙ ap (λ (n : List ℕ). n ++ joined (fieldsOf text)) (named-type (nameOf text) (l .kind) (g .known))
+
+pub line-stands : (told : Told) (s : List ℕ) (at : ℕ) (l : Line) (g : LineAt told s at l) →
+    drop at s ≡ render (l .kind) (fieldsOf (textAt s at)) ++ ended s at (g .well) .rest
+line-stands told s at l g =
+    let d = ended s at (g .well) in
+    d .whole ∙ ap (λ (t : List ℕ). t ++ bytes "\r\n" ++ d .rest) (text-written told at (textAt s at) l (g .text))

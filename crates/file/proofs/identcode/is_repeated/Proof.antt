@@ -1,11 +1,11 @@
 -- `identcode::is_repeated` meets its contract.
-use Rattle.file.specs.Tree.{isThereFor, grownFor}
-use Rattle.file.proofs.Finding.{parcel-digits, there-as, grown-as}
+use Rattle.file.specs.Identcode.{isThereFor, grownFor}
+use Rattle.file.proofs.Finding.{there-as, grown-as}
 use borrow.Author.Needs.{needs}
 use Rattle.file.proofs.identcode.is_repeated.Statement.{statement}
 use Rattle.file.proofs.identcode.is_repeated.Tie as tie
 
-ruleset laws = (needs, parcel-digits, there-as, grown-as)
+ruleset laws = (needs, there-as, grown-as)
 
 pub is-repeated-spec : {M : Type 1} → statement M
 unfolding isThereFor grownFor

@@ -2,14 +2,14 @@
 use lib.ListN.{length}
 use Prim.Native.Nat.{_-_}
 use mathlib.Core.Path.{_≡_}
-use Rattle.file.proofs.Going.{Going, going-none, going-more, word-there, less-left, few-parcels, stop-answer, stop-list}
+use Rattle.file.proofs.Going.{Going, going-none, going-more, word-there, less-left, few-parcels, room-kept, stop-answer, stop-list}
 use Rattle.file.proofs.Going.{due-answer, due-list, end-answer, end-list}
 use borrow.Author.Needs.{needs}
 use Rattle.file.proofs.whole.run.Statement.{statement}
 use Rattle.file.proofs.whole.run.Tie as tie
 
 ruleset laws =
-    (needs, going-none, going-more, word-there, less-left, few-parcels, stop-answer, stop-list, due-answer, due-list, end-answer, end-list)
+    (needs, going-none, going-more, word-there, less-left, few-parcels, room-kept, stop-answer, stop-list, due-answer, due-list, end-answer, end-list)
 
 abbrev Inv-loop : tie.InvT-loop
 Inv-loop s words₀ codes₀ state₀ words codes state = Going s (length words₀) words codes state × (length codes ≡ length codes₀)
