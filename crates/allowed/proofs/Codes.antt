@@ -1,7 +1,7 @@
 -- Identcodes: what the judge compares are the first fields of the parcel lines.
 use Prim.Native.Nat.{ℕ, _+_}
 use mathlib.Core.Path.{_≡_, refl, sym, ap, _∙_}
-use mathlib.Core.Bool.{Bool, false, _||_, or-assoc, or-false}
+use mathlib.Core.Bool.{Bool, false, _||_, or-assoc, or-false, false≢true}
 use mathlib.Core.List.{List, [], _∷_, _++_}
 use lib.ListN.{drop}
 use Rattle.text.specs.Quoted.{bytes}
@@ -10,13 +10,22 @@ use Rattle.fields.specs.Record.{typeOf}
 use Rattle.fields.specs.declared.record.Record.{Record}
 use Rattle.fields.specs.declared.record.Record.the-variants.{Header, Sender, Shipment, Parcel, Product, Feature}
 use Rattle.fields.specs.Profile.{profile}
-use Rattle.grammar.proofs.Sizes.{sound}
-use Rattle.grammar.specs.Grammar.{render, LineOk, fieldNo}
+use Rattle.fields.proofs.Rules.{sound}
+use Rattle.line.specs.Parts.{fieldNo}
+use Rattle.line.specs.Render.{render}
+use Rattle.grammar.specs.Grammar.{LineOk}
+use Rattle.grammar.proofs.Lines.{parcel-code}
 use Rattle.identcodes.specs.Tree.{identcodeAt}
 use Rattle.file.specs.Identcode.{sameParcel, onEarlier, repeats}
 use Rattle.file.proofs.Codes.{type-there, code-there}
 use Rattle.file.proofs.Sowing.{earlier-more}
 use Rattle.allowed.specs.Allowed.{codeOf, oneOfCodes}
+
+-- the identcode of a parcel line where it stands
+code-here : (s : List ℕ) (at : ℕ) (fs : List (List ℕ)) (rest : List ℕ) → drop at s ≡ render Parcel fs ++ rest → LineOk profile Parcel fs →
+    identcodeAt s at ≡ fieldNo fs 1
+code-here s at [] rest there ok = absurd (false≢true (ok .counted))
+code-here s at (f ∷ fs) rest there ok = code-there s at f fs rest there (parcel-code sound Parcel (f ∷ fs) refl ok)
 
 -- the line that starts here has one of the codes of a line
 module _ (s : List ℕ) (earlier : ℕ) (fs : List (List ℕ)) (rest : List ℕ) (at : ℕ) where
@@ -31,7 +40,7 @@ module _ (s : List ℕ) (earlier : ℕ) (fs : List (List ℕ)) (rest : List ℕ)
   same-code Header there ok = other-type Header there refl
   same-code Sender there ok = other-type Sender there refl
   same-code Shipment there ok = other-type Shipment there refl
-  same-code Parcel there ok = rw (type-there s earlier Parcel fs rest there, code-there sound s earlier fs rest there ok)
+  same-code Parcel there ok = rw (type-there s earlier Parcel fs rest there, code-here s earlier fs rest there ok)
       (sym (or-false (same (fieldNo fs 1) (identcodeAt s at))))
   same-code Product there ok = other-type Product there refl
   same-code Feature there ok = other-type Feature there refl
@@ -65,7 +74,7 @@ module _ (s starts : List ℕ) (codes : List (List ℕ)) (at : ℕ) (fs : List (
   fresh-not Header there ok e = tt
   fresh-not Sender there ok e = tt
   fresh-not Shipment there ok e = tt
-  fresh-not Parcel there ok e = (rw (code-there sound s at fs rest there ok) at (sym (seen at) ∙ e), tt)
+  fresh-not Parcel there ok e = (rw (code-here s at fs rest there ok) at (sym (seen at) ∙ e), tt)
   fresh-not Product there ok e = tt
   fresh-not Feature there ok e = tt
 
@@ -75,6 +84,6 @@ module _ (s starts : List ℕ) (codes : List (List ℕ)) (at : ℕ) (fs : List (
   not-fresh Header there ok f = refl
   not-fresh Sender there ok f = refl
   not-fresh Shipment there ok f = refl
-  not-fresh Parcel there ok f = seen at ∙ rw (code-there sound s at fs rest there ok) (f .0)
+  not-fresh Parcel there ok f = seen at ∙ rw (code-here s at fs rest there ok) (f .0)
   not-fresh Product there ok f = refl
   not-fresh Feature there ok f = refl

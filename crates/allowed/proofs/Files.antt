@@ -15,7 +15,8 @@ use Rattle.refusal.proofs.Verdicts.{no-pass}
 use Rattle.fields.specs.declared.record.Record.{Record}
 use Rattle.fields.specs.declared.record.Due.{Due}
 use Rattle.fields.specs.declared.record.Due.the-variants.{First, After}
-use Rattle.grammar.proofs.Lines.{render-long, one-line}
+use Rattle.line.proofs.Plain.{render-long}
+use Rattle.grammar.proofs.Lines.{one-line}
 use Rattle.file.specs.File.{Judged, begin, fileFrom, judged, fileVerdict}
 use Rattle.file.specs.declared.whole.Totals.{Totals}
 use Rattle.file.specs.declared.whole.FileAnswer.the-variants.{Accepted, Refused}

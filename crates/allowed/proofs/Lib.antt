@@ -2,3 +2,6 @@ pub mod Codes
 pub mod Twice
 pub mod Runs
 pub mod Files
+pub mod Placed
+pub mod Naming
+pub mod Order

@@ -13,7 +13,9 @@ use Rattle.fields.specs.declared.record.Record.the-variants.{Parcel}
 use Rattle.fields.specs.declared.record.Due.{Due}
 use Rattle.fields.specs.declared.record.Due.the-variants.{First, After}
 use Rattle.fields.specs.Profile.{profile}
-use Rattle.grammar.specs.Grammar.{render, LineOk, fieldNo}
+use Rattle.line.specs.Parts.{fieldNo}
+use Rattle.line.specs.Render.{render}
+use Rattle.grammar.specs.Grammar.{LineOk}
 use Rattle.file.specs.Cash.{cashOf}
 use Rattle.file.specs.Step.{parcelsIn}
 use Rattle.file.specs.declared.whole.Totals.{Totals}

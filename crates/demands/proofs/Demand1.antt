@@ -22,12 +22,11 @@ use Rattle.line.specs.Line.{lineAnswer, alone}
 use Rattle.line.specs.Find.{fieldAnswer}
 use Rattle.line.specs.declared.read.LineAnswer.{LineAnswer}
 use Rattle.line.specs.declared.find.FieldAnswer.{FieldAnswer}
-use Rattle.file.specs.File.{Judges}
+use Rattle.file.specs.File.{judged, Judges}
 use Rattle.writer.specs.Write.{recordNumbered, between, writtenTo, Writes}
 use Rattle.writer.specs.declared.write.WriteAnswer.{WriteAnswer}
-use Rattle.purpose.specs.Purpose.{Purposes}
+use Rattle.purpose.specs.Purpose.{purposeText, listAfter, outputAfter, Purposes}
 use Rattle.purpose.specs.declared.write.PurposeAnswer.{PurposeAnswer}
-use Rattle.purpose.proofs.Settled as settled
 use Rattle.file.specs.declared.whole.FileAnswer.{FileAnswer}
 use Rattle.peliranopi.specs.Calls.{JudgeTells, LineTells, FieldTells, WriteTells, PurposeTells, NumberTells, IssueTells, IbanTells}
 
@@ -84,7 +83,12 @@ write-line-unique number text ends out fill a b x y p q =
 pub write-purpose-unique :
     (s : List ℕ) (n words : ℕ) (out : List ℕ) (a b : PurposeAnswer) (list list₂ x y : List ℕ) →
     Purposes s n words out a list x → Purposes s n words out b list₂ y → (a ≡ b) × (list ≡ list₂) × (x ≡ y)
-write-purpose-unique = settled.one-outcome
+write-purpose-unique s n words out a b list list₂ x y p q =
+    let same : a ≡ b = p .0 ∙ sym (q .0) in (
+      same,
+      p .1 ∙ ap (λ (r : PurposeAnswer). listAfter r words (judged s words .starts)) same ∙ sym (q .1),
+      p .2 ∙ ap (λ (r : PurposeAnswer). outputAfter r (purposeText s n words) out) same ∙ sym (q .2),
+    )
 
 -- The same calls for C and Rust (crate peliranopi): the number returned, each number behind a pointer, each lent buffer.
 pub judge-call-unique :

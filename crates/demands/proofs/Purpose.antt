@@ -7,10 +7,10 @@ use Rattle.text.specs.Placed.{written}
 use Rattle.file.specs.File.{listOf}
 use Rattle.allowed.specs.Allowed.{FileLine, AllowedFile, lineStarts}
 use Rattle.purpose.specs.Purpose.{cut, Purposes}
-use Rattle.purpose.specs.Sentence.{LineNo, CashLine, Belongs, namedText}
+use Rattle.allowed.specs.Sentence.{LineNo, CashLine, Belongs, namedText}
 use Rattle.purpose.specs.declared.write.PurposeAnswer.{PurposeAnswer}
 use Rattle.purpose.specs.declared.write.PurposeAnswer.the-variants.{Written}
-use Rattle.purpose.proofs.Order as order
+use Rattle.allowed.proofs.Order as order
 
 -- Every 006 line of an allowed file belongs to a shipment, the nearest 030 above it, and to that shipment's first parcel.
 pub purpose-has-shipment :

@@ -5,4 +5,4 @@ pub mod Finding
 pub mod Cashing
 pub mod Stepping
 pub mod Going
-pub mod Unlisted
+pub mod Listing

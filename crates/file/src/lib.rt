@@ -6,6 +6,7 @@ mod step;
 mod whole;
 
 pub use list::clear;
+pub use list::offset_of;
 pub use whole::FileAnswer;
 pub use whole::Totals;
 pub use whole::judge;

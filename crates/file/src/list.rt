@@ -1,7 +1,8 @@
-// The lent list of line offsets, cleared.
+// The lent list of line offsets.
 ghost use mathlib.Core.Path.{_≡_};
-ghost use lib.ListN.{length, replicate};
+ghost use lib.ListN.{length, replicate, getD};
 
+// Clears the list.
 pub fn clear(words: &mut [u32])
     ensures { λ _. ⌜ now (words .exit) ≡ replicate (length (now (words .entry))) 0 ⌝ }
 {
@@ -10,4 +11,20 @@ pub fn clear(words: &mut [u32])
         words[i] = 0;
         i += 1;
     }
+}
+
+// Where the line with this number starts; 0 where the list has no such line.
+pub fn offset_of(starts: &[u32], number: usize) -> usize
+    ensures { λ r. ⌜ r ≡ getD (now (starts .entry)) number 0 ⌝ }
+{
+    if starts.len() <= number {
+        return 0;
+    }
+    wide(starts[number])
+}
+
+fn wide(word: u32) -> usize
+    ensures { λ r. ⌜ r ≡ word ⌝ }
+{
+    word as usize
 }

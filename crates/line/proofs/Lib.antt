@@ -8,3 +8,4 @@ pub mod Lines
 pub mod Ends
 pub mod Accepting
 pub mod Finding
+pub mod Starting

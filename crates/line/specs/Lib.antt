@@ -5,3 +5,4 @@ pub mod Walk
 pub mod Need
 pub mod Line
 pub mod Find
+pub mod At

@@ -1,4 +1,5 @@
 // One line of a file, judged where it starts, and one field of it found.
+mod at;
 mod find;
 mod need;
 mod part;
@@ -6,6 +7,9 @@ mod read;
 mod scan;
 mod walk;
 
+pub use at::field_at;
+pub use at::is_filled_at;
+pub use at::is_typed;
 pub use find::FieldAnswer;
 pub use find::find_field;
 pub use need::is_filled;

@@ -14,8 +14,7 @@ use Rattle.file.specs.File.{judged, listOf}
 use Rattle.file.specs.declared.whole.Totals.{Totals}
 use Rattle.file.specs.declared.whole.FileAnswer.{FileAnswer}
 use Rattle.file.specs.declared.whole.FileAnswer.the-variants.{Accepted, Refused}
-use Rattle.file.proofs.Unlisted.{none-listed}
-use Rattle.allowed.proofs.Files.{Accepts, accepted-allowed, starts-count}
+use Rattle.file.proofs.Listing.{none-listed, lines-listed, lines-fit as words-fit}
 use Rattle.purpose.specs.Source.{sourceOf}
 use Rattle.purpose.specs.Purpose.{cut, sourceText, textFrom, handedOn, onSource, onFile, purposeAnswer, purposeText, listAfter, outputAfter}
 use Rattle.purpose.specs.declared.source.Source.{Source}
@@ -49,21 +48,17 @@ module _ (s : List ℕ) (m : ℕ) (a : FileAnswer) (ea : a ≡ judged s m .answe
 
 -- the file is accepted
 module _ (s : List ℕ) (m : ℕ) (a : FileAnswer) (ea : a ≡ judged s m .answer) (totals : Totals) (et : a ≡ Accepted totals) where
-  accepts : Accepts s m totals (judged s m .starts)
-  accepts = accepted-allowed s m totals (judged s m .starts) (ap (λ (x : FileAnswer). record { answer = x; starts = judged s m .starts })
-      (sym ea ∙ et))
-
-  count : length (judged s m .starts) ≡ totals .lines
-  count = ap length (accepts .list) ∙ starts-count 0 (accepts .lines) ∙ sym (ap (λ (t : Totals). t .lines) (accepts .counts))
+  accepts : judged s m .answer ≡ Accepted totals
+  accepts = sym ea ∙ et
 
   pub lines-fit : (list : List ℕ) → length list ≡ m → totals .lines ≤ length list
-  lines-fit list long = omega (arith, accepts .room, ap (λ (t : Totals). t .lines) (accepts .counts))
+  lines-fit list long = omega (arith, words-fit s m totals accepts)
 
   module _ (list : List ℕ) (el : list ≡ listOf m (judged s m .starts)) (n : ℕ) (found : Sourced)
       (ef : found ≡ sourceOf s (take (totals .lines) list) n) where
     listed : take (totals .lines) list ≡ judged s m .starts
     listed = ap (take (totals .lines)) el ∙ take-at (judged s m .starts) (replicate (m - length (judged s m .starts)) 0)
-        (totals .lines) count
+        (totals .lines) (lines-listed s m totals accepts)
 
     source-is : found ≡ sourceOf s (judged s m .starts) n
     source-is = ef ∙ ap (λ (starts : List ℕ). sourceOf s starts n) listed

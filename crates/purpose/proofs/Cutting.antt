@@ -9,8 +9,7 @@ use lib.Seq.{take-nil, take-append-seam, drop-append-add, drop-drop}
 use borrow.Author.Tests.{le-leb}
 use Rattle.text.specs.Placed.{written, placed}
 use Rattle.text.specs.Quoted.{bytes}
-use Rattle.line.specs.Parts.{partAt}
-use Rattle.line.specs.Line.{textAt}
+use Rattle.line.specs.At.{fieldAt}
 use Rattle.purpose.specs.Purpose.{cut, sourceText}
 use Rattle.purpose.specs.declared.source.Source.{Source}
 use Rattle.purpose.specs.declared.source.Source.the-variants.{Field, Joined}
@@ -78,9 +77,9 @@ module _ (a b : List ℕ) (p : ℕ) (ep : p ≡ 0 + length (take (35 - 0) a)) (q
 
 -- the text of a source
 module _ (s : List ℕ) (source : Source) where
-  module _ (at n : ℕ) (es : source ≡ Field at n) (line f : List ℕ) (el : line ≡ textAt s at) (ef : f ≡ partAt line n) where
+  module _ (at n : ℕ) (es : source ≡ Field at n) (f : List ℕ) (ef : f ≡ fieldAt s at n) where
     field-text : f ≡ sourceText s source
-    field-text = rw es (ef ∙ ap (λ (l : List ℕ). partAt l n) el)
+    field-text = rw es ef
 
     pub field-long : (r : ℕ) → r ≡ 0 + length (take (35 - 0) f) → r ≡ length (cut (sourceText s source))
     field-long r er = er ∙ zero-add (length (cut f)) ∙ ap (λ (l : List ℕ). length (cut l)) field-text
@@ -88,15 +87,13 @@ module _ (s : List ℕ) (source : Source) where
     pub field-there : (out o : List ℕ) → o ≡ written out 0 (take (35 - 0) f) → o ≡ written out 0 (cut (sourceText s source))
     field-there out o eo = eo ∙ ap (λ (l : List ℕ). written out 0 (cut l)) field-text
 
-  module _
-      (parcel shipment : ℕ) (es : source ≡ Joined parcel shipment) (below above a b : List ℕ) (ep : below ≡ textAt s parcel)
-      (ea : a ≡ partAt below 1) (eh : above ≡ textAt s shipment) (eb : b ≡ partAt above 16)
-    where
-      both-text : a ++ bytes "/" ++ b ≡ sourceText s source
-      both-text = rw (es, ea, ep, eb, eh)
+  module _ (parcel shipment : ℕ) (es : source ≡ Joined parcel shipment) (a b : List ℕ) (ea : a ≡ fieldAt s parcel 1)
+      (eb : b ≡ fieldAt s shipment 16) where
+    both-text : a ++ bytes "/" ++ b ≡ sourceText s source
+    both-text = rw (es, ea, eb)
 
-      pub both-long : (r : ℕ) → r ≡ length (cut (a ++ bytes "/" ++ b)) → r ≡ length (cut (sourceText s source))
-      both-long r er = er ∙ ap (λ (l : List ℕ). length (cut l)) both-text
+    pub both-long : (r : ℕ) → r ≡ length (cut (a ++ bytes "/" ++ b)) → r ≡ length (cut (sourceText s source))
+    both-long r er = er ∙ ap (λ (l : List ℕ). length (cut l)) both-text
 
-      pub both-there : (out o : List ℕ) → o ≡ written out 0 (cut (a ++ bytes "/" ++ b)) → o ≡ written out 0 (cut (sourceText s source))
-      both-there out o eo = eo ∙ ap (λ (l : List ℕ). written out 0 (cut l)) both-text
+    pub both-there : (out o : List ℕ) → o ≡ written out 0 (cut (a ++ bytes "/" ++ b)) → o ≡ written out 0 (cut (sourceText s source))
+    both-there out o eo = eo ∙ ap (λ (l : List ℕ). written out 0 (cut l)) both-text

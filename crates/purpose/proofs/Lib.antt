@@ -1,7 +1,3 @@
 pub mod Seeking
 pub mod Cutting
 pub mod Answering
-pub mod Settled
-pub mod Placed
-pub mod Naming
-pub mod Order

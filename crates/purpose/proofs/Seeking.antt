@@ -1,4 +1,4 @@
--- The source of a text: the lines of a file by their starts, the shipment above and its first parcel, by cases.
+-- The source of a text: the shipment above a line and its first parcel, by cases.
 use Prim.Native.Nat.{ℕ, suc, _+_, _-_, _≤_, _<_}
 use mathlib.Core.Path.{_≡_, sym, ap, _∙_}
 use mathlib.Core.Bool.{Bool, true, false, not}
@@ -10,22 +10,14 @@ use lib.Seq.{drop-cons}
 use borrow.Author.Tests.{le-leb, lt-leb, not-true, not-false}
 use Rattle.text.specs.Choice.{if_then_else_}
 use Rattle.text.specs.Quoted.{bytes}
-use Rattle.text.specs.Scan.{same}
-use Rattle.line.specs.Parts.{split, partAt}
+use Rattle.line.specs.Parts.{split}
 use Rattle.line.specs.Need.{isFilled}
 use Rattle.line.specs.Line.{textAt}
-use Rattle.purpose.specs.Source.{isTyped, isCashLine, shipmentAbove, firstParcel, fromShipment, forFeature, sourceOf}
+use Rattle.line.specs.At.{isTyped}
+use Rattle.purpose.specs.Source.{isCashLine, shipmentAbove, firstParcel, fromShipment, forFeature, sourceOf}
 use Rattle.purpose.specs.declared.source.Source.{Source}
 use Rattle.purpose.specs.declared.source.Source.the-variants.{Field}
 use Rattle.purpose.specs.declared.source.Sourced.the-variants.{From, Nowhere}
-
--- a line's text, and what the code asks of it
-module _ (s : List ℕ) (at n : ℕ) (line : List ℕ) (el : line ≡ textAt s at) (t : Bool) where
-  pub filled-told : t ≡ isFilled (split line) n → t ≡ isFilled (split (textAt s at)) n
-  filled-told e = e ∙ ap (λ (l : List ℕ). isFilled (split l) n) el
-
-  pub part-told : (f name : List ℕ) → f ≡ partAt line n → t ≡ same f name → t ≡ same (partAt (textAt s at) n) name
-  part-told f name ef e = e ∙ ap (λ (x : List ℕ). same x name) (ef ∙ ap (λ (l : List ℕ). partAt l n) el)
 
 -- the loop upward from a line: the shipment above the line i is the one looked for
 module _ (s starts : List ℕ) (i z : ℕ) (left : shipmentAbove s starts i ≡ z) where

@@ -1,3 +1,2 @@
 pub mod Source
 pub mod Purpose
-pub mod Sentence

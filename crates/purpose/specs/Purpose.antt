@@ -12,7 +12,8 @@ use Rattle.refusal.specs.declared.Reason.the-variants.{OutputTooShort, NotThere
 use Rattle.file.specs.File.{judged, listOf}
 use Rattle.file.specs.declared.whole.FileAnswer.{FileAnswer}
 use Rattle.file.specs.declared.whole.FileAnswer.the-variants.{Accepted, Refused}
-use Rattle.purpose.specs.Source.{fieldAt, sourceOf}
+use Rattle.line.specs.At.{fieldAt}
+use Rattle.purpose.specs.Source.{sourceOf}
 use Rattle.purpose.specs.declared.source.Source.{Source}
 use Rattle.purpose.specs.declared.source.Source.the-variants.{Field, Joined}
 use Rattle.purpose.specs.declared.source.Sourced.{Sourced}

@@ -8,25 +8,11 @@ use lib.ListN.{length, drop, getD}
 use Rattle.text.specs.Choice.{if_then_else_}
 use Rattle.text.specs.Quoted.{bytes}
 use Rattle.text.specs.Scan.{same}
-use Rattle.line.specs.Parts.{split, partAt}
-use Rattle.line.specs.Need.{isFilled}
-use Rattle.line.specs.Line.{textAt}
+use Rattle.line.specs.At.{fieldAt, filledAt, isTyped}
 use Rattle.purpose.specs.declared.source.Source.{Source}
 use Rattle.purpose.specs.declared.source.Source.the-variants.{Field, Joined}
 use Rattle.purpose.specs.declared.source.Sourced.{Sourced}
 use Rattle.purpose.specs.declared.source.Sourced.the-variants.{From, Nowhere}
-
--- the part with this number of the line that starts here: the record type for 0, else the field
-abbrev pub fieldAt : List ℕ → ℕ → ℕ → List ℕ
-fieldAt s at n = partAt (textAt s at) n
-
--- "A field of spaces is filled; only zero bytes is empty."
-abbrev pub filledAt : List ℕ → ℕ → ℕ → Bool
-filledAt s at n = isFilled (split (textAt s at)) n
-
--- a line of this record type starts here
-unfoldable pub isTyped : List ℕ → ℕ → List ℕ → Bool
-isTyped s at name = same (fieldAt s at 0) name
 
 -- "a 006 line": a 060 line with this code
 unfoldable pub isCashLine : List ℕ → ℕ → Bool

@@ -7,8 +7,7 @@ ghost use Rattle.text.specs.Placed.{written};
 ghost use Rattle.text.specs.Quoted.{bytes};
 ghost use Rattle.purpose.specs.Purpose.{sourceText, cut};
 use crate::source::Source;
-use line::field_in;
-use line::text_at;
+use line::field_at;
 
 // Writes the text that this source supplies, and answers how many bytes.
 pub fn write_source(s: &[u8], source: Source, out: &mut [u8]) -> usize
@@ -17,11 +16,11 @@ pub fn write_source(s: &[u8], source: Source, out: &mut [u8]) -> usize
         × (now (out .exit) ≡ written (now (out .entry)) 0 (cut (sourceText (now (s .entry)) source))) ⌝ }
 {
     match source {
-        Source::Field { at, number } => write_upto(out, 0, field_in(text_at(s, at), number)),
+        Source::Field { at, number } => write_upto(out, 0, field_at(s, at, number)),
         Source::Joined { parcel, shipment } => write_joined(
             out,
-            field_in(text_at(s, parcel), 1),
-            field_in(text_at(s, shipment), 16),
+            field_at(s, parcel, 1),
+            field_at(s, shipment, 16),
         ),
     }
 }

@@ -3,13 +3,12 @@ ghost use mathlib.Core.Path.{_≡_};
 ghost use Prim.Native.Nat.{_<_, _≤_};
 ghost use lib.ListN.{length, take};
 ghost use Rattle.purpose.specs.Source.{isCashLine, fromShipment, forFeature, sourceOf};
-use crate::lines::first_parcel;
-use crate::lines::is_filled_at;
-use crate::lines::is_typed;
-use crate::lines::offset_of;
-use crate::lines::shipment_above;
-use line::field_in;
-use line::text_at;
+use crate::shipment::first_parcel;
+use crate::shipment::shipment_above;
+use file::offset_of;
+use line::field_at;
+use line::is_filled_at;
+use line::is_typed;
 
 pub enum Source {
     // The field with this number of the line that starts at this offset.
@@ -45,7 +44,7 @@ fn is_cash_line(s: &[u8], at: usize) -> bool
     if !is_typed(s, at, b"060") {
         return false;
     }
-    text::equal(field_in(text_at(s, at), 1), b"006")
+    text::equal(field_at(s, at, 1), b"006")
 }
 
 // The source for a cash line: its own field first, then its shipment's.

@@ -139,3 +139,7 @@ same-eq (x ∷ a) (y ∷ b) e =
 pub same-refl : (a : List ℕ) → same a a ≡ true
 same-refl [] = refl
 same-refl (x ∷ a) = and-both (eqb x x) (same a a) (eq-eqb x x refl) (same-refl a)
+
+-- a run compared is the run that it is known to be
+pub same-as : (a b name : List ℕ) (t : Bool) → a ≡ b → t ≡ same a name → t ≡ same b name
+same-as a b name t e q = q ∙ ap (λ (x : List ℕ). same x name) e

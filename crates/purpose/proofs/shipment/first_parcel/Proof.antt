@@ -1,12 +1,12 @@
--- `lines::first_parcel` meets its contract: the first parcel from the line reached on is the shipment's first.
+-- `shipment::first_parcel` meets its contract: the first parcel from the line reached on is the shipment's first.
 use Prim.Native.Nat.{_≤_, _+_, _-_}
 use mathlib.Core.Path.{_≡_}
 use lib.ListN.{length, drop}
 use Rattle.purpose.specs.Source.{firstParcel}
 use Rattle.purpose.proofs.Seeking.{parcel-here, parcel-on, parcel-none}
 use borrow.Author.Needs.{needs}
-use Rattle.purpose.proofs.lines.first_parcel.Statement.{statement}
-use Rattle.purpose.proofs.lines.first_parcel.Tie as tie
+use Rattle.purpose.proofs.shipment.first_parcel.Statement.{statement}
+use Rattle.purpose.proofs.shipment.first_parcel.Tie as tie
 
 ruleset laws = (needs, parcel-here, parcel-on, parcel-none)
 

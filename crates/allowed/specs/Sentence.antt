@@ -5,8 +5,8 @@ use mathlib.Core.List.{List, [], _∷_, _++_}
 use Rattle.text.specs.Quoted.{bytes}
 use Rattle.fields.specs.declared.record.Record.{Record}
 use Rattle.fields.specs.declared.record.Record.the-variants.{Shipment, Parcel, Feature}
-use Rattle.grammar.specs.Grammar.{fieldNo}
+use Rattle.line.specs.Parts.{fieldNo}
 use Rattle.allowed.specs.Allowed.{FileLine}
 
 -- "the line with a given number", counted from 0, is l
 abbrev pub LineNo : List FileLine → ℕ → FileLine → Type 0

@@ -20,25 +20,25 @@ use Rattle.refusal.specs.declared.Reason.the-variants.{NotThere}
 use Rattle.refusal.specs.Table.{because}
 use Rattle.fields.specs.Record.{typeOf}
 use Rattle.fields.specs.declared.record.Record.the-variants.{Shipment, Parcel, Feature}
-use Rattle.line.specs.Parts.{split, partAt}
+use Rattle.line.specs.Parts.{split, partAt, fieldNo}
 use Rattle.line.specs.Need.{isFilled}
 use Rattle.line.specs.Line.{textAt}
-use Rattle.grammar.specs.Grammar.{fieldNo}
 use Rattle.file.specs.File.{Judged, judged, listOf}
 use Rattle.file.specs.declared.whole.FileAnswer.the-variants.{Accepted}
 use Rattle.allowed.specs.Allowed.{FileLine, AllowedFile, lineStarts, totalsOf}
 use Rattle.allowed.proofs.Files.{allowed-accepted, starts-count}
-use Rattle.purpose.specs.Source.{isTyped, isCashLine, shipmentAbove, firstParcel, fromShipment, inShipment, forFeature, sourceOf}
+use Rattle.line.specs.At.{isTyped}
+use Rattle.purpose.specs.Source.{isCashLine, shipmentAbove, firstParcel, fromShipment, inShipment, forFeature, sourceOf}
 use Rattle.purpose.specs.Purpose.{cut, sourceText, textFrom, onSource, onFile, purposeAnswer, purposeText, listAfter, outputAfter, Purposes}
-use Rattle.purpose.specs.Sentence.{LineNo, CashLine, Belongs, firstFilled, namedText}
+use Rattle.allowed.specs.Sentence.{LineNo, CashLine, Belongs, firstFilled, namedText}
 use Rattle.purpose.specs.declared.source.Source.{Source}
 use Rattle.purpose.specs.declared.source.Source.the-variants.{Field, Joined}
 use Rattle.purpose.specs.declared.source.Sourced.{Sourced}
 use Rattle.purpose.specs.declared.source.Sourced.the-variants.{From, Nowhere}
 use Rattle.purpose.specs.declared.write.PurposeAnswer.{PurposeAnswer}
 use Rattle.purpose.specs.declared.write.PurposeAnswer.the-variants.{Written, Refused}
 use Rattle.purpose.proofs.Seeking.{past-lines, no-cash-line}
-use Rattle.purpose.proofs.Placed.{line-there, line-counted, parts-at, kind-told, is-typed, not-typed}
+use Rattle.allowed.proofs.Placed.{line-there, line-counted, parts-at, kind-told, is-typed, not-typed}
 
 -- the nearest above is the only one between itself and the line
 nearest-found :

@@ -1,11 +1,11 @@
--- `lines::shipment_above` meets its contract: the shipment above the line reached is the one above the line given.
+-- `shipment::shipment_above` meets its contract: the shipment above the line reached is the one above the line given.
 use Prim.Native.Nat.{_≤_}
 use mathlib.Core.Path.{_≡_}
 use Rattle.purpose.specs.Source.{shipmentAbove}
 use Rattle.purpose.proofs.Seeking.{ship-here, ship-up, ship-none}
 use borrow.Author.Needs.{needs}
-use Rattle.purpose.proofs.lines.shipment_above.Statement.{statement}
-use Rattle.purpose.proofs.lines.shipment_above.Tie as tie
+use Rattle.purpose.proofs.shipment.shipment_above.Statement.{statement}
+use Rattle.purpose.proofs.shipment.shipment_above.Tie as tie
 
 ruleset laws = (needs, ship-here, ship-up, ship-none)
 

@@ -18,11 +18,11 @@ use Rattle.line.specs.Parts.{split}
 use Rattle.line.specs.Line.{textAt, alone}
 use Rattle.line.specs.declared.read.Line.{Line}
 use Rattle.grammar.specs.Grammar.{LineOk, Reads}
-use Rattle.grammar.proofs.Texts.{type-tells}
+use Rattle.fields.proofs.Types.{type-tells}
 use Rattle.grammar.proofs.Lines.{read-parts}
 use Rattle.allowed.specs.Allowed.{FileLine, lineBytes, fileBytes, LinesOk, AllowedFile, lineStarts}
-use Rattle.purpose.specs.Source.{isTyped}
-use Rattle.purpose.specs.Sentence.{LineNo}
+use Rattle.line.specs.At.{isTyped}
+use Rattle.allowed.specs.Sentence.{LineNo}
 
 pub line-there : (ls : List FileLine) (i : ℕ) → i < length ls → (l : FileLine) × LineNo ls i l
 line-there [] i h = absurd (omega arith)

@@ -16,12 +16,12 @@ use Rattle.fields.specs.declared.record.Record.the-variants.{Header, Sender, Sh
 use Rattle.fields.specs.declared.record.Due.{Due}
 use Rattle.fields.specs.declared.record.Due.the-variants.{First, After}
 use Rattle.file.specs.File.{listOf}
 use Rattle.allowed.specs.Allowed.{FileLine, InOrder, AllowedFile, lineStarts}
 use Rattle.purpose.specs.Purpose.{cut, Purposes}
-use Rattle.purpose.specs.Sentence.{LineNo, CashLine, Belongs, namedText}
+use Rattle.allowed.specs.Sentence.{LineNo, CashLine, Belongs, namedText}
 use Rattle.purpose.specs.declared.write.PurposeAnswer.{PurposeAnswer}
 use Rattle.purpose.specs.declared.write.PurposeAnswer.the-variants.{Written}
-use Rattle.purpose.proofs.Naming.{purpose-named}
+use Rattle.allowed.proofs.Naming.{purpose-named}
 
 -- a record that stands in a shipment, behind its 030 line
 abbrev inside : Record → Bool

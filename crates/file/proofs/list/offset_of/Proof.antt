@@ -1,0 +1,11 @@
+-- `list::offset_of` meets its contract.
+use Rattle.identcodes.proofs.Finding.{read-past}
+use borrow.Author.Needs.{needs}
+use Rattle.file.proofs.list.offset_of.Statement.{statement}
+use Rattle.file.proofs.list.offset_of.Tie as tie
+
+ruleset laws = (needs, read-past)
+
+pub offset-of-spec : {M : Type 1} → statement M
+offset-of-spec =
+    tie.close (tie.spec (λ c. search laws) (λ c. search laws) (λ c. search laws) (λ c κs. search laws) (λ c. search laws))
