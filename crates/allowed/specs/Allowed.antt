@@ -13,6 +13,7 @@ use Rattle.fields.specs.declared.record.Record.the-variants.{Parcel}
 use Rattle.fields.specs.declared.record.Due.{Due}
 use Rattle.fields.specs.declared.record.Due.the-variants.{First, After}
 use Rattle.fields.specs.Profile.{profile}
+use Rattle.line.specs.Line.{fileLimit}
 use Rattle.grammar.specs.Grammar.{render, LineOk, fieldNo}
 use Rattle.file.specs.Cash.{cashOf}
 use Rattle.file.specs.Step.{parcelsIn}
@@ -63,7 +64,7 @@ NoneTwice (c ∷ cs) = (oneOfCodes c cs ≡ false) × NoneTwice cs
 pub record AllowedFile (s : List ℕ) (ls : List FileLine) : Type 0 where
   pub bytes : s ≡ fileBytes ls
   -- "At most 65,535 bytes."
-  pub small : length s ≤ 65535
+  pub small : length s ≤ fileLimit
   pub lines : LinesOk ls
   pub order : InOrder First ls
   pub codes : NoneTwice (identcodes ls)

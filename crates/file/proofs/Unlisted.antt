@@ -10,6 +10,7 @@ use Rattle.text.specs.Choice.{if_then_else_}
 use Rattle.refusal.specs.declared.Refusal.{Refusal}
 use Rattle.refusal.specs.declared.Refusal.the-variants.{FileTooLong, FileEnds}
 use Rattle.fields.specs.Record.{mayEnd}
+use Rattle.line.specs.Line.{fileLimit}
 use Rattle.file.specs.Step.{stepAnswer}
 use Rattle.file.specs.File.{Judged, begin, ended, onStep, fileFrom, judged}
 use Rattle.file.specs.declared.step.State.{State}
@@ -55,10 +56,10 @@ module _ {why : Refusal} {place : ℕ} where
 
   pub none-listed : (s : List ℕ) (m : ℕ) → judged s m .answer ≡ Refused why place → judged s m .starts ≡ []
   unfolding judged
-  none-listed s m e = go (ltb 65535 (length s)) e
+  none-listed s m e = go (ltb fileLimit (length s)) e
     where
       long : Judged
-      long = record { answer = Refused FileTooLong 65535; starts = [] }
+      long = record { answer = Refused FileTooLong fileLimit; starts = [] }
 
       go : (t : Bool) → (if t then long else fileFrom (length s + 1) s m [] begin) .answer ≡ Refused why place →
           (if t then long else fileFrom (length s + 1) s m [] begin) .starts ≡ []

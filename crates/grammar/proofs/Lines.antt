@@ -23,7 +23,7 @@ use Rattle.fields.specs.declared.record.Due.{Due}
 use Rattle.fields.specs.declared.record.Record.{Record}
 use Rattle.fields.specs.declared.record.Record.the-variants.{Parcel}
 use Rattle.line.specs.Parts.{split, partAt, nameOf, fieldsOf}
-use Rattle.line.specs.Line.{lineEnd, endsWell, textAt, ofText, lineAnswer, alone}
+use Rattle.line.specs.Line.{lineEnd, endsWell, textAt, ofText, lineAnswer, alone, fileLimit}
 use Rattle.line.specs.Told.{Told}
 use Rattle.line.specs.declared.read.Line.{Line}
 use Rattle.line.specs.declared.read.LineAnswer.the-variants.{Accepted, Refused}
@@ -43,13 +43,13 @@ accepted-reads told s at line e =
     let end = lineEnd s at in
     let ending = if not (endsWell s end) then Refused NoLineEnd end else ofText told at text in
     let inside = if ltb (length s) at then Refused NoLineEnd (length s) else ending in
-    let a = came-else (ltb 65535 (length s)) (Refused FileTooLong 65535) inside (Accepted line) refused e in
+    let a = came-else (ltb fileLimit (length s)) (Refused FileTooLong fileLimit) inside (Accepted line) refused e in
     let b = came-else (ltb (length s) at) (Refused NoLineEnd (length s)) ending (Accepted line) refused (a .1) in
     let c = came-else (not (endsWell s end)) (Refused NoLineEnd end) (ofText told at text) (Accepted line) refused (b .1) in
     let d = ended s at (not-false (endsWell s end) (c .0)) in
     let g = accepted-text at text line told (d .text) (c .1) in
     record {
-      small = ltb-false 65535 (length s) (a .0);
+      small = ltb-false fileLimit (length s) (a .0);
       comes = g .comes;
       allowed = g .allowed;
       rest = d .rest;
@@ -115,7 +115,7 @@ module _ {told : Told} {s : List ℕ} {at : ℕ} {line : Line} {fs : List (List 
   reads-accepted =
       let n : at + length (textOf (line .kind) fs) + 2 ≡ line .next = omega (arith, g .next, render-long (line .kind) fs) in
       rw (
-        le-ltb 65535 (length s) (g .small),
+        le-ltb fileLimit (length s) (g .small),
         le-ltb (length s) at read-inside,
         ends-well s at (textOf (line .kind) fs) (g .rest) bytes-of (g .stands),
         read-text,

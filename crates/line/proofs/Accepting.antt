@@ -1,5 +1,5 @@
 -- What an accepted line tells: each test passed, and the answer names the line's own record, count and next start.
-use Prim.Native.Nat.{ℕ, _+_, _-_, _≤_, _<_}
+use Prim.Native.Nat.{ℕ, _+_, _-_, _≤_}
 use mathlib.Core.Path.{_≡_, refl, sym, ap, _∙_}
 use mathlib.Core.Bool.{true, false, not}
 use mathlib.Core.List.{List}
@@ -21,7 +21,7 @@ use Rattle.fields.specs.declared.record.Named.the-variants.{Known, Unknown}
 use Rattle.line.specs.Parts.{split, nameOf, fieldsOf}
 use Rattle.line.specs.Walk.{walk}
 use Rattle.line.specs.Need.{lacks}
-use Rattle.line.specs.Line.{lineEnd, endsWell, textAt, afterWalk, ofKind, ofNamed, ofText, lineAnswer}
+use Rattle.line.specs.Line.{lineEnd, endsWell, textAt, afterWalk, ofKind, ofNamed, ofText, lineAnswer, fileLimit}
 use Rattle.line.specs.declared.walk.Walk.{Walk}
 use Rattle.line.specs.declared.walk.Walk.the-variants.{Fine, Stopped}
 use Rattle.line.specs.declared.read.Line.{Line}
@@ -44,7 +44,7 @@ pub record TextOk (told : Told) (at : ℕ) (line : List ℕ) (l : Line) : Type 0
 
 -- where it lies in the file
 pub record LineAt (told : Told) (s : List ℕ) (at : ℕ) (l : Line) : Type 0 where
-  pub short : length s ≤ 65535
+  pub short : length s ≤ fileLimit
   pub inside : at ≤ length s
   pub well : endsWell s (lineEnd s at) ≡ true
   pub text : TextOk told at (textAt s at) l
@@ -96,12 +96,12 @@ line-ok told s at l e =
     let text = ofText told at (textAt s at) in
     let well = endsWell s (lineEnd s at) in
     let end = if not well then Refused NoLineEnd (lineEnd s at) else text in
-    let a = came-else (ltb 65535 (length s)) (Refused FileTooLong 65535) (if ltb (length s) at then Refused NoLineEnd (length s) else end)
+    let a = came-else (ltb fileLimit (length s)) (Refused FileTooLong fileLimit) (if ltb (length s) at then Refused NoLineEnd (length s) else end)
     (Accepted l) refused e in
     let b = came-else (ltb (length s) at) (Refused NoLineEnd (length s)) end (Accepted l) refused (a .1) in
     let c = came-else (not well) (Refused NoLineEnd (lineEnd s at)) text (Accepted l) refused (b .1) in
     record {
-      short = ltb-false 65535 (length s) (a .0);
+      short = ltb-false fileLimit (length s) (a .0);
       inside = ltb-false (length s) at (b .0);
       well = not-false well (c .0);
       text = text-ok told at (textAt s at) l (c .1);
@@ -144,7 +144,7 @@ module _ (told : Told) (s : List ℕ) (at : ℕ) (a : LineAnswer) (ea : a ≡ li
   pub next-after : at + 2 ≤ l .next
   next-after = omega (arith, next-is told s at l lies, end-after told s at l lies)
 
-  pub text-small : at + length (take (l .next - 2 - at) (drop at s)) < 65536
+  pub text-small : at + length (take (l .next - 2 - at) (drop at s)) ≤ fileLimit
   text-small = omega (arith, length-take (l .next - 2 - at) (drop at s), length-drop at s, text-starts, text-inside, lies .short)
 
   pub text-is : take (l .next - 2 - at) (drop at s) ≡ textAt s at

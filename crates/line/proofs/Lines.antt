@@ -20,7 +20,7 @@ use Rattle.fields.specs.declared.record.Named.the-variants.{Known, Unknown}
 use Rattle.line.specs.Parts.{semicolon, split, nameOf, fieldsOf}
 use Rattle.line.specs.Walk.{walk}
 use Rattle.line.specs.Need.{lacks}
-use Rattle.line.specs.Line.{lineEnd, endsWell, textAt, afterWalk, ofKind, ofNamed, ofText, lineAnswer}
+use Rattle.line.specs.Line.{lineEnd, endsWell, textAt, afterWalk, ofKind, ofNamed, ofText, lineAnswer, fileLimit}
 use Rattle.line.specs.declared.walk.Walk.{Walk}
 use Rattle.line.specs.declared.walk.Walk.the-variants.{Fine, Stopped}
 use Rattle.line.specs.Told.{Told}
@@ -91,20 +91,20 @@ module _ (told : Told) (at : ℕ) (line name : List ℕ) (en : name ≡ nameOf l
 
 -- the file's length, the offset, the line's end
 module _ (told : Told) (s : List ℕ) (at : ℕ) where
-  pub file-long : 65535 < length s → lineAnswer told s at ≡ Refused FileTooLong 65535
+  pub file-long : fileLimit < length s → lineAnswer told s at ≡ Refused FileTooLong fileLimit
   unfolding lineAnswer
-  file-long h = simp (lt-ltb 65535 (length s))
+  file-long h = simp (lt-ltb fileLimit (length s))
 
-  module _ (h : length s ≤ 65535) where
+  module _ (h : length s ≤ fileLimit) where
     pub past-file : length s < at → lineAnswer told s at ≡ Refused NoLineEnd (length s)
     unfolding lineAnswer
-    past-file l = simp (le-ltb 65535 (length s), lt-ltb (length s) at)
+    past-file l = simp (le-ltb fileLimit (length s), lt-ltb (length s) at)
 
     module _ (l : at ≤ length s) (end : ℕ) (ee : end ≡ lineEnd s at) (t : Bool) (et : t ≡ endsWell s end) where
       pub no-end : not t ≡ true → Refused NoLineEnd end ≡ lineAnswer told s at
       unfolding lineAnswer
-      no-end e = simp (le-ltb 65535 (length s), le-ltb (length s) at, ← ee, ← et, e)
+      no-end e = simp (le-ltb fileLimit (length s), le-ltb (length s) at, ← ee, ← et, e)
 
       pub line-ends : not t ≡ false → (a : LineAnswer) → a ≡ ofText told at (take (end - at) (drop at s)) → a ≡ lineAnswer told s at
       unfolding lineAnswer
-      line-ends e a ea = simp (le-ltb 65535 (length s), le-ltb (length s) at, ← ee, ← et, e) ea
+      line-ends e a ea = simp (le-ltb fileLimit (length s), le-ltb (length s) at, ← ee, ← et, e) ea

@@ -62,10 +62,14 @@ ofText told at line = ofNamed (named (nameOf line)) told at line
 abbrev pub alone : Rules → Told
 alone rules = record { rules = rules; due = Any }
 
+-- "At most 65,535 bytes."
+abbrev pub fileLimit : ℕ
+fileLimit = 65535
+
 -- 1, then 2
 unfoldable pub lineAnswer : Told → List ℕ → ℕ → LineAnswer
 lineAnswer told s at =
-    if ltb 65535 (length s) then Refused FileTooLong 65535
+    if ltb fileLimit (length s) then Refused FileTooLong fileLimit
     else if ltb (length s) at then Refused NoLineEnd (length s)
     else if not (endsWell s (lineEnd s at)) then Refused NoLineEnd (lineEnd s at)
     else ofText told at (textAt s at)

@@ -11,6 +11,7 @@ pub use find::find_field;
 pub use need::is_filled;
 pub use need::lacks_field;
 pub use part::field_in;
+pub use read::FILE_LIMIT;
 pub use read::Line;
 pub use read::LineAnswer;
 pub use read::judge_line;
