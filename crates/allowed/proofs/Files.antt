@@ -24,6 +24,7 @@ use Rattle.allowed.specs.Allowed.{FileLine, lineBytes, fileBytes, LinesO
 use Rattle.allowed.specs.Allowed.{AllowedFile, parcelCount, cashTotal, totalsOf, lineStarts}
 use Rattle.allowed.proofs.Twice.{none-more, fresh-before}
 use Rattle.allowed.proofs.Runs.{AllowedFrom, judgedWith, ran, runs}
+use Rattle.line.specs.Line.{fileLimit}
 
 -- the lines that are left, asked of each as it comes or of all of them
 record Whole (left : List ℕ) (codes : List (List ℕ)) (due : Due) (ls : List FileLine) : Type 0 where
@@ -88,10 +89,10 @@ module _ (s : List ℕ) (words : ℕ) (totals : Totals) (starts : List ℕ) wher
   pub accepted-allowed : judged s words ≡ record { answer = Accepted totals; starts = starts } → Accepts s words totals starts
   unfolding judged
   accepted-allowed e =
-      let a = came-else (ltb 65535 (length s)) (record { answer = Refused (because FileTooLong 65535); starts = [] })
+      let a = came-else (ltb fileLimit (length s)) (record { answer = Refused (because FileTooLong fileLimit); starts = [] })
       (fileFrom (length s + 1) s words [] begin) (record { answer = Accepted totals; starts = starts })
       (λ q. (no-pass fileVerdict refl refl) (ap (λ (j : Judged). j .answer) q)) e in
-      let small = ltb-false 65535 (length s) (a .0) in
+      let small = ltb-false fileLimit (length s) (a .0) in
       let r = ran s words small totals starts (length s + 1) [] [] begin (omega arith) (omega arith) (omega arith) (λ at. refl) (a .1) in
       let w = whole (r .lines) s [] First tt (r .allowed) in
       let same = r .same ∙ from-begin (r .lines) in
@@ -108,7 +109,7 @@ module _ (s : List ℕ) (words : ℕ) (totals : Totals) (starts : List ℕ) wher
   allowed-accepted g =
       let ls = g .lines in
       let a = g .allowed in
-      rw (le-ltb 65535 (length s) (a .small))
+      rw (le-ltb fileLimit (length s) (a .small))
       (runs s words (a .small) ls (length s + 1) [] [] begin (omega (arith, few-lines ls, ap length (a .bytes))) (omega arith)
       (omega (arith, g .room)) (λ at. refl)
       (each ls s [] First (record { bytes = a .bytes; lines = a .lines; order = a .order; none = a .codes }))

@@ -15,7 +15,7 @@ use Rattle.fields.specs.Record.{typeOf, mayCome}
 use Rattle.fields.specs.declared.record.Record.{Record}
 use Rattle.fields.specs.Profile.{profile}
 use Rattle.line.specs.Parts.{split}
-use Rattle.line.specs.Line.{textAt, alone}
+use Rattle.line.specs.Line.{textAt, alone, fileLimit}
 use Rattle.line.specs.declared.read.Line.{Line}
 use Rattle.grammar.specs.Grammar.{LineOk, Reads}
 use Rattle.fields.proofs.Types.{type-tells}
@@ -34,7 +34,7 @@ line-counted [] i l h = absurd h
 line-counted (k ∷ ls) zero l h = omega arith
 line-counted (k ∷ ls) (suc i) l h = omega (arith, line-counted ls i l h)
 
-module _ (s : List ℕ) (small : length s ≤ 65535) where
+module _ (s : List ℕ) (small : length s ≤ fileLimit) where
   first-parts : (at : ℕ) (l : FileLine) (rest : List ℕ) → LineOk profile (l .kind) (l .fields) → drop at s ≡ lineBytes l ++ rest →
       split (textAt s at) ≡ typeOf (l .kind) ∷ l .fields
   unfolding mayCome

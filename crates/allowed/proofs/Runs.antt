@@ -9,7 +9,7 @@ use native.Mathlib.Omega.{arith}
 use lib.Dec.{ltb}
 use lib.ListN.{length, drop, length-drop, drop-of-length-le}
 use lib.Seq.{append-snoc}
-use borrow.Author.Tests.{ltb-false, lt-ltb, le-ltb, lt-leb}
+use borrow.Author.Tests.{ltb-false, lt-ltb, le-ltb}
 use Rattle.text.proofs.Choices.{came-then, true-or-false}
 use Rattle.refusal.specs.declared.Reason.the-variants.{FileEnds}
 use Rattle.refusal.specs.Table.{because}
@@ -20,7 +20,7 @@ use Rattle.fields.specs.declared.record.Due.{Due}
 use Rattle.fields.specs.declared.record.Due.the-variants.{After}
 use Rattle.fields.specs.Profile.{profile}
 use Rattle.line.specs.Parts.{fieldsOf}
-use Rattle.line.specs.Line.{textAt}
+use Rattle.line.specs.Line.{textAt, fileLimit}
 use Rattle.line.specs.declared.read.Line.{Line}
 use Rattle.grammar.specs.Grammar.{LineOk, Reads}
 use Rattle.grammar.proofs.Lines.{accepted-reads, reads-accepted, next-inside, next-far, rest-is, read-parts}
@@ -32,6 +32,7 @@ use Rattle.file.specs.declared.step.Step.{Step}
 use Rattle.file.specs.declared.step.Step.the-variants.{Next, Stopped}
 use Rattle.file.specs.declared.whole.Totals.{Totals}
 use Rattle.file.specs.declared.whole.FileAnswer.the-variants.{Accepted, Refused}
+use Rattle.file.proofs.Lists.{word-left, left-word}
 use Rattle.file.proofs.Stepping.{went}
 use Rattle.allowed.specs.Allowed.{FileLine, lineBytes, codeOf, parcelCount, cashTotal, lineStarts}
 use Rattle.allowed.proofs.Codes.{Seen, seen-more, Fresh, fresh-not, not-fresh}
@@ -91,7 +92,7 @@ pub record Ran (s : List ℕ) (m : ℕ) (starts : List ℕ) (codes : List (List 
   pub room : state .lines + length lines ≤ m
   pub same : said ≡ judgedWith starts state lines
 
-module _ (s : List ℕ) (m : ℕ) (small : length s ≤ 65535) (totals : Totals) (list : List ℕ) where
+module _ (s : List ℕ) (m : ℕ) (small : length s ≤ fileLimit) (totals : Totals) (list : List ℕ) where
   abbrev pub result : Judged
   result = record { answer = Accepted totals; starts = list }
 
@@ -129,7 +130,7 @@ module _ (s : List ℕ) (m : ℕ) (small : length s ≤ 65535) (totals : Totals)
       let g = accepted-reads (toldBy state) s (state .at) line (w .accepted) in
       let codes′ = codes ++ codeOf (line .kind) fs in
       let r = more (starts ++ (state .at ∷ [])) codes′ (behind s state line) (omega (arith, next-far g)) (next-inside g)
-      (omega (arith, w .room)) (seen-more s starts codes (state .at) (line .kind) fs (g .rest) seen (g .stands) (g .allowed)) (rw
+      (omega (arith, word-left m (state .lines) (w .room))) (seen-more s starts codes (state .at) (line .kind) fs (g .rest) seen (g .stands) (g .allowed)) (rw
       (← w .there) at e) in
       record {
         lines = record { kind = line .kind; fields = fs } ∷ r .lines;
@@ -157,7 +158,7 @@ module _ (s : List ℕ) (m : ℕ) (small : length s ≤ 65535) (totals : Totals)
       (true-or-false (ltb (state .at) (length s)))
 
 -- what is allowed is accepted
-module _ (s : List ℕ) (m : ℕ) (small : length s ≤ 65535) where
+module _ (s : List ℕ) (m : ℕ) (small : length s ≤ fileLimit) where
   end-there : (turns : ℕ) (starts : List ℕ) (state : State) → length s ≤ state .at → mayEnd (state .due) ≡ true →
       fileFrom turns s m starts state ≡ judgedWith starts state []
   end-there zero starts state h e = rw e (judged-none starts state)
@@ -172,7 +173,7 @@ module _ (s : List ℕ) (m : ℕ) (small : length s ≤ 65535) where
       rw (
         reads-accepted g,
         not-fresh s starts codes (state .at) fs (g .rest) seen (line .kind) (g .stands) (g .allowed) fresh,
-        lt-leb m (state .lines) room,
+        left-word m (state .lines) room,
       )
 
   pub runs : (ls : List FileLine) (turns : ℕ) (starts : List ℕ) (codes : List (List ℕ)) (state : State) → length ls ≤ turns →

@@ -19,6 +19,7 @@ use Rattle.grammar.specs.Grammar.{LineOk}
 use Rattle.file.specs.Cash.{cashOf}
 use Rattle.file.specs.Step.{parcelsIn}
 use Rattle.file.specs.declared.whole.Totals.{Totals}
+use Rattle.line.specs.Line.{fileLimit}
 
 -- a line of a file: its record and its fields
 pub record FileLine : Type 0 where
@@ -65,7 +66,7 @@ NoneTwice (c ∷ cs) = (oneOfCodes c cs ≡ false) × NoneTwice cs
 pub record AllowedFile (s : List ℕ) (ls : List FileLine) : Type 0 where
   pub bytes : s ≡ fileBytes ls
   -- "At most 65,535 bytes."
-  pub small : length s ≤ 65535
+  pub small : length s ≤ fileLimit
   pub lines : LinesOk ls
   pub order : InOrder First ls
   pub codes : NoneTwice (identcodes ls)

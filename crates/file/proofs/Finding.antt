@@ -1,5 +1,5 @@
 -- What the tree of identcodes answers of a line, as the code meets it.
-use Prim.Native.Nat.{ℕ, _<_, _≤_}
+use Prim.Native.Nat.{ℕ, _≤_}
 use mathlib.Core.Path.{_≡_, sym, _∙_}
 use mathlib.Core.Bool.{Bool, true, false}
 use mathlib.Core.List.{List}
@@ -10,12 +10,13 @@ use Rattle.identcodes.specs.declared.CodeAnswer.{CodeAnswer}
 use Rattle.identcodes.specs.declared.CodeAnswer.the-variants.{Known, New, NoRoom}
 use Rattle.identcodes.specs.Tree.{isThere, grown, hasRoom, codeAnswer, treeAfter}
 use Rattle.identcodes.proofs.Answers.{room-there, known-there, new-there, room-grows, room-answers}
+use Rattle.line.specs.Line.{fileLimit}
 use Rattle.file.specs.Identcode.{isThereFor, grownFor}
 
 -- a file's tree has room for every parcel
-module _ (s codes : List ℕ) (parcels at : ℕ) (long : 4681 ≤ length codes) (few : parcels ≤ 2340) (small : at < 65536) where
+module _ (s codes : List ℕ) (parcels at : ℕ) (long : 4681 ≤ length codes) (few : parcels ≤ 2340) (small : at ≤ fileLimit) where
   room : hasRoom codes parcels at ≡ true
-  room = room-there codes parcels at (omega arith) (omega arith) small
+  room = room-there codes parcels at (omega arith) (omega arith) (omega arith)
 
   module _ (answer : CodeAnswer) (ea : answer ≡ codeAnswer s codes parcels at) where
     pub is-there : answer ≡ Known → true ≡ isThere s codes parcels at

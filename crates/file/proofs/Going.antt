@@ -4,7 +4,7 @@ use mathlib.Core.Path.{_≡_, refl, sym, ap, _∙_}
 use mathlib.Core.Bool.{Bool, true, false, not}
 use mathlib.Core.List.{List, [], _∷_, _++_}
 use native.Mathlib.Omega.{arith}
-use lib.ListN.{length, take, drop, set, replicate, length-set}
+use lib.ListN.{length, drop, set, replicate, length-set}
 use borrow.Author.Tests.{lt-ltb, le-ltb, not-true, not-false}
 use Rattle.refusal.specs.declared.Reason.the-variants.{FileTooLong, FileEnds}
 use Rattle.refusal.specs.Table.{because}
@@ -12,11 +12,11 @@ use Rattle.refusal.specs.declared.Refusal.{Refusal}
 use Rattle.fields.specs.Record.{mayEnd}
 use Rattle.fields.specs.declared.record.Record.{Record}
 use Rattle.fields.specs.declared.record.Record.the-variants.{Header, Sender, Shipment, Parcel, Product, Feature}
-use Rattle.line.specs.Line.{lineAnswer, textAt}
+use Rattle.line.specs.Line.{lineAnswer, textAt, fileLimit}
 use Rattle.line.specs.Parts.{split}
 use Rattle.line.proofs.Accepting.{next-after}
 use Rattle.fields.proofs.Rules.{sound}
-use Rattle.file.specs.Step.{toldBy, parcelsIn, behind, stepAnswer}
+use Rattle.file.specs.Step.{toldBy, parcelsIn, behind, listedSoFar, stepAnswer}
 use Rattle.file.specs.File.{Judged, begin, ended, onStep, fileFrom, judged, listOf, handed}
 use Rattle.file.specs.declared.step.State.{State}
 use Rattle.file.specs.declared.step.Step.{Step}
@@ -28,10 +28,10 @@ use Rattle.file.proofs.Cashing.{cash-below}
 use Rattle.file.proofs.Codes.{accepted-far}
 use Rattle.file.proofs.Sowing.{sown-none}
 use Rattle.file.proofs.Stepping.{Went, went}
-use Rattle.file.proofs.Lists.{fill-front, fill-back, list-whole}
+use Rattle.file.proofs.Lists.{word-left, listed-none, listed-more, unlisted-more, list-whole}
 
 pub record Going (s : List ℕ) (m : ℕ) (words codes : List ℕ) (state : State) : Type 0 where
-  pub small : length s ≤ 65535
+  pub small : length s ≤ fileLimit
   pub long : length words ≡ m
   pub lines : state .lines ≤ state .at
   pub room : state .lines ≤ m
@@ -41,10 +41,10 @@ pub record Going (s : List ℕ) (m : ℕ) (words codes : List ℕ) (state : Stat
   -- each parcel took at least 28 bytes
   pub far : 28 * state .parcels ≤ state .at
   -- the tree has the identcodes of the lines so far
-  pub sown : Sown s (take (state .lines) words) (state .parcels) codes
-  pub going : fileFrom (length s + 1 - state .lines) s m (take (state .lines) words) state ≡ judged s m
+  pub sown : Sown s (listedSoFar (state .lines) words) (state .parcels) codes
+  pub going : fileFrom (length s + 1 - state .lines) s m (listedSoFar (state .lines) words) state ≡ judged s m
 
-pub going-none : (s words codes : List ℕ) → length s ≤ 65535 → words ≡ replicate (length words) 0 →
+pub going-none : (s words codes : List ℕ) → length s ≤ fileLimit → words ≡ replicate (length words) 0 →
     Going s (length words) words codes begin
 unfolding judged
 going-none s words codes h e =
@@ -57,8 +57,9 @@ going-none s words codes h e =
       cents = omega arith;
       cleared = e ∙ ap (λ (k : ℕ). replicate k 0) less;
       far = omega arith;
-      sown = sown-none s codes;
-      going = ap (λ (n : ℕ). fileFrom n s (length words) [] begin) whole ∙ sym (rw (le-ltb 65535 (length s) h));
+      sown = rw (listed-none words) (sown-none s codes);
+      going = ap (λ (l : List ℕ). fileFrom (length s + 1 - 0) s (length words) l begin) (listed-none words)
+          ∙ ap (λ (n : ℕ). fileFrom n s (length words) [] begin) whole ∙ sym (rw (le-ltb fileLimit (length s) h));
     }
   where
     less : length words ≡ length words - 0
@@ -80,12 +81,12 @@ no-lines : (s : List ℕ) (m : ℕ) (words : List ℕ) → length words ≡ m �
     replicate (length words) 0 ≡ listOf m (j .starts)
 no-lines s m words long j e = let k : length words ≡ m - 0 = omega arith in ap (λ (n : ℕ). replicate n 0) k ∙ sym (ap (listOf m) e)
 
-module _ (s : List ℕ) (m : ℕ) (h : 65535 < length s) where
-  long-is : judged s m ≡ record { answer = Refused (because FileTooLong 65535); starts = [] }
+module _ (s : List ℕ) (m : ℕ) (h : fileLimit < length s) where
+  long-is : judged s m ≡ record { answer = Refused (because FileTooLong fileLimit); starts = [] }
   unfolding judged
-  long-is = rw (lt-ltb 65535 (length s) h)
+  long-is = rw (lt-ltb fileLimit (length s) h)
 
-  pub long-answer : Refused (because FileTooLong 65535) ≡ judged s m .answer
+  pub long-answer : Refused (because FileTooLong fileLimit) ≡ judged s m .answer
   long-answer = sym (ap (λ (j : Judged). j .answer) long-is)
 
   pub long-list : (words : List ℕ) → length words ≡ m → (list : List ℕ) → list ≡ replicate (length words) 0 →
@@ -98,22 +99,22 @@ module _ (s : List ℕ) (m : ℕ) (words codes : List ℕ) (state : State) (g : 
   few-parcels h = omega (arith, g .small, g .far)
 
   -- the turn that is due
-  turn : state .at < length s → onStep (stepAnswer s m (take (state .lines) words) state)
-      (λ next. fileFrom (length s - state .lines) s m (take (state .lines) words ++ (state .at ∷ [])) next) ≡ judged s m
+  turn : state .at < length s → onStep (stepAnswer s m (listedSoFar (state .lines) words) state)
+      (λ next. fileFrom (length s - state .lines) s m (listedSoFar (state .lines) words ++ (state .at ∷ [])) next) ≡ judged s m
   turn h =
       let k : length s + 1 - state .lines ≡ suc (length s - state .lines) = omega (arith, g .lines) in
-      sym (ap (λ (n : ℕ). fileFrom n s m (take (state .lines) words) state) k ∙ rw (lt-ltb (state .at) (length s) h)) ∙ g .going
+      sym (ap (λ (n : ℕ). fileFrom n s m (listedSoFar (state .lines) words) state) k ∙ rw (lt-ltb (state .at) (length s) h)) ∙ g .going
 
-  module _ (step : Step) (h : state .at < length s) (el : step ≡ stepAnswer s (length words) (take (state .lines) words) state) where
-    es : step ≡ stepAnswer s m (take (state .lines) words) state
-    es = el ∙ ap (λ (n : ℕ). stepAnswer s n (take (state .lines) words) state) (g .long)
+  module _ (step : Step) (h : state .at < length s) (el : step ≡ stepAnswer s (length words) (listedSoFar (state .lines) words) state) where
+    es : step ≡ stepAnswer s m (listedSoFar (state .lines) words) state
+    es = el ∙ ap (λ (n : ℕ). stepAnswer s n (listedSoFar (state .lines) words) state) (g .long)
 
     -- a step that goes on has a word for its line, and comes nearer to the end
-    over : (next : State) → step ≡ Next next → Went s m (take (state .lines) words) state next
-    over next e = went s m (take (state .lines) words) state next (sym es ∙ e)
+    over : (next : State) → step ≡ Next next → Went s m (listedSoFar (state .lines) words) state next
+    over next e = went s m (listedSoFar (state .lines) words) state next (sym es ∙ e)
 
     pub word-there : (next : State) → step ≡ Next next → state .lines < length words
-    word-there next e = omega (arith, over next e .room, g .long)
+    word-there next e = omega (arith, word-left m (state .lines) (over next e .room), g .long)
 
     pub less-left : (next : State) → step ≡ Next next → length s - next .at < length s - state .at
     less-left next e =
@@ -122,7 +123,7 @@ module _ (s : List ℕ) (m : ℕ) (words codes : List ℕ) (state : State) (g : 
         omega (arith, after, ap (λ (n : State). n .at) (w .there))
 
     pub going-more : (next : State) → step ≡ Next next → (after : List ℕ) →
-        ((n : State) → step ≡ Next n → Sown s (take (state .lines) words ++ (state .at ∷ [])) (n .parcels) after) →
+        ((n : State) → step ≡ Next n → Sown s (listedSoFar (state .lines) words ++ (state .at ∷ [])) (n .parcels) after) →
         Going s m (set words (state .lines) (state .at)) after next
     going-more next e after sown =
         let w = over next e in
@@ -131,21 +132,21 @@ module _ (s : List ℕ) (m : ℕ) (words codes : List ℕ) (state : State) (g : 
         let behind-it = next-after (toldBy state) s (state .at) (lineAnswer (toldBy state) s (state .at)) refl line (w .accepted) in
         let far = accepted-far (toldBy state) s (state .at) (lineAnswer (toldBy state) s (state .at)) refl line (w .accepted) sound in
         let fewer : length s + 1 - (state .lines + 1) ≡ length s - state .lines = omega arith in
-        let on : fileFrom (length s - state .lines) s m (take (state .lines) words ++ (state .at ∷ [])) now ≡ judged s m =
+        let on : fileFrom (length s - state .lines) s m (listedSoFar (state .lines) words ++ (state .at ∷ [])) now ≡ judged s m =
         rw (sym es ∙ e, ← w .there) at (turn h) in
-        let list = fill-front words (state .lines) m (state .at) (g .long) (w .room) (g .cleared) in
+        let list = listed-more words (state .lines) m (state .at) (g .long) (w .room) (g .cleared) in
         let more : Going s m (set words (state .lines) (state .at)) after now =
         record {
           small = g .small;
           long = length-set words (state .lines) (state .at) ∙ g .long;
           lines = omega (arith, g .lines, behind-it);
-          room = omega (arith, w .room);
+          room = omega (arith, word-left m (state .lines) (w .room));
           parcels = omega (arith, g .parcels, parcels-le (line .kind));
           cents = omega (arith, g .cents, cash-below (line .kind) (split (textAt s (state .at))));
-          cleared = fill-back words (state .lines) m (state .at) (g .long) (w .room) (g .cleared);
+          cleared = unlisted-more words (state .lines) m (state .at) (g .long) (w .room) (g .cleared);
           far = omega (arith, g .far, far);
           sown = rw list (sown now (e ∙ ap Next (sym (w .there))));
-          going = ap (λ (n : ℕ). fileFrom n s m (take (state .lines + 1) (set words (state .lines) (state .at))) now) fewer
+          going = ap (λ (n : ℕ). fileFrom n s m (listedSoFar (state .lines + 1) (set words (state .lines) (state .at))) now) fewer
               ∙ ap (λ (l : List ℕ). fileFrom (length s - state .lines) s m l now)
               list
               ∙ on;
@@ -164,11 +165,11 @@ module _ (s : List ℕ) (m : ℕ) (words codes : List ℕ) (state : State) (g : 
       stop-list list el = el ∙ no-lines s m words (g .long) (judged s m) (ap (λ (j : Judged). j .starts) (going-stops refusal e))
 
   module _ (h : length s ≤ state .at) where
-    file-ends : (turns : ℕ) → fileFrom turns s m (take (state .lines) words) state ≡ ended s (take (state .lines) words) state
+    file-ends : (turns : ℕ) → fileFrom turns s m (listedSoFar (state .lines) words) state ≡ ended s (listedSoFar (state .lines) words) state
     file-ends zero = refl
     file-ends (suc turns) = rw (le-ltb (state .at) (length s) h)
 
-    at-end : judged s m ≡ ended s (take (state .lines) words) state
+    at-end : judged s m ≡ ended s (listedSoFar (state .lines) words) state
     at-end = sym (g .going) ∙ file-ends (length s + 1 - state .lines)
 
     module _ (t : Bool) (et : t ≡ mayEnd (state .due)) where
@@ -184,7 +185,7 @@ module _ (s : List ℕ) (m : ℕ) (words codes : List ℕ) (state : State) (g : 
       all-read : not t ≡ false → judged s m ≡ record {
         answer = Accepted
             (record { lines = state .lines; parcels = state .parcels; cents = state .cents });
-        starts = take (state .lines) words;
+        starts = listedSoFar (state .lines) words;
       }
       all-read e = at-end ∙ rw (← et, not-false t e)
 

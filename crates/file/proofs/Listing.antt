@@ -19,7 +19,9 @@ use Rattle.file.specs.declared.step.Step.{Step}
 use Rattle.file.specs.declared.step.Step.the-variants.{Next, Stopped}
 use Rattle.file.specs.declared.whole.Totals.{Totals}
 use Rattle.file.specs.declared.whole.FileAnswer.the-variants.{Accepted, Refused}
+use Rattle.file.proofs.Lists.{word-left}
 use Rattle.file.proofs.Stepping.{went}
+use Rattle.line.specs.Line.{fileLimit}
 
 -- of a judgement with a list of so many words
 record Listed (words : ℕ) (j : Judged) : Type 0 where
@@ -68,13 +70,13 @@ module _ (words : ℕ) where
       go (Next next) e on =
           let w = went s words starts state next e in
           let n : state .lines + 1 ≡ next .lines = ap (λ (x : State). x .lines) (w .there) in
-          on next (length-append starts (state .at ∷ []) ∙ omega (arith, long, n)) (omega (arith, n, w .room))
+          on next (length-append starts (state .at ∷ []) ∙ omega (arith, long, n)) (omega (arith, n, word-left words (state .lines) (w .room)))
 
   whole : (s : List ℕ) → Listed words (judged s words)
   unfolding judged
   whole s =
-      either (ltb 65535 (length s)) (record { answer = Refused (because FileTooLong 65535); starts = [] })
-      (fileFrom (length s + 1) s words [] begin) (refused (because FileTooLong 65535)) (from (length s + 1) s [] begin refl (omega arith))
+      either (ltb fileLimit (length s)) (record { answer = Refused (because FileTooLong fileLimit); starts = [] })
+      (fileFrom (length s + 1) s words [] begin) (refused (because FileTooLong fileLimit)) (from (length s + 1) s [] begin refl (omega arith))
 
 module _ (s : List ℕ) (words : ℕ) where
   pub none-listed : {refusal : Refusal} → judged s words .answer ≡ Refused refusal → judged s words .starts ≡ []

@@ -1,5 +1,5 @@
 -- The tree of identcodes on its way through a file: it tells what stands on earlier lines, and one line more.
-use Prim.Native.Nat.{ℕ, _+_, _-_, _<_, _≤_}
+use Prim.Native.Nat.{ℕ, _+_, _-_, _≤_}
 use mathlib.Core.Path.{_≡_, refl, sym, ap, _∙_}
 use mathlib.Core.Bool.{Bool, true, false, _||_, or-false, or-assoc}
 use mathlib.Core.List.{List, [], _∷_, _++_}
@@ -14,6 +14,7 @@ use Rattle.identcodes.proofs.Answers.{room-there}
 use Rattle.fields.specs.Record.{typeOf}
 use Rattle.fields.specs.declared.record.Record.{Record}
 use Rattle.fields.specs.declared.record.Record.the-variants.{Header, Sender, Shipment, Parcel, Product, Feature}
+use Rattle.line.specs.Line.{fileLimit}
 use Rattle.file.specs.Identcode.{sameParcel, onEarlier, repeats, isThereFor, grownFor, Sown}
 use Rattle.file.specs.Step.{parcelsIn}
 
@@ -48,10 +49,10 @@ module _ (s starts : List ℕ) (parcels : ℕ) (tree : List ℕ) (g : Sown s sta
             ∙ or-false (onEarlier s starts z) ∙ g .tells z dz;
       })
 
-  parcel-sown : 4681 ≤ length tree → parcels ≤ 2340 → at < 65536 → identcode (identcodeAt s at) ≡ true → take 3 (drop at s) ≡ typeOf Parcel → isThere s tree parcels at ≡ false →
+  parcel-sown : 4681 ≤ length tree → parcels ≤ 2340 → at ≤ fileLimit → identcode (identcodeAt s at) ≡ true → take 3 (drop at s) ≡ typeOf Parcel → isThere s tree parcels at ≡ false →
       Sown s (starts ++ (at ∷ [])) (parcels + 1) (grown s tree parcels at)
   parcel-sown long few small d type e =
-      let room = room-there tree parcels at (omega arith) (omega arith) small in
+      let room = room-there tree parcels at (omega arith) (omega arith) (omega arith) in
       let more = one-more s parcels tree at (g .whole) room d e in
       record {
         whole = more .whole;
@@ -59,7 +60,7 @@ module _ (s starts : List ℕ) (parcels : ℕ) (tree : List ℕ) (g : Sown s sta
             ∙ ap (λ (t : Bool). isThere s tree parcels z || t) (parcel-code s at z Parcel type refl) ∙ sym (more .tells z dz);
       }
 
-  pub sown-line : (kind : Record) → 4681 ≤ length tree → parcels ≤ 2340 → at < 65536 → (kind ≡ Parcel → identcode (identcodeAt s at) ≡ true) → take 3 (drop at s) ≡ typeOf kind →
+  pub sown-line : (kind : Record) → 4681 ≤ length tree → parcels ≤ 2340 → at ≤ fileLimit → (kind ≡ Parcel → identcode (identcodeAt s at) ≡ true) → take 3 (drop at s) ≡ typeOf kind →
       isThereFor kind s tree parcels at ≡ false → Sown s (starts ++ (at ∷ [])) (parcels + parcelsIn kind) (grownFor kind s tree parcels at)
   unfolding isThereFor grownFor
   sown-line Header long few small d type e = other-sown Header type refl

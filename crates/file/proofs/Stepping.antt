@@ -1,12 +1,11 @@
 -- One line behind the lines before it, by cases, and what a step that goes on tells.
-use Prim.Native.Nat.{ℕ, _+_, _-_, _≤_, _<_}
+use Prim.Native.Nat.{ℕ, _+_, _-_, _≤_}
 use mathlib.Core.Path.{_≡_, refl, sym, ap, _∙_}
-use mathlib.Core.Bool.{Bool, true, false}
+use mathlib.Core.Bool.{Bool, true, false, not}
 use mathlib.Core.List.{List, [], _∷_, _++_}
 use native.Mathlib.Omega.{arith}
-use lib.Dec.{leb}
 use lib.ListN.{length, take, drop}
-use borrow.Author.Tests.{le-leb, lt-leb, leb-false}
+use borrow.Author.Tests.{not-false}
 use Rattle.text.specs.Choice.{if_then_else_}
 use Rattle.text.proofs.Choices.{came-else}
 use Rattle.refusal.specs.declared.Reason.the-variants.{IdentcodeRepeated, ListFull}
@@ -15,7 +14,7 @@ use Rattle.refusal.specs.declared.Refusal.{Refusal}
 use Rattle.fields.specs.declared.record.Record.{Record}
 use Rattle.fields.specs.declared.record.Due.the-variants.{After}
 use Rattle.line.specs.Parts.{split}
-use Rattle.line.specs.Line.{textAt, lineAnswer}
+use Rattle.line.specs.Line.{textAt, fileLimit, lineAnswer}
 use Rattle.line.specs.Told.{Told}
 use Rattle.line.specs.declared.read.Line.{Line}
 use Rattle.line.specs.declared.read.LineAnswer.{LineAnswer}
@@ -26,7 +25,7 @@ use Rattle.file.proofs.Sowing.{sown-line, sown-tells}
 use Rattle.file.specs.Identcode.{repeats, isThereFor, grownFor, Sown}
 use Rattle.file.specs.Cash.{cashOf}
 use Rattle.fields.proofs.Rules.{sound}
-use Rattle.file.specs.Step.{toldBy, parcelsIn, behind, handedOn, onLine, stepAnswer}
+use Rattle.file.specs.Step.{toldBy, parcelsIn, behind, handedOn, hasWord, onLine, stepAnswer}
 use Rattle.file.specs.declared.step.State.{State}
 use Rattle.file.specs.declared.step.Step.{Step}
 use Rattle.file.specs.declared.step.Step.the-variants.{Next, Stopped}
@@ -54,16 +53,17 @@ module _ (s : List ℕ) (words : ℕ) (starts : List ℕ) (state : State) (a : L
     code-stops e = stepped (Stopped (because IdentcodeRepeated (state .at + 4))) (rw (el, ← er, e))
 
     module _ (fresh : t ≡ false) where
-      pub list-stops : words ≤ state .lines → Stopped (because ListFull (state .at)) ≡ stepAnswer s words starts state
-      unfolding onLine
-      list-stops h = stepped (Stopped (because ListFull (state .at))) (rw (el, ← er, fresh, le-leb words (state .lines) h))
+      module _ (u : Bool) (eu : u ≡ hasWord words (state .lines)) where
+        pub list-stops : not u ≡ true → Stopped (because ListFull (state .at)) ≡ stepAnswer s words starts state
+        unfolding onLine
+        list-stops h = stepped (Stopped (because ListFull (state .at))) (rw (el, ← er, fresh, ← eu, h))
 
-      pub line-next : state .lines < words → (next : State) → next ≡ behind s state line → Next next ≡ stepAnswer s words starts state
-      unfolding onLine
-      line-next h next en = stepped (Next next) (rw (el, ← er, fresh, lt-leb words (state .lines) h, en))
+        pub line-next : not u ≡ false → (next : State) → next ≡ behind s state line → Next next ≡ stepAnswer s words starts state
+        unfolding onLine
+        line-next h next en = stepped (Next next) (rw (el, ← er, fresh, ← eu, h, en))
 
       -- the tree behind the line
-      pub line-sown : 4681 ≤ length codes → state .parcels ≤ 2340 → state .at < 65536 → (after : List ℕ) → after ≡ grownFor (line .kind) s codes (state .parcels) (state .at) →
+      pub line-sown : 4681 ≤ length codes → state .parcels ≤ 2340 → state .at ≤ fileLimit → (after : List ℕ) → after ≡ grownFor (line .kind) s codes (state .parcels) (state .at) →
           (now : State) → now ≡ behind s state line → (next : State) → Next now ≡ Next next →
           Sown s (starts ++ (state .at ∷ [])) (next .parcels) after
       line-sown long few small after ef now en next e =
@@ -105,7 +105,7 @@ pub record Went (s : List ℕ) (words : ℕ) (starts : List ℕ) (state next : S
   pub line : Line
   pub accepted : lineAnswer (toldBy state) s (state .at) ≡ Accepted line
   pub fresh : repeats (line .kind) s starts (state .at) ≡ false
-  pub room : state .lines < words
+  pub room : hasWord words (state .lines) ≡ true
   pub there : behind s state line ≡ next
 
 pub stopped : {refusal : Refusal} {next : State} → Stopped refusal ≡ Next next → ⊥
@@ -120,11 +120,11 @@ went s words starts state next e = go (lineAnswer (toldBy state) s (state .at)) 
         Went s words starts state next
     go (Refused refusal) ea e = absurd (stopped e)
     go (Accepted line) ea e =
-        let full = leb words (state .lines) in
+        let full = not (hasWord words (state .lines)) in
         let a = came-else (repeats (line .kind) s starts (state .at)) (Stopped (because IdentcodeRepeated (state .at + 4)))
         (if full then Stopped (because ListFull (state .at)) else Next (behind s state line)) (Next next) stopped e in
         let b = came-else full (Stopped (because ListFull (state .at))) (Next (behind s state line)) (Next next) stopped (a .1) in
-        record { line = line; accepted = ea; fresh = a .0; room = leb-false words (state .lines) (b .0); there = cc }
+        record { line = line; accepted = ea; fresh = a .0; room = not-false (hasWord words (state .lines)) (b .0); there = cc }
 
 -- no tree is promised behind a line that stops the judge
 pub stopped-sown : (s starts codes : List ℕ) (refusal : Refusal) (next : State) → Stopped refusal ≡ Next next →

@@ -9,6 +9,7 @@ use Rattle.refusal.specs.Table.{because, verdictOf, Verdict}
 use Rattle.refusal.specs.declared.Reason.the-variants.{FileTooLong, FileEnds, NotThere}
 use Rattle.fields.specs.Record.{mayEnd}
 use Rattle.fields.specs.declared.record.Due.the-variants.{First}
+use Rattle.line.specs.Line.{fileLimit}
 use Rattle.file.specs.Step.{stepAnswer}
 use Rattle.file.specs.declared.step.State.{State}
 use Rattle.file.specs.declared.step.Step.{Step}
@@ -52,7 +53,7 @@ fileFrom (suc turns) s words starts state =
 -- "1 comes first of all."
 unfoldable pub judged : List ℕ → ℕ → Judged
 judged s words =
-    if ltb 65535 (length s) then record { answer = Refused (because FileTooLong 65535); starts = [] }
+    if ltb fileLimit (length s) then record { answer = Refused (because FileTooLong fileLimit); starts = [] }
     else fileFrom (length s + 1) s words [] begin
 
 -- "every word below the line count holds that line's first offset, and every other word is 0. On a refusal all words are 0."

@@ -1,7 +1,9 @@
 -- Document 01, 'Refusal numbers': "Lines go in file order", and on each line 10 and 11 after the line's own refusals.
 use Prim.Native.Nat.{ℕ, _+_}
+use mathlib.Core.Bool.{Bool, not}
 use mathlib.Core.List.{List}
-use lib.Dec.{leb}
+use lib.Dec.{ltb}
+use lib.ListN.{take}
 use Rattle.text.specs.Choice.{if_then_else_}
 use Rattle.refusal.specs.declared.Reason.the-variants.{IdentcodeRepeated, ListFull, NotThere}
 use Rattle.refusal.specs.Table.{because}
@@ -42,12 +44,20 @@ abbrev pub handedOn : LineAnswer → Step
 handedOn (Accepted line) = Stopped (because NotThere 0)
 handedOn (Refused refusal) = Stopped refusal
 
+-- what the list holds behind so many lines: where each of them starts
+unfoldable pub listedSoFar : ℕ → List ℕ → List ℕ
+listedSoFar lines list = take lines list
+
+-- a list of so many words has one for the next line, behind so many lines
+unfoldable pub hasWord : ℕ → ℕ → Bool
+hasWord words lines = ltb lines words
+
 -- the line's answer, with a list of so many words, behind the lines that start at these places
 unfoldable pub onLine : LineAnswer → List ℕ → ℕ → List ℕ → State → Step
 onLine (Refused refusal) s words starts state = Stopped refusal
 onLine (Accepted line) s words starts state =
     if repeats (line .kind) s starts (state .at) then Stopped (because IdentcodeRepeated (state .at + 4))
-    else if leb words (state .lines) then Stopped (because ListFull (state .at))
+    else if not (hasWord words (state .lines)) then Stopped (because ListFull (state .at))
     else Next (behind s state line)
 
 -- what the judge of the next line is told

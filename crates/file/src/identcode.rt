@@ -1,7 +1,8 @@
 // Identcodes: whether one stands on an earlier line.
 ghost use mathlib.Core.Path.{_≡_};
-ghost use Prim.Native.Nat.{_<_, _≤_};
+ghost use Prim.Native.Nat.{_≤_};
 ghost use lib.ListN.{length};
+ghost use Rattle.line.specs.Line.{fileLimit};
 ghost use Rattle.identcodes.specs.Tree.{isThere, grown};
 ghost use Rattle.file.specs.Identcode.{isThereFor, grownFor};
 use fields::Record;
@@ -9,7 +10,7 @@ use identcodes::CodeAnswer;
 
 // Whether the line of this record that starts here repeats an identcode of the tree; one that is new is put into it.
 pub fn is_repeated(kind: Record, s: &[u8], codes: &mut [u32], parcels: usize, at: usize) -> bool
-    requires { ⌜ (4681 ≤ length (now codes)) × (parcels ≤ 2340) × (at < 65536) ⌝ }
+    requires { ⌜ (4681 ≤ length (now codes)) × (parcels ≤ 2340) × (at ≤ fileLimit) ⌝ }
     ensures { λ r. ⌜ (r ≡ isThereFor kind (now (s .entry)) (now (codes .entry)) parcels at)
         × (now (codes .exit) ≡ grownFor kind (now (s .entry)) (now (codes .entry)) parcels at) ⌝ }
 {
@@ -25,7 +26,7 @@ pub fn is_repeated(kind: Record, s: &[u8], codes: &mut [u32], parcels: usize, at
 
 // The same for a parcel line.
 fn is_known(s: &[u8], codes: &mut [u32], parcels: usize, at: usize) -> bool
-    requires { ⌜ (4681 ≤ length (now codes)) × (parcels ≤ 2340) × (at < 65536) ⌝ }
+    requires { ⌜ (4681 ≤ length (now codes)) × (parcels ≤ 2340) × (at ≤ fileLimit) ⌝ }
     ensures { λ r. ⌜ (r ≡ isThere (now (s .entry)) (now (codes .entry)) parcels at)
         × (now (codes .exit) ≡ grown (now (s .entry)) (now (codes .entry)) parcels at) ⌝ }
 {

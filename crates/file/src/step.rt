@@ -1,11 +1,11 @@
 // One line of a file, judged behind the lines before it.
 ghost use mathlib.Core.Path.{_≡_};
-ghost use Prim.Native.Nat.{_*_, _<_, _≤_};
-ghost use lib.ListN.{length, take};
+ghost use Prim.Native.Nat.{_*_, _≤_};
+ghost use lib.ListN.{length};
 ghost use mathlib.Core.List.{[], _∷_, _++_};
-ghost use Rattle.line.specs.Line.{lineAnswer};
+ghost use Rattle.line.specs.Line.{fileLimit, lineAnswer};
 ghost use Rattle.line.specs.declared.read.LineAnswer.the-variants.{Accepted};
-ghost use Rattle.file.specs.Step.{toldBy, handedOn, parcelsIn, behind, stepAnswer};
+ghost use Rattle.file.specs.Step.{toldBy, handedOn, parcelsIn, behind, listedSoFar, hasWord, stepAnswer};
 ghost use Rattle.file.specs.Identcode.{Sown};
 ghost use Rattle.file.specs.declared.step.State.{State};
 ghost use Rattle.file.specs.declared.step.Step.the-variants.{Next};
@@ -34,13 +34,13 @@ pub enum Step {
 
 // Judges the line where the state is; the list holds the offsets of the lines before it, and the tree their identcodes.
 pub fn one_line(s: &[u8], words: &[u32], codes: &mut [u32], state: State) -> Step
-    requires { ⌜ (state .at < 65536) × (state .lines ≤ state .at) × (state .lines ≤ length (now words)) × (state .parcels ≤ state .lines)
+    requires { ⌜ (state .at ≤ fileLimit) × (state .lines ≤ state .at) × (state .lines ≤ length (now words)) × (state .parcels ≤ state .lines)
         × (state .cents ≤ 99999999 * state .lines) ⌝ }
-    requires { ⌜ Sown (now s) (take (state .lines) (now words)) (state .parcels) (now codes) × (state .parcels ≤ 2340)
+    requires { ⌜ Sown (now s) (listedSoFar (state .lines) (now words)) (state .parcels) (now codes) × (state .parcels ≤ 2340)
         × (4681 ≤ length (now codes)) ⌝ }
-    ensures { λ r. ⌜ r ≡ stepAnswer (now (s .entry)) (length (now (words .entry))) (take (state .lines) (now (words .entry))) state ⌝ }
+    ensures { λ r. ⌜ r ≡ stepAnswer (now (s .entry)) (length (now (words .entry))) (listedSoFar (state .lines) (now (words .entry))) state ⌝ }
     ensures { λ r. ⌜ ((next : State) → r ≡ Next next →
-        Sown (now (s .entry)) (take (state .lines) (now (words .entry)) ++ (state .at ∷ [])) (next .parcels) (now (codes .exit))) ⌝ }
+        Sown (now (s .entry)) (listedSoFar (state .lines) (now (words .entry)) ++ (state .at ∷ [])) (next .parcels) (now (codes .exit))) ⌝ }
 {
     let at = state.at;
     let lines = state.lines;
@@ -56,7 +56,7 @@ pub fn one_line(s: &[u8], words: &[u32], codes: &mut [u32], state: State) -> Ste
             place: at + 4,
         });
     }
-    if words.len() <= lines {
+    if !has_word(words, lines) {
         return Step::Stopped(Refusal {
             why: Reason::ListFull,
             place: at,
@@ -65,9 +65,16 @@ pub fn one_line(s: &[u8], words: &[u32], codes: &mut [u32], state: State) -> Ste
     Step::Next(behind_line(s, state, line))
 }
 
+// Whether the list has a word for the line behind so many.
+fn has_word(words: &[u32], lines: usize) -> bool
+    ensures { λ r. ⌜ r ≡ hasWord (length (now (words .entry))) lines ⌝ }
+{
+    lines < words.len()
+}
+
 // The state behind an accepted line.
 fn behind_line(s: &[u8], state: State, line: Line) -> State
-    requires { ⌜ (lineAnswer (toldBy state) (now s) (state .at) ≡ Accepted line) × (state .at < 65536) × (state .lines ≤ state .at)
+    requires { ⌜ (lineAnswer (toldBy state) (now s) (state .at) ≡ Accepted line) × (state .at ≤ fileLimit) × (state .lines ≤ state .at)
         × (state .parcels ≤ state .lines) × (state .cents ≤ 99999999 * state .lines) ⌝ }
     ensures { λ r. ⌜ r ≡ behind (now (s .entry)) state line ⌝ }
 {

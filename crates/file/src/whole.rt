@@ -2,12 +2,14 @@
 ghost use mathlib.Core.Path.{_≡_};
 ghost use Prim.Native.Nat.{_≤_};
 ghost use lib.ListN.{length, replicate};
+ghost use Rattle.line.specs.Line.{fileLimit};
 ghost use Rattle.file.specs.File.{handed, Judges};
 use crate::list;
 use crate::step;
 use crate::step::State;
 use crate::step::Step;
 use fields::Due;
+use line::FILE_LIMIT;
 use refusal::Reason;
 use refusal::Refusal;
 
@@ -28,10 +30,10 @@ pub fn judge(s: &[u8], words: &mut [u32]) -> FileAnswer
     ensures { λ r. ⌜ Judges (now (s .entry)) (length (now (words .entry))) r (now (words .exit)) ⌝ }
 {
     list::clear(words);
-    if 65535 < s.len() {
+    if FILE_LIMIT < s.len() {
         return FileAnswer::Refused(Refusal {
             why: Reason::FileTooLong,
-            place: 65535,
+            place: FILE_LIMIT,
         });
     }
     // A file has at most 2,340 parcels.
@@ -41,7 +43,7 @@ pub fn judge(s: &[u8], words: &mut [u32]) -> FileAnswer
 
 // The lines of a file that is not too long, with a list that is clear, and room for a tree of their identcodes.
 fn run(s: &[u8], words: &mut [u32], codes: &mut [u32]) -> FileAnswer
-    requires { ⌜ (length (now s) ≤ 65535) × (now words ≡ replicate (length (now words)) 0) × (4681 ≤ length (now codes)) ⌝ }
+    requires { ⌜ (length (now s) ≤ fileLimit) × (now words ≡ replicate (length (now words)) 0) × (4681 ≤ length (now codes)) ⌝ }
     ensures { λ r. ⌜ Judges (now (s .entry)) (length (now (words .entry))) r (now (words .exit)) ⌝ }
 {
     let mut state = State {

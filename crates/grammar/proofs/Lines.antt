@@ -22,7 +22,7 @@ use Rattle.fields.proofs.Types.{type-long, type-tells}
 use Rattle.fields.proofs.Rules.{Sound}
 use Rattle.line.specs.Parts.{split, partAt, nameOf, fieldsOf, fieldNo}
 use Rattle.line.specs.Render.{joined, textOf, render}
-use Rattle.line.specs.Line.{lineEnd, textAt, textAnswer, lineAnswer, alone}
+use Rattle.line.specs.Line.{lineEnd, textAt, textAnswer, lineAnswer, alone, fileLimit}
 use Rattle.line.specs.Told.{Told}
 use Rattle.line.specs.declared.read.Line.{Line}
 use Rattle.line.specs.declared.read.LineAnswer.the-variants.{Accepted}
@@ -107,7 +107,7 @@ module _ {told : Told} {s : List ℕ} {at : ℕ} {line : Line} {fs : List (List 
   reads-accepted =
       let n : at + length (textOf (line .kind) fs) + 2 ≡ line .next = omega (arith, g .next, render-long (line .kind) fs) in
       rw (
-        le-ltb 65535 (length s) (g .small),
+        le-ltb fileLimit (length s) (g .small),
         le-ltb (length s) at read-inside,
         ends-well s at (textOf (line .kind) fs) (g .rest) bytes-of (g .stands),
         read-text,

@@ -14,6 +14,7 @@ use Rattle.line.specs.Render.{textOf, render, plain}
 use Rattle.line.specs.Need.{lacks}
 use Rattle.line.specs.Told.{Told}
 use Rattle.line.specs.declared.read.Line.{Line}
+use Rattle.line.specs.Line.{fileLimit}
 
 -- "only zero bytes is empty"
 abbrev pub Filled : List ℕ → Type 0
@@ -46,7 +47,7 @@ pub record LineOk (rules : Rules) (kind : Record) (fs : List (List ℕ)) : Type 
 -- kind, the field count and where the next line starts"
 pub record Reads (told : Told) (s : List ℕ) (at : ℕ) (line : Line) (fs : List (List ℕ)) : Type 0 where
   -- "At most 65,535 bytes."
-  pub small : length s ≤ 65535
+  pub small : length s ≤ fileLimit
   -- "Record order"
   pub comes : mayCome (told .due) (line .kind) ≡ true
   pub allowed : LineOk (told .rules) (line .kind) fs

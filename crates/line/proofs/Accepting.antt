@@ -1,5 +1,5 @@
 -- What an accepted line tells: each test passed, and the answer names the line's own record, count and next start.
-use Prim.Native.Nat.{ℕ, _+_, _-_, _≤_, _<_}
+use Prim.Native.Nat.{ℕ, _+_, _-_, _≤_}
 use mathlib.Core.Path.{_≡_, refl, sym, ap, _∙_}
 use mathlib.Core.Bool.{true, false, not}
 use mathlib.Core.List.{List, _++_}
@@ -25,7 +25,7 @@ use Rattle.fields.proofs.Types.{named-type}
 use Rattle.line.specs.Render.{joined, textOf, render}
 use Rattle.line.specs.Walk.{walk}
 use Rattle.line.specs.Need.{lacks}
-use Rattle.line.specs.Line.{lineEnd, endsWell, textAt, afterWalk, ofKind, ofNamed, ofText, textAnswer, onText, lineAnswer, textVerdict, lineVerdict}
+use Rattle.line.specs.Line.{lineEnd, endsWell, textAt, afterWalk, ofKind, ofNamed, ofText, textAnswer, onText, lineAnswer, textVerdict, lineVerdict, fileLimit}
 use Rattle.line.specs.declared.scan.TextAnswer.{TextAnswer}
 use Rattle.line.specs.declared.scan.TextAnswer.the-variants.{Ends, Refused}
 use Rattle.line.specs.declared.walk.Walk.{Walk}
@@ -49,7 +49,7 @@ pub record TextOk (told : Told) (at : ℕ) (line : List ℕ) (l : Line) : Type 0
 
 -- where it lies in the file
 pub record LineAt (told : Told) (s : List ℕ) (at : ℕ) (l : Line) : Type 0 where
-  pub short : length s ≤ 65535
+  pub short : length s ≤ fileLimit
   pub inside : at ≤ length s
   pub well : endsWell s (lineEnd s at) ≡ true
   pub text : TextOk told at (textAt s at) l
@@ -97,7 +97,7 @@ module _ (told : Told) (at : ℕ) (line : List ℕ) (l : Line) where
 
 -- the text of a line that ends well
 pub record TextEnds (s : List ℕ) (at end : ℕ) : Type 0 where
-  pub short : length s ≤ 65535
+  pub short : length s ≤ fileLimit
   pub inside : at ≤ length s
   pub well : endsWell s (lineEnd s at) ≡ true
   pub is : end ≡ lineEnd s at
@@ -107,12 +107,12 @@ unfolding textAnswer
 text-ends s at end e =
     let well = endsWell s (lineEnd s at) in
     let found = if not well then Refused (because NoLineEnd (lineEnd s at)) else Ends (lineEnd s at) in
-    let a = came-else (ltb 65535 (length s)) (Refused (because FileTooLong 65535)) (if ltb (length s) at then Refused (because NoLineEnd (length s)) else found)
+    let a = came-else (ltb fileLimit (length s)) (Refused (because FileTooLong fileLimit)) (if ltb (length s) at then Refused (because NoLineEnd (length s)) else found)
     (Ends end) (no-pass textVerdict refl refl) e in
     let b = came-else (ltb (length s) at) (Refused (because NoLineEnd (length s))) found (Ends end) (no-pass textVerdict refl refl) (a .1) in
     let c = came-else (not well) (Refused (because NoLineEnd (lineEnd s at))) (Ends (lineEnd s at)) (Ends end) (no-pass textVerdict refl refl) (b .1) in
     record {
-      short = ltb-false 65535 (length s) (a .0);
+      short = ltb-false fileLimit (length s) (a .0);
       inside = ltb-false (length s) at (b .0);
       well = not-false well (c .0);
       is = cc;
@@ -153,7 +153,7 @@ module _ (s : List ℕ) (at : ℕ) (a : TextAnswer) (ea : a ≡ textAnswer s at)
   pub found-inside : end ≤ length s
   found-inside = omega (arith, found .is, end-inside s at (found .inside))
 
-  pub found-small : at + length (take (end - at) (drop at s)) < 65536
+  pub found-small : at + length (take (end - at) (drop at s)) ≤ fileLimit
   found-small = omega (arith, length-take (end - at) (drop at s), length-drop at s, found-after, found-inside, found .short)
 
 pub next-is : (told : Told) (s : List ℕ) (at : ℕ) (l : Line) → LineAt told s at l → l .next ≡ lineEnd s at + 2
@@ -179,7 +179,7 @@ module _ (told : Told) (s : List ℕ) (at : ℕ) (a : LineAnswer) (ea : a ≡ li
   pub next-after : at + 2 ≤ l .next
   next-after = omega (arith, next-is told s at l lies, end-after s at (lies .inside))
 
-  pub text-small : at + length (take (l .next - 2 - at) (drop at s)) < 65536
+  pub text-small : at + length (take (l .next - 2 - at) (drop at s)) ≤ fileLimit
   text-small = omega (arith, length-take (l .next - 2 - at) (drop at s), length-drop at s, text-starts, text-inside, lies .short)
 
   pub text-is : take (l .next - 2 - at) (drop at s) ≡ textAt s at

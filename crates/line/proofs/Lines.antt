@@ -21,7 +21,7 @@ use Rattle.fields.specs.declared.record.Named.the-variants.{Known, Unknown}
 use Rattle.line.specs.Parts.{semicolon, split, nameOf, fieldsOf}
 use Rattle.line.specs.Walk.{walk}
 use Rattle.line.specs.Need.{lacks}
-use Rattle.line.specs.Line.{lineEnd, endsWell, textAt, afterWalk, ofKind, ofNamed, ofText, textAnswer, lineAnswer}
+use Rattle.line.specs.Line.{lineEnd, endsWell, textAt, afterWalk, ofKind, ofNamed, ofText, textAnswer, lineAnswer, fileLimit}
 use Rattle.line.specs.declared.scan.TextAnswer.{TextAnswer}
 use Rattle.line.specs.declared.scan.TextAnswer.the-variants.{Ends, Refused}
 use Rattle.line.specs.declared.walk.Walk.{Walk}
@@ -104,20 +104,20 @@ module _ (told : Told) (s : List ℕ) (at : ℕ) (a : TextAnswer) (ea : a ≡ te
 
 -- the file's length, the offset, the line's end
 module _ (s : List ℕ) (at : ℕ) where
-  pub file-long : 65535 < length s → textAnswer s at ≡ Refused (because FileTooLong 65535)
+  pub file-long : fileLimit < length s → textAnswer s at ≡ Refused (because FileTooLong fileLimit)
   unfolding textAnswer
-  file-long h = simp (lt-ltb 65535 (length s))
+  file-long h = simp (lt-ltb fileLimit (length s))
 
-  module _ (h : length s ≤ 65535) where
+  module _ (h : length s ≤ fileLimit) where
     pub past-file : length s < at → textAnswer s at ≡ Refused (because NoLineEnd (length s))
     unfolding textAnswer
-    past-file l = simp (le-ltb 65535 (length s), lt-ltb (length s) at)
+    past-file l = simp (le-ltb fileLimit (length s), lt-ltb (length s) at)
 
     module _ (l : at ≤ length s) (end : ℕ) (ee : end ≡ lineEnd s at) (t : Bool) (et : t ≡ endsWell s end) where
       pub no-end : not t ≡ true → Refused (because NoLineEnd end) ≡ textAnswer s at
       unfolding textAnswer
-      no-end e = simp (le-ltb 65535 (length s), le-ltb (length s) at, ← ee, ← et, e)
+      no-end e = simp (le-ltb fileLimit (length s), le-ltb (length s) at, ← ee, ← et, e)
 
       pub line-ends : not t ≡ false → Ends end ≡ textAnswer s at
       unfolding textAnswer
-      line-ends e = simp (le-ltb 65535 (length s), le-ltb (length s) at, ← ee, ← et, e)
+      line-ends e = simp (le-ltb fileLimit (length s), le-ltb (length s) at, ← ee, ← et, e)

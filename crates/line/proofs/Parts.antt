@@ -17,6 +17,7 @@ use Rattle.text.proofs.Runs.{first-least, first-most, first-shift}
 use Rattle.text.specs.Scan.{firstFailing, count}
 use Rattle.text.proofs.Numbers.{le-or-lt}
 use Rattle.line.specs.Parts.{semicolon, intoFirst, split, partAt, nameOf, fieldsOf, startIn, startOf, inField, fieldEnd}
+use Rattle.line.specs.Line.{fileLimit}
 
 -- the first part, and what is left behind its semicolon
 firstLong : List ℕ → ℕ
@@ -193,7 +194,7 @@ module _ (line : List ℕ) (name : ℕ) (en : name ≡ length (nameOf line)) whe
   pub name-inside : name + 1 ≤ length line + 1
   name-inside = omega (arith, type-end, end-most line 0 (omega arith))
 
-  pub name-fits : (at : ℕ) → at + length line < 65536 → Fits w64 (name + 1)
+  pub name-fits : (at : ℕ) → at + length line ≤ fileLimit → Fits w64 (name + 1)
   name-fits at h = omega (arith, name-inside)
 
 pub name-long : (line name : List ℕ) → name ≡ nameOf line → length name ≡ length (nameOf line)

@@ -39,10 +39,14 @@ endsWell s end = same (take 2 (drop end s)) (bytes "\r\n")
 abbrev pub textAt : List ℕ → ℕ → List ℕ
 textAt s at = take (lineEnd s at - at) (drop at s)
 
+-- "At most 65,535 bytes."
+abbrev pub fileLimit : ℕ
+fileLimit = 65535
+
 -- 1, then 2: where the text of the line that starts here ends
 unfoldable pub textAnswer : List ℕ → ℕ → TextAnswer
 textAnswer s at =
-    if ltb 65535 (length s) then Refused (because FileTooLong 65535)
+    if ltb fileLimit (length s) then Refused (because FileTooLong fileLimit)
     else if ltb (length s) at then Refused (because NoLineEnd (length s))
     else if not (endsWell s (lineEnd s at)) then Refused (because NoLineEnd (lineEnd s at))
     else Ends (lineEnd s at)

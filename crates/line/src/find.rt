@@ -1,10 +1,11 @@
 // One field of a line at an offset of the file: where it starts, and how long it is.
 ghost use mathlib.Core.Path.{_≡_};
-ghost use Prim.Native.Nat.{_+_, _<_};
+ghost use Prim.Native.Nat.{_+_, _≤_};
 ghost use lib.ListN.{length};
 ghost use Rattle.fields.specs.Profile.{profile};
 ghost use Rattle.line.specs.Parts.{startOf, partAt};
 ghost use Rattle.line.specs.Find.{handedOn, fieldAnswer};
+ghost use Rattle.line.specs.Line.{fileLimit};
 use crate::part;
 use crate::read;
 use crate::read::LineAnswer;
@@ -55,7 +56,7 @@ fn refusal_of(answer: LineAnswer) -> FieldAnswer
 
 // The field with this number of a line's text that starts at this place.
 fn in_text(at: usize, line: &[u8], number: usize) -> FieldAnswer
-    requires { ⌜ at + length (now line) < 65536 ⌝ }
+    requires { ⌜ at + length (now line) ≤ fileLimit ⌝ }
     ensures { λ r. ⌜ r ≡ FieldAnswer.Found (at + startOf (now (line .entry)) number) (length (partAt (now (line .entry)) number)) ⌝ }
 {
     let start = part::start_of(line, number);

@@ -19,6 +19,7 @@ pub use read::Line;
 pub use read::LineAnswer;
 pub use read::judge_line;
 pub use read::read_line;
+pub use scan::FILE_LIMIT;
 pub use scan::TextAnswer;
 pub use scan::find_text;
 pub use scan::text_at;

@@ -1,10 +1,10 @@
 // One line at an offset of the file: its end, its record, its fields, in the order of the refusals.
 ghost use mathlib.Core.Path.{_≡_};
-ghost use Prim.Native.Nat.{_+_, _<_};
+ghost use Prim.Native.Nat.{_+_, _≤_};
 ghost use lib.ListN.{length};
 ghost use Rattle.fields.specs.Profile.{profile};
 ghost use Rattle.line.specs.Parts.{nameOf};
-ghost use Rattle.line.specs.Line.{ofText, ofKind, alone, lineAnswer};
+ghost use Rattle.line.specs.Line.{ofText, ofKind, alone, fileLimit, lineAnswer};
 use crate::need;
 use crate::part::field_in;
 use crate::scan;
@@ -49,7 +49,7 @@ pub fn judge_line(due: Due, s: &[u8], at: usize) -> LineAnswer
 
 // The text of a line that starts at this place and ends well.
 fn of_text(due: Due, at: usize, line: &[u8]) -> LineAnswer
-    requires { ⌜ at + length (now line) < 65536 ⌝ }
+    requires { ⌜ at + length (now line) ≤ fileLimit ⌝ }
     ensures { λ r. ⌜ r ≡ ofText (record { rules = profile; due = due }) at (now (line .entry)) ⌝ }
 {
     let name = field_in(line, 0);
@@ -71,7 +71,7 @@ fn of_text(due: Due, at: usize, line: &[u8]) -> LineAnswer
 
 // The text of a line of a record that may come, whose type is so long.
 fn of_kind(kind: Record, at: usize, line: &[u8], name: usize) -> LineAnswer
-    requires { ⌜ (name ≡ length (nameOf (now line))) × (at + length (now line) < 65536) ⌝ }
+    requires { ⌜ (name ≡ length (nameOf (now line))) × (at + length (now line) ≤ fileLimit) ⌝ }
     ensures { λ r. ⌜ r ≡ ofKind (profile) kind at (now (line .entry)) ⌝ }
 {
     let count = scan::field_count(line);

@@ -9,6 +9,9 @@ ghost use Rattle.line.specs.Line.{lineEnd, endsWell, textAt, textAnswer}
 use refusal::Reason;
 use refusal::Refusal;
 
+// The most bytes that a file may have.
+pub const FILE_LIMIT: usize = 65535;
+
 pub enum TextAnswer {
     // The text of the line runs up to this byte, where CR LF stands.
     Ends(usize),
@@ -20,10 +23,10 @@ pub fn find_text(s: &[u8], at: usize) -> TextAnswer
     ensures { λ r. ⌜ r ≡ textAnswer (now (s .entry)) at ⌝ }
 {
     let n = s.len();
-    if 65535 < n {
+    if FILE_LIMIT < n {
         return TextAnswer::Refused(Refusal {
             why: Reason::FileTooLong,
-            place: 65535,
+            place: FILE_LIMIT,
         });
     }
     if n < at {

@@ -1,10 +1,11 @@
 // The fields of a line, tested from left to right.
 ghost use mathlib.Core.Path.{_≡_};
-ghost use Prim.Native.Nat.{_+_, _<_};
+ghost use Prim.Native.Nat.{_+_, _≤_};
 ghost use lib.ListN.{length};
 ghost use Rattle.fields.specs.Profile.{profile};
 ghost use Rattle.line.specs.Parts.{nameOf, fieldsOf};
 ghost use Rattle.line.specs.Walk.{walk};
+ghost use Rattle.line.specs.Line.{fileLimit};
 use crate::scan::field_end;
 use fields::Record;
 use fields::Tested;
@@ -18,7 +19,7 @@ pub enum Walk {
 // Tests the fields of a line that starts at the place at and whose record type is so long. Beside a field stands the part in front
 // of it.
 pub fn walk_fields(kind: Record, line: &[u8], at: usize, name: usize) -> Walk
-    requires { ⌜ (name ≡ length (nameOf (now line))) × (at + length (now line) < 65536) ⌝ }
+    requires { ⌜ (name ≡ length (nameOf (now line))) × (at + length (now line) ≤ fileLimit) ⌝ }
     ensures { λ r. ⌜ r ≡ walk (profile kind) 1 (at + length (nameOf (now (line .entry))) + 1) (nameOf (now (line .entry))) (fieldsOf (now (line .entry))) ⌝ }
 {
     let mut number: usize = 1;

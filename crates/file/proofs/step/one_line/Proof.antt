@@ -11,5 +11,5 @@ one-line-spec =
     tie.close
     (tie.spec
     (λ c κs. search laws) (λ c. search laws) (λ c. search laws) (λ c κs. search laws) (λ c. search laws) (λ c κs. search laws)
-    (λ c. search laws) (λ c. search laws) (λ c. search laws) (λ c. search laws) (λ c. search laws) (λ c κs. search laws)
-    (λ c. search laws) (λ c. search laws))
+    (λ c. search laws) (λ c. search laws) (λ c. search laws) (λ c κs. search laws) (λ c. search laws) (λ c. search laws)
+    (λ c κs. search laws) (λ c. search laws) (λ c. search laws))
