@@ -29,7 +29,7 @@ use Rattle.allowed.specs.Allowed.{FileLine, AllowedFile, lineStarts, tot
 use Rattle.allowed.proofs.Files.{allowed-accepted, starts-count}
 use Rattle.line.specs.At.{isTyped}
 use Rattle.purpose.specs.Source.{isCashLine, shipmentAbove, firstParcel, fromShipment, inShipment, forFeature, sourceOf}
-use Rattle.purpose.specs.Purpose.{cut, sourceText, textFrom, onSource, onFile, purposeAnswer, purposeText, listAfter, outputAfter, Purposes}
+use Rattle.purpose.specs.Purpose.{purposeLong, cut, sourceText, textFrom, onSource, onFile, purposeAnswer, purposeText, listAfter, outputAfter, Purposes}
 use Rattle.allowed.specs.Sentence.{LineNo, CashLine, Belongs, firstFilled, namedText}
 use Rattle.purpose.specs.declared.source.Source.{Source}
 use Rattle.purpose.specs.declared.source.Source.the-variants.{Field, Joined}
@@ -166,16 +166,16 @@ module _ (s : List ℕ) (ls : List FileLine) (g : AllowedFile s ls) (n : ℕ) (l
         ∙ ap (textFrom s) source-is
         ∙ ap cut text-is
 
-    named-answer : (long : ℕ) → 35 ≤ long → purposeAnswer s n words long ≡ Written (length (cut (namedText l shipment parcel)))
+    named-answer : (long : ℕ) → purposeLong ≤ long → purposeAnswer s n words long ≡ Written (length (cut (namedText l shipment parcel)))
     unfolding onFile onSource
     named-answer long h =
         ap (λ (j : Judged). onFile (j .answer) (sourceOf s (j .starts) n) s long) (whole s ls g words room)
         ∙ ap (λ (x : Sourced). onSource x s long) source-is
-        ∙ rw (le-ltb long 35 h, text-is)
+        ∙ rw (le-ltb long purposeLong h, text-is)
 
     -- the line's text is written, the list is the file's, and every other byte of the output stays
     pub purpose-named :
-        (out : List ℕ) → 35 ≤ length out → (answer : PurposeAnswer) (list after : List ℕ) → Purposes s n words out answer list after →
+        (out : List ℕ) → purposeLong ≤ length out → (answer : PurposeAnswer) (list after : List ℕ) → Purposes s n words out answer list after →
         (answer ≡ Written (length (cut (namedText l shipment parcel)))) × (list ≡ listOf words (lineStarts 0 ls)) ×
         (after ≡ written out 0 (cut (namedText l shipment parcel)))
     purpose-named out h answer list after p =

@@ -17,7 +17,7 @@ use Rattle.fields.specs.declared.record.Due.{Due}
 use Rattle.fields.specs.declared.record.Due.the-variants.{First, After}
 use Rattle.file.specs.File.{listOf}
 use Rattle.allowed.specs.Allowed.{FileLine, InOrder, AllowedFile, lineStarts}
-use Rattle.purpose.specs.Purpose.{cut, Purposes}
+use Rattle.purpose.specs.Purpose.{purposeLong, cut, Purposes}
 use Rattle.allowed.specs.Sentence.{LineNo, CashLine, Belongs, namedText}
 use Rattle.purpose.specs.declared.write.PurposeAnswer.{PurposeAnswer}
 use Rattle.purpose.specs.declared.write.PurposeAnswer.the-variants.{Written}
@@ -143,7 +143,7 @@ each-belongs s ls g n l h cash = has ls (g .order) n l h (ap inside (cash .featu
 -- the line has its shipment and the shipment its first parcel, and the text that these three lines name is written
 pub purpose-of :
     (s : List ℕ) (ls : List FileLine) → AllowedFile s ls → (n : ℕ) (l : FileLine) → LineNo ls n l → CashLine l → (words : ℕ) →
-    length ls ≤ words → (out : List ℕ) → 35 ≤ length out →
+    length ls ≤ words → (out : List ℕ) → purposeLong ≤ length out →
     (answer : PurposeAnswer) (list after : List ℕ) → Purposes s n words out answer list after →
     (shipment : FileLine) × (parcel : FileLine) × Belongs ls n shipment parcel
     × ((answer ≡ Written (length (cut (namedText l shipment parcel)))) × (list ≡ listOf words (lineStarts 0 ls)) ×

@@ -6,7 +6,7 @@ use lib.ListN.{length}
 use Rattle.text.specs.Placed.{written}
 use Rattle.file.specs.File.{listOf}
 use Rattle.allowed.specs.Allowed.{FileLine, AllowedFile, lineStarts}
-use Rattle.purpose.specs.Purpose.{cut, Purposes}
+use Rattle.purpose.specs.Purpose.{purposeLong, cut, Purposes}
 use Rattle.allowed.specs.Sentence.{LineNo, CashLine, Belongs, namedText}
 use Rattle.purpose.specs.declared.write.PurposeAnswer.{PurposeAnswer}
 use Rattle.purpose.specs.declared.write.PurposeAnswer.the-variants.{Written}
@@ -21,7 +21,7 @@ purpose-has-shipment = order.each-belongs
 -- Its purpose is the text that the paper's sentence names, cut after joining; the list is the file's, every other output byte stays.
 pub purpose-is-named :
     (s : List ℕ) (ls : List FileLine) → AllowedFile s ls → (n : ℕ) (l : FileLine) → LineNo ls n l → CashLine l →
-    (words : ℕ) → length ls ≤ words → (out : List ℕ) → 35 ≤ length out →
+    (words : ℕ) → length ls ≤ words → (out : List ℕ) → purposeLong ≤ length out →
     (answer : PurposeAnswer) (list after : List ℕ) → Purposes s n words out answer list after →
     (shipment : FileLine) × (parcel : FileLine) × Belongs ls n shipment parcel
     × ((answer ≡ Written (length (cut (namedText l shipment parcel)))) × (list ≡ listOf words (lineStarts 0 ls))

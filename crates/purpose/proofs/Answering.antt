@@ -16,35 +16,24 @@ use Rattle.file.specs.declared.whole.FileAnswer.{FileAnswer}
 use Rattle.file.specs.declared.whole.FileAnswer.the-variants.{Accepted, Refused}
 use Rattle.file.proofs.Listing.{none-listed, lines-listed, lines-fit as words-fit}
 use Rattle.purpose.specs.Source.{sourceOf}
-use Rattle.purpose.specs.Purpose.{cut, sourceText, textFrom, handedOn, onSource, onFile, purposeAnswer, purposeText, listAfter, outputAfter}
+use Rattle.purpose.specs.Purpose.{purposeLong, cut, sourceText, textFrom, onSource, onFile, purposeAnswer, purposeText, listAfter, outputAfter}
 use Rattle.purpose.specs.declared.source.Source.{Source}
 use Rattle.purpose.specs.declared.source.Sourced.{Sourced}
 use Rattle.purpose.specs.declared.source.Sourced.the-variants.{From, Nowhere}
 use Rattle.purpose.specs.declared.write.PurposeAnswer.{PurposeAnswer}
 use Rattle.purpose.specs.declared.write.PurposeAnswer.the-variants.{Written, Refused}
 
-pub handed-as : (a case : FileAnswer) (r : PurposeAnswer) → a ≡ case → r ≡ handedOn case → r ≡ handedOn a
-handed-as a case r e f = rw e f
-
 -- the file is refused
-module _ (s : List ℕ) (m : ℕ) (a : FileAnswer) (ea : a ≡ judged s m .answer) (refusal : Refusal) (e : a ≡ Refused refusal)
-    (r : PurposeAnswer) (er : r ≡ handedOn a) where
-  handed : r ≡ Refused refusal
-  handed = er ∙ ap handedOn e
-
-  pub file-answer : (n room : ℕ) → r ≡ purposeAnswer s n m room
+module _ (s : List ℕ) (m : ℕ) (a : FileAnswer) (ea : a ≡ judged s m .answer) (refusal : Refusal) (e : a ≡ Refused refusal) where
+  pub file-answer : (n room : ℕ) → Refused refusal ≡ purposeAnswer s n m room
   unfolding onFile
-  file-answer n room = handed ∙ rw (← ea, e)
+  file-answer n room = rw (← ea, e)
 
-  pub file-list : (list : List ℕ) → list ≡ listOf m (judged s m .starts) → list ≡ listAfter r m (judged s m .starts)
+  pub file-list : (list : List ℕ) → list ≡ listOf m (judged s m .starts) → list ≡ listAfter (Refused refusal) m (judged s m .starts)
   file-list list el =
       let none : judged s m .starts ≡ [] = none-listed s m (sym ea ∙ e) in
       let k : m - 0 ≡ m = omega arith in
-      el ∙ ap (listOf m) none ∙ ap (λ (n : ℕ). replicate n 0) k ∙ sym
-      (ap (λ (x : PurposeAnswer). listAfter x m (judged s m .starts)) handed)
-
-  pub file-output : (text out : List ℕ) → out ≡ outputAfter r text out
-  file-output text out = sym (ap (λ (x : PurposeAnswer). outputAfter x text out) handed)
+      el ∙ ap (listOf m) none ∙ ap (λ (n : ℕ). replicate n 0) k
 
 -- the file is accepted
 module _ (s : List ℕ) (m : ℕ) (a : FileAnswer) (ea : a ≡ judged s m .answer) (totals : Totals) (et : a ≡ Accepted totals) where
@@ -72,13 +61,13 @@ module _ (s : List ℕ) (m : ℕ) (a : FileAnswer) (ea : a ≡ judged s m .answe
     not-there room e = answered room (Refused (because NotThere 0)) (rw e)
 
     module _ (source : Source) (es : found ≡ From source) (out : List ℕ) where
-      pub too-short : length out < 35 → Refused (because OutputTooShort 0) ≡ purposeAnswer s n m (length out)
+      pub too-short : length out < purposeLong → Refused (because OutputTooShort 0) ≡ purposeAnswer s n m (length out)
       unfolding onSource
-      too-short h = answered (length out) (Refused (because OutputTooShort 0)) (rw (es, lt-ltb (length out) 35 h))
+      too-short h = answered (length out) (Refused (because OutputTooShort 0)) (rw (es, lt-ltb (length out) purposeLong h))
 
-      pub was-written : 35 ≤ length out → (r : ℕ) → r ≡ length (cut (sourceText s source)) → Written r ≡ purposeAnswer s n m (length out)
+      pub was-written : purposeLong ≤ length out → (r : ℕ) → r ≡ length (cut (sourceText s source)) → Written r ≡ purposeAnswer s n m (length out)
       unfolding onSource
-      was-written h r er = answered (length out) (Written r) (rw (es, le-ltb (length out) 35 h, er))
+      was-written h r er = answered (length out) (Written r) (rw (es, le-ltb (length out) purposeLong h, er))
 
       pub text-there : (o : List ℕ) → o ≡ written out 0 (cut (sourceText s source)) → o ≡ written out 0 (purposeText s n m)
       text-there o eo = eo ∙ ap (λ (x : Sourced). written out 0 (textFrom s x)) (sym es ∙ source-is)

@@ -22,8 +22,11 @@ use Rattle.purpose.specs.declared.write.PurposeAnswer.{PurposeAnswer}
 use Rattle.purpose.specs.declared.write.PurposeAnswer.the-variants.{Written, Refused}
 
 -- "The first 35 bytes count."
+abbrev pub purposeLong : ℕ
+purposeLong = 35
+
 abbrev pub cut : List ℕ → List ℕ
-cut text = take 35 text
+cut text = take purposeLong text
 
 -- the whole text that a source supplies: a field, or "that 040's field 1, `/`, 030.16"
 abbrev pub sourceText : List ℕ → Source → List ℕ
@@ -34,15 +37,10 @@ abbrev pub textFrom : List ℕ → Sourced → List ℕ
 textFrom s (From source) = cut (sourceText s source)
 textFrom s Nowhere = []
 
--- the file's refusal, handed on
-abbrev pub handedOn : FileAnswer → PurposeAnswer
-handedOn (Accepted totals) = Refused (because NotThere 0)
-handedOn (Refused refusal) = Refused refusal
-
 -- 15, then 13: "output under 35", for an output of so many bytes
 unfoldable pub onSource : Sourced → List ℕ → ℕ → PurposeAnswer
 onSource Nowhere s room = Refused (because NotThere 0)
-onSource (From source) s room = if ltb room 35 then Refused (because OutputTooShort 0) else Written (length (cut (sourceText s source)))
+onSource (From source) s room = if ltb room purposeLong then Refused (because OutputTooShort 0) else Written (length (cut (sourceText s source)))
 
 -- "Order: the file's refusals, 15, 13"
 unfoldable pub onFile : FileAnswer → Sourced → List ℕ → ℕ → PurposeAnswer

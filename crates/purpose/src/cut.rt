@@ -5,13 +5,16 @@ ghost use Prim.Native.Nat.{_+_, _-_, _≤_};
 ghost use lib.ListN.{length, take};
 ghost use Rattle.text.specs.Placed.{written};
 ghost use Rattle.text.specs.Quoted.{bytes};
-ghost use Rattle.purpose.specs.Purpose.{sourceText, cut};
+ghost use Rattle.purpose.specs.Purpose.{purposeLong, sourceText, cut};
 use crate::source::Source;
 use line::field_at;
 
+// The most bytes that a purpose has.
+pub const PURPOSE_LONG: usize = 35;
+
 // Writes the text that this source supplies, and answers how many bytes.
 pub fn write_source(s: &[u8], source: Source, out: &mut [u8]) -> usize
-    requires { ⌜ 35 ≤ length (now out) ⌝ }
+    requires { ⌜ purposeLong ≤ length (now out) ⌝ }
     ensures { λ r. ⌜ (r ≡ length (cut (sourceText (now (s .entry)) source)))
         × (now (out .exit) ≡ written (now (out .entry)) 0 (cut (sourceText (now (s .entry)) source))) ⌝ }
 {
@@ -27,7 +30,7 @@ pub fn write_source(s: &[u8], source: Source, out: &mut [u8]) -> usize
 
 // Writes two texts with a slash between them.
 fn write_joined(out: &mut [u8], a: &[u8], b: &[u8]) -> usize
-    requires { ⌜ 35 ≤ length (now out) ⌝ }
+    requires { ⌜ purposeLong ≤ length (now out) ⌝ }
     ensures { λ r. ⌜ (r ≡ length (cut (now (a .entry) ++ bytes "/" ++ now (b .entry))))
         × (now (out .exit) ≡ written (now (out .entry)) 0 (cut (now (a .entry) ++ bytes "/" ++ now (b .entry)))) ⌝ }
 {
@@ -38,11 +41,11 @@ fn write_joined(out: &mut [u8], a: &[u8], b: &[u8]) -> usize
 
 // Writes src from the place at on, as much of it as the first 35 bytes have room for, and answers where it ends.
 fn write_upto(out: &mut [u8], at: usize, src: &[u8]) -> usize
-    requires { ⌜ (at ≤ 35) × (35 ≤ length (now out)) ⌝ }
-    ensures { λ r. ⌜ (r ≡ at + length (take (35 - at) (now (src .entry)))) × (r ≤ 35)
-        × (now (out .exit) ≡ written (now (out .entry)) at (take (35 - at) (now (src .entry)))) ⌝ }
+    requires { ⌜ (at ≤ purposeLong) × (purposeLong ≤ length (now out)) ⌝ }
+    ensures { λ r. ⌜ (r ≡ at + length (take (purposeLong - at) (now (src .entry)))) × (r ≤ purposeLong)
+        × (now (out .exit) ≡ written (now (out .entry)) at (take (purposeLong - at) (now (src .entry)))) ⌝ }
 {
-    let part = text::clip(src, 0, 35 - at);
+    let part = text::clip(src, 0, PURPOSE_LONG - at);
     text::place(out, at, part);
     at + part.len()
 }

@@ -1,8 +1,9 @@
 // The payment purpose of a line of a file: the file judged, the text's source found, the text written.
 ghost use mathlib.Core.Path.{_≡_};
 ghost use lib.ListN.{length};
-ghost use Rattle.purpose.specs.Purpose.{handedOn, Purposes};
+ghost use Rattle.purpose.specs.Purpose.{Purposes};
 use crate::cut;
+use crate::cut::PURPOSE_LONG;
 use crate::source;
 use crate::source::Sourced;
 use file::FileAnswer;
@@ -20,36 +21,25 @@ pub fn write_purpose(s: &[u8], number: usize, words: &mut [u32], out: &mut [u8])
     ensures { λ r. ⌜ Purposes (now (s .entry)) number (length (now (words .entry))) (now (out .entry)) r (now (words .exit)) (now (out .exit)) ⌝ }
 {
     let answer = file::judge(s, words);
-    let FileAnswer::Accepted(totals) = answer else {
-        return refusal_of(answer);
-    };
-    let sourced = source::find_source(s, words, totals.lines, number);
-    let Sourced::From(source) = sourced else {
-        file::clear(words);
-        return PurposeAnswer::Refused(Refusal {
-            why: Reason::NotThere,
-            place: 0,
-        });
-    };
-    if out.len() < 35 {
-        file::clear(words);
-        return PurposeAnswer::Refused(Refusal {
-            why: Reason::OutputTooShort,
-            place: 0,
-        });
-    }
-    PurposeAnswer::Written(cut::write_source(s, source, out))
-}
-
-// The refusal of a file, handed on.
-fn refusal_of(answer: FileAnswer) -> PurposeAnswer
-    ensures { λ r. ⌜ r ≡ handedOn answer ⌝ }
-{
     match answer {
-        FileAnswer::Accepted(_) => PurposeAnswer::Refused(Refusal {
-            why: Reason::NotThere,
-            place: 0,
-        }),
+        FileAnswer::Accepted(totals) => {
+            let sourced = source::find_source(s, words, totals.lines, number);
+            let Sourced::From(source) = sourced else {
+                file::clear(words);
+                return PurposeAnswer::Refused(Refusal {
+                    why: Reason::NotThere,
+                    place: 0,
+                });
+            };
+            if out.len() < PURPOSE_LONG {
+                file::clear(words);
+                return PurposeAnswer::Refused(Refusal {
+                    why: Reason::OutputTooShort,
+                    place: 0,
+                });
+            }
+            PurposeAnswer::Written(cut::write_source(s, source, out))
+        }
         FileAnswer::Refused(refusal) => PurposeAnswer::Refused(refusal),
     }
 }
