@@ -35,14 +35,14 @@ pub fn find_text(s: &[u8], at: usize) -> TextAnswer
             place: n,
         });
     }
-    let end = line_end(s, at);
-    if !ends_well(s, end) {
+    let stop = line_end(s, at);
+    if !ends_well(s, stop) {
         return TextAnswer::Refused(Refusal {
             why: Reason::NoLineEnd,
-            place: end,
+            place: stop,
         });
     }
-    TextAnswer::Ends(end)
+    TextAnswer::Ends(stop)
 }
 
 // The first byte from here on that is no text byte, or the end of the file.
