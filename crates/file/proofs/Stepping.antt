@@ -1,5 +1,5 @@
 -- One line behind the lines before it, by cases, and what a step that goes on tells.
-use Prim.Native.Nat.{ℕ, _+_, _-_, _≤_}
+use Prim.Native.Nat.{ℕ, _+_, _-_, _≤_, _<_}
 use mathlib.Core.Path.{_≡_, refl, sym, ap, _∙_}
 use mathlib.Core.Bool.{Bool, true, false, not}
 use mathlib.Core.List.{List, [], _∷_, _++_}
@@ -20,6 +20,7 @@ use Rattle.line.specs.declared.read.LineAnswer.{LineAnswer}
 use Rattle.line.specs.declared.read.LineAnswer.the-variants.{Accepted, Refused}
 use Rattle.line.proofs.Accepting.{text-starts, text-inside, next-least, text-is}
 use Rattle.file.proofs.Codes.{accepted-type, accepted-code}
+use Rattle.file.proofs.Lists.{word-left}
 use Rattle.file.proofs.Sowing.{sown-line, sown-tells}
 use Rattle.file.specs.Identcode.{repeats, isThereFor, grownFor, Sown}
 use Rattle.file.specs.Cash.{cashOf}
@@ -56,6 +57,9 @@ module _ (s : List ℕ) (words : ℕ) (starts : List ℕ) (state : State) (a : L
         pub list-stops : not u ≡ true → Stopped ListFull (state .at) ≡ stepAnswer s words starts state
         unfolding onLine
         list-stops h = stepped (Stopped ListFull (state .at)) (rw (el, ← er, fresh, ← eu, h))
+
+        pub word-there : not u ≡ false → state .lines < words
+        word-there h = word-left words (state .lines) (sym eu ∙ not-false u h)
 
         pub line-next : not u ≡ false → (next : State) → next ≡ behind s state line → Next next ≡ stepAnswer s words starts state
         unfolding onLine
@@ -125,14 +129,23 @@ went s words starts state next e = go (lineAnswer (toldBy state) s (state .at)) 
         let b = came-else full (Stopped ListFull (state .at)) (Next (behind s state line)) (Next next) stopped (a .1) in
         record { line = line; accepted = ea; fresh = a .0; room = not-false (hasWord words (state .lines)) (b .0); there = cc }
 
--- no tree is promised behind a line that stops the judge
+-- no tree and no list is promised behind a line that stops the judge
 pub stopped-sown : (s starts codes : List ℕ) (why : Refusal) (place : ℕ) (next : State) → Stopped why place ≡ Next next →
     Sown s starts (next .parcels) codes
 stopped-sown s starts codes why place next e = absurd (stopped e)
 
-pub handed-sown : (s starts codes : List ℕ) (a : LineAnswer) (why : Refusal) (place : ℕ) (r : Step) → a ≡ Refused why place →
-    r ≡ handedOn a → (next : State) → r ≡ Next next → Sown s starts (next .parcels) codes
-handed-sown s starts codes a why place r ea er next e = absurd (stopped (sym (er ∙ ap handedOn ea) ∙ e))
+pub stopped-listed : (list listed : List ℕ) (why : Refusal) (place : ℕ) (next : State) → Stopped why place ≡ Next next → list ≡ listed
+stopped-listed list listed why place next e = absurd (stopped e)
+
+module _ (a : LineAnswer) (why : Refusal) (place : ℕ) (r : Step) (ea : a ≡ Refused why place) (er : r ≡ handedOn a) where
+  handed : (next : State) → r ≡ Next next → ⊥
+  handed next e = stopped (sym (er ∙ ap handedOn ea) ∙ e)
+
+  pub handed-sown : (s starts codes : List ℕ) (next : State) → r ≡ Next next → Sown s starts (next .parcels) codes
+  handed-sown s starts codes next e = absurd (handed next e)
+
+  pub handed-listed : (list listed : List ℕ) (next : State) → r ≡ Next next → list ≡ listed
+  handed-listed list listed next e = absurd (handed next e)
 
 pub was-accepted : (told : Told) (s : List ℕ) (at : ℕ) (a : LineAnswer) (line : Line) → a ≡ lineAnswer told s at → a ≡ Accepted line →
     lineAnswer told s at ≡ Accepted line

@@ -1,7 +1,7 @@
 // One line of a file, judged behind the lines before it.
 ghost use mathlib.Core.Path.{_≡_};
 ghost use Prim.Native.Nat.{_*_, _≤_};
-ghost use lib.ListN.{length};
+ghost use lib.ListN.{length, set};
 ghost use mathlib.Core.List.{[], _∷_, _++_};
 ghost use Rattle.line.specs.Line.{fileLimit, lineAnswer};
 ghost use Rattle.line.specs.declared.read.LineAnswer.the-variants.{Accepted};
@@ -31,8 +31,8 @@ pub enum Step {
     Stopped { why: Refusal, place: usize },
 }
 
-// Judges the line where the state is; the list holds the offsets of the lines before it, and the tree their identcodes.
-pub fn one_line(s: &[u8], words: &[u32], codes: &mut [u32], state: State) -> Step
+// Judges the line where the state is, and lists it; the list holds the offsets of the lines before it, and the tree their identcodes.
+pub fn one_line(s: &[u8], words: &mut [u32], codes: &mut [u32], state: State) -> Step
     requires { ⌜ (state .at ≤ fileLimit) × (state .lines ≤ state .at) × (state .lines ≤ length (now words)) × (state .parcels ≤ state .lines)
         × (state .cents ≤ 99999999 * state .lines) ⌝ }
     requires { ⌜ Sown (now s) (listedSoFar (state .lines) (now words)) (state .parcels) (now codes) × (state .parcels ≤ 2340)
@@ -40,6 +40,7 @@ pub fn one_line(s: &[u8], words: &[u32], codes: &mut [u32], state: State) -> Ste
     ensures { λ r. ⌜ r ≡ stepAnswer (now (s .entry)) (length (now (words .entry))) (listedSoFar (state .lines) (now (words .entry))) state ⌝ }
     ensures { λ r. ⌜ ((next : State) → r ≡ Next next →
         Sown (now (s .entry)) (listedSoFar (state .lines) (now (words .entry)) ++ (state .at ∷ [])) (next .parcels) (now (codes .exit))) ⌝ }
+    ensures { λ r. ⌜ ((next : State) → r ≡ Next next → now (words .exit) ≡ set (now (words .entry)) (state .lines) (state .at)) ⌝ }
 {
     let at = state.at;
     let lines = state.lines;
@@ -61,6 +62,7 @@ pub fn one_line(s: &[u8], words: &[u32], codes: &mut [u32], state: State) -> Ste
             place: at,
         };
     }
+    words[lines] = at as u32;
     Step::Next(behind_line(s, state, line))
 }
 

@@ -53,14 +53,11 @@ fn run(s: &[u8], words: &mut [u32], codes: &mut [u32]) -> FileAnswer
         due: Due::First,
     };
     while state.at < s.len() {
-        let at = state.at;
-        let lines = state.lines;
         let step = step::one_line(s, words, codes, state);
         let Step::Next(next) = step else {
             list::clear(words);
             return refusal_of(step);
         };
-        words[lines] = at as u32;
         state = next;
     }
     let due = state.due;
