@@ -17,7 +17,7 @@ use Rattle.line.specs.Parts.{split}
 use Rattle.line.proofs.Accepting.{next-after}
 use Rattle.fields.proofs.Rules.{sound}
 use Rattle.file.specs.Step.{toldBy, parcelsIn, behind, listedSoFar, stepAnswer}
-use Rattle.file.specs.File.{Judged, begin, ended, onStep, fileFrom, judged, listOf, handed}
+use Rattle.file.specs.File.{Judged, begin, ended, onStep, fileFrom, judged, listOf}
 use Rattle.file.specs.declared.step.State.{State}
 use Rattle.file.specs.declared.step.Step.{Step}
 use Rattle.file.specs.declared.step.Step.the-variants.{Next, Stopped}
@@ -113,19 +113,16 @@ module _ (s : List ℕ) (m : ℕ) (words codes : List ℕ) (state : State) (g : 
     over : (next : State) → step ≡ Next next → Went s m (listedSoFar (state .lines) words) state next
     over next e = went s m (listedSoFar (state .lines) words) state next (sym es ∙ e)
 
-    pub word-there : (next : State) → step ≡ Next next → state .lines < length words
-    word-there next e = omega (arith, word-left m (state .lines) (over next e .room), g .long)
-
     pub less-left : (next : State) → step ≡ Next next → length s - next .at < length s - state .at
     less-left next e =
         let w = over next e in
         let after = next-after (toldBy state) s (state .at) (lineAnswer (toldBy state) s (state .at)) refl (w .line) (w .accepted) in
         omega (arith, after, ap (λ (n : State). n .at) (w .there))
 
-    pub going-more : (next : State) → step ≡ Next next → (after : List ℕ) →
+    pub going-more : (next : State) → step ≡ Next next → (list after : List ℕ) →
         ((n : State) → step ≡ Next n → Sown s (listedSoFar (state .lines) words ++ (state .at ∷ [])) (n .parcels) after) →
-        Going s m (set words (state .lines) (state .at)) after next
-    going-more next e after sown =
+        ((n : State) → step ≡ Next n → list ≡ set words (state .lines) (state .at)) → Going s m list after next
+    going-more next e list after sown listed =
         let w = over next e in
         let line = w .line in
         let now = behind s state line in
@@ -134,7 +131,7 @@ module _ (s : List ℕ) (m : ℕ) (words codes : List ℕ) (state : State) (g : 
         let fewer : length s + 1 - (state .lines + 1) ≡ length s - state .lines = omega arith in
         let on : fileFrom (length s - state .lines) s m (listedSoFar (state .lines) words ++ (state .at ∷ [])) now ≡ judged s m =
         rw (sym es ∙ e, ← w .there) at (turn h) in
-        let list = listed-more words (state .lines) m (state .at) (g .long) (w .room) (g .cleared) in
+        let more-listed = listed-more words (state .lines) m (state .at) (g .long) (w .room) (g .cleared) in
         let more : Going s m (set words (state .lines) (state .at)) after now =
         record {
           small = g .small;
@@ -145,24 +142,26 @@ module _ (s : List ℕ) (m : ℕ) (words codes : List ℕ) (state : State) (g : 
           cents = omega (arith, g .cents, cash-below (line .kind) (split (textAt s (state .at))));
           cleared = unlisted-more words (state .lines) m (state .at) (g .long) (w .room) (g .cleared);
           far = omega (arith, g .far, far);
-          sown = rw list (sown now (e ∙ ap Next (sym (w .there))));
+          sown = rw more-listed (sown now (e ∙ ap Next (sym (w .there))));
           going = ap (λ (n : ℕ). fileFrom n s m (listedSoFar (state .lines + 1) (set words (state .lines) (state .at))) now) fewer
               ∙ ap (λ (l : List ℕ). fileFrom (length s - state .lines) s m l now)
-              list
+              more-listed
               ∙ on;
         } in
-        rw (w .there) at more
+        rw (listed next e) (rw (w .there) at more)
 
     going-stops : (refusal : Refusal) → step ≡ Stopped refusal → judged s m ≡ record { answer = Refused refusal; starts = [] }
     going-stops refusal e = sym (rw (sym es ∙ e) at (turn h))
 
     -- what the code answers and leaves where a line stops it
     module _ (refusal : Refusal) (e : step ≡ Stopped refusal) where
-      pub stop-answer : (r : FileAnswer) → r ≡ handed step → r ≡ judged s m .answer
-      stop-answer r er = er ∙ ap handed e ∙ sym (ap (λ (j : Judged). j .answer) (going-stops refusal e))
+      pub stop-answer : Refused refusal ≡ judged s m .answer
+      stop-answer = sym (ap (λ (j : Judged). j .answer) (going-stops refusal e))
 
-      pub stop-list : (list : List ℕ) → list ≡ replicate (length words) 0 → list ≡ listOf m (judged s m .starts)
-      stop-list list el = el ∙ no-lines s m words (g .long) (judged s m) (ap (λ (j : Judged). j .starts) (going-stops refusal e))
+      pub stop-list : (left list : List ℕ) → length left ≡ length words → list ≡ replicate (length left) 0 →
+          list ≡ listOf m (judged s m .starts)
+      stop-list left list kept el =
+          el ∙ no-lines s m left (kept ∙ g .long) (judged s m) (ap (λ (j : Judged). j .starts) (going-stops refusal e))
 
   module _ (h : length s ≤ state .at) where
     file-ends : (turns : ℕ) → fileFrom turns s m (listedSoFar (state .lines) words) state ≡ ended s (listedSoFar (state .lines) words) state
@@ -200,9 +199,6 @@ module _ (s : List ℕ) (m : ℕ) (words codes : List ℕ) (state : State) (g : 
       pub end-list : not t ≡ false → words ≡ listOf m (judged s m .starts)
       end-list e = list-whole words (state .lines) m (g .long) (g .room) (g .cleared) ∙ sym
           (ap (λ (j : Judged). listOf m (j .starts)) (all-read e))
-
-pub handed-as : (step case : Step) (r : FileAnswer) → step ≡ case → r ≡ handed case → r ≡ handed step
-handed-as step case r e f = rw e f
 
 -- the list's length is what it was
 module _ (s : List ℕ) (m n : ℕ) (e : m ≡ n) where

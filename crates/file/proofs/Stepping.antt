@@ -1,5 +1,5 @@
 -- One line behind the lines before it, by cases, and what a step that goes on tells.
-use Prim.Native.Nat.{ℕ, _+_, _-_, _≤_}
+use Prim.Native.Nat.{ℕ, _+_, _-_, _≤_, _<_}
 use mathlib.Core.Path.{_≡_, refl, sym, ap, _∙_}
 use mathlib.Core.Bool.{Bool, true, false, not}
 use mathlib.Core.List.{List, [], _∷_, _++_}
@@ -21,26 +21,24 @@ use Rattle.line.specs.declared.read.LineAnswer.{LineAnswer}
 use Rattle.line.specs.declared.read.LineAnswer.the-variants.{Accepted, Refused}
 use Rattle.line.proofs.Accepting.{text-starts, text-inside, next-least, text-is}
 use Rattle.file.proofs.Codes.{accepted-type, accepted-code}
+use Rattle.file.proofs.Lists.{word-left}
 use Rattle.file.proofs.Sowing.{sown-line, sown-tells}
 use Rattle.file.specs.Identcode.{repeats, isThereFor, grownFor, Sown}
 use Rattle.file.specs.Cash.{cashOf}
 use Rattle.fields.proofs.Rules.{sound}
-use Rattle.file.specs.Step.{toldBy, parcelsIn, behind, handedOn, hasWord, onLine, stepAnswer}
+use Rattle.file.specs.Step.{toldBy, parcelsIn, behind, hasWord, onLine, stepAnswer}
 use Rattle.file.specs.declared.step.State.{State}
 use Rattle.file.specs.declared.step.Step.{Step}
 use Rattle.file.specs.declared.step.Step.the-variants.{Next, Stopped}
-
-pub handed-as : (a case : LineAnswer) (r : Step) → a ≡ case → r ≡ handedOn case → r ≡ handedOn a
-handed-as a case r e f = rw e f
 
 module _ (s : List ℕ) (words : ℕ) (starts : List ℕ) (state : State) (a : LineAnswer) (ea : a ≡ lineAnswer (toldBy state) s (state .at)) where
   stepped : (r : Step) → r ≡ onLine a s words starts state → r ≡ stepAnswer s words starts state
   unfolding stepAnswer
   stepped r e = e ∙ ap (λ (x : LineAnswer). onLine x s words starts state) ea
 
-  pub line-stops : (refusal : Refusal) (r : Step) → a ≡ Refused refusal → r ≡ handedOn a → r ≡ stepAnswer s words starts state
+  pub line-stops : (refusal : Refusal) → a ≡ Refused refusal → Stopped refusal ≡ stepAnswer s words starts state
   unfolding onLine
-  line-stops refusal r e er = stepped r (er ∙ rw e)
+  line-stops refusal e = stepped (Stopped refusal) (rw e)
 
   module _ (line : Line) (el : a ≡ Accepted line) (codes : List ℕ) (g : Sown s starts (state .parcels) codes) (t : Bool) (et : t ≡ isThereFor (line .kind) s codes (state .parcels) (state .at)) where
     er : t ≡ repeats (line .kind) s starts (state .at)
@@ -57,6 +55,9 @@ module _ (s : List ℕ) (words : ℕ) (starts : List ℕ) (state : State) (a : L
         pub list-stops : not u ≡ true → Stopped (because ListFull (state .at)) ≡ stepAnswer s words starts state
         unfolding onLine
         list-stops h = stepped (Stopped (because ListFull (state .at))) (rw (el, ← er, fresh, ← eu, h))
+
+        pub word-there : not u ≡ false → state .lines < words
+        word-there h = word-left words (state .lines) (sym eu ∙ not-false u h)
 
         pub line-next : not u ≡ false → (next : State) → next ≡ behind s state line → Next next ≡ stepAnswer s words starts state
         unfolding onLine
@@ -126,14 +127,13 @@ went s words starts state next e = go (lineAnswer (toldBy state) s (state .at)) 
         let b = came-else full (Stopped (because ListFull (state .at))) (Next (behind s state line)) (Next next) stopped (a .1) in
         record { line = line; accepted = ea; fresh = a .0; room = not-false (hasWord words (state .lines)) (b .0); there = cc }
 
--- no tree is promised behind a line that stops the judge
+-- no tree and no list is promised behind a line that stops the judge
 pub stopped-sown : (s starts codes : List ℕ) (refusal : Refusal) (next : State) → Stopped refusal ≡ Next next →
     Sown s starts (next .parcels) codes
 stopped-sown s starts codes refusal next e = absurd (stopped e)
 
-pub handed-sown : (s starts codes : List ℕ) (a : LineAnswer) (refusal : Refusal) (r : Step) → a ≡ Refused refusal →
-    r ≡ handedOn a → (next : State) → r ≡ Next next → Sown s starts (next .parcels) codes
-handed-sown s starts codes a refusal r ea er next e = absurd (stopped (sym (er ∙ ap handedOn ea) ∙ e))
+pub stopped-listed : (list listed : List ℕ) (refusal : Refusal) (next : State) → Stopped refusal ≡ Next next → list ≡ listed
+stopped-listed list listed refusal next e = absurd (stopped e)
 
 pub was-accepted : (told : Told) (s : List ℕ) (at : ℕ) (a : LineAnswer) (line : Line) → a ≡ lineAnswer told s at → a ≡ Accepted line →
     lineAnswer told s at ≡ Accepted line

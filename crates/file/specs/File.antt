@@ -6,7 +6,7 @@ use lib.Dec.{ltb}
 use lib.ListN.{length, replicate}
 use Rattle.text.specs.Choice.{if_then_else_}
 use Rattle.refusal.specs.Table.{because, verdictOf, Verdict}
-use Rattle.refusal.specs.declared.Reason.the-variants.{FileTooLong, FileEnds, NotThere}
+use Rattle.refusal.specs.declared.Reason.the-variants.{FileTooLong, FileEnds}
 use Rattle.fields.specs.Record.{mayEnd}
 use Rattle.fields.specs.declared.record.Due.the-variants.{First}
 use Rattle.line.specs.Line.{fileLimit}
@@ -63,11 +63,6 @@ listOf words starts = starts ++ replicate (words - length starts) 0
 -- the answer and the list that judging allows
 abbrev pub Judges : List ℕ → ℕ → FileAnswer → List ℕ → Type 0
 Judges s words answer list = (answer ≡ judged s words .answer) × (list ≡ listOf words (judged s words .starts))
-
--- a line's refusal, handed on
-abbrev pub handed : Step → FileAnswer
-handed (Next state) = Refused (because NotThere 0)
-handed (Stopped refusal) = Refused refusal
 
 -- the paper's number and place for each answer
 abbrev pub fileVerdict : FileAnswer → Verdict

@@ -5,7 +5,7 @@ use mathlib.Core.List.{List}
 use lib.Dec.{ltb}
 use lib.ListN.{take}
 use Rattle.text.specs.Choice.{if_then_else_}
-use Rattle.refusal.specs.declared.Reason.the-variants.{IdentcodeRepeated, ListFull, NotThere}
+use Rattle.refusal.specs.declared.Reason.the-variants.{IdentcodeRepeated, ListFull}
 use Rattle.refusal.specs.Table.{because}
 use Rattle.fields.specs.Record.{_isA_}
 use Rattle.fields.specs.declared.record.Record.{Record}
@@ -38,11 +38,6 @@ behind s state line =
       cents = state .cents + cashOf (line .kind) (split (textAt s (state .at)));
       due = After (line .kind);
     }
-
--- the line's refusal, handed on
-abbrev pub handedOn : LineAnswer → Step
-handedOn (Accepted line) = Stopped (because NotThere 0)
-handedOn (Refused refusal) = Stopped refusal
 
 -- what the list holds behind so many lines: where each of them starts
 unfoldable pub listedSoFar : ℕ → List ℕ → List ℕ

@@ -1,11 +1,11 @@
 // One line of a file, judged behind the lines before it.
 ghost use mathlib.Core.Path.{_≡_};
 ghost use Prim.Native.Nat.{_*_, _≤_};
-ghost use lib.ListN.{length};
+ghost use lib.ListN.{length, set};
 ghost use mathlib.Core.List.{[], _∷_, _++_};
 ghost use Rattle.line.specs.Line.{fileLimit, lineAnswer};
 ghost use Rattle.line.specs.declared.read.LineAnswer.the-variants.{Accepted};
-ghost use Rattle.file.specs.Step.{toldBy, handedOn, parcelsIn, behind, listedSoFar, hasWord, stepAnswer};
+ghost use Rattle.file.specs.Step.{toldBy, parcelsIn, behind, listedSoFar, hasWord, stepAnswer};
 ghost use Rattle.file.specs.Identcode.{Sown};
 ghost use Rattle.file.specs.declared.step.State.{State};
 ghost use Rattle.file.specs.declared.step.Step.the-variants.{Next};
@@ -32,8 +32,8 @@ pub enum Step {
     Stopped(Refusal),
 }
 
-// Judges the line where the state is; the list holds the offsets of the lines before it, and the tree their identcodes.
-pub fn one_line(s: &[u8], words: &[u32], codes: &mut [u32], state: State) -> Step
+// Judges the line where the state is, and lists it; the list holds the offsets of the lines before it, and the tree their identcodes.
+pub fn one_line(s: &[u8], words: &mut [u32], codes: &mut [u32], state: State) -> Step
     requires { ⌜ (state .at ≤ fileLimit) × (state .lines ≤ state .at) × (state .lines ≤ length (now words)) × (state .parcels ≤ state .lines)
         × (state .cents ≤ 99999999 * state .lines) ⌝ }
     requires { ⌜ Sown (now s) (listedSoFar (state .lines) (now words)) (state .parcels) (now codes) × (state .parcels ≤ 2340)
@@ -41,28 +41,32 @@ pub fn one_line(s: &[u8], words: &[u32], codes: &mut [u32], state: State) -> Ste
     ensures { λ r. ⌜ r ≡ stepAnswer (now (s .entry)) (length (now (words .entry))) (listedSoFar (state .lines) (now (words .entry))) state ⌝ }
     ensures { λ r. ⌜ ((next : State) → r ≡ Next next →
         Sown (now (s .entry)) (listedSoFar (state .lines) (now (words .entry)) ++ (state .at ∷ [])) (next .parcels) (now (codes .exit))) ⌝ }
+    ensures { λ r. ⌜ ((next : State) → r ≡ Next next → now (words .exit) ≡ set (now (words .entry)) (state .lines) (state .at)) ⌝ }
 {
     let at = state.at;
     let lines = state.lines;
     let due = state.due;
     let answer = line::judge_line(due, s, at);
-    let LineAnswer::Accepted(line) = answer else {
-        return refusal_of(answer);
-    };
-    let kind = line.kind;
-    if identcode::is_repeated(kind, s, codes, state.parcels, at) {
-        return Step::Stopped(Refusal {
-            why: Reason::IdentcodeRepeated,
-            place: at + 4,
-        });
+    match answer {
+        LineAnswer::Accepted(line) => {
+            let kind = line.kind;
+            if identcode::is_repeated(kind, s, codes, state.parcels, at) {
+                return Step::Stopped(Refusal {
+                    why: Reason::IdentcodeRepeated,
+                    place: at + 4,
+                });
+            }
+            if !has_word(words, lines) {
+                return Step::Stopped(Refusal {
+                    why: Reason::ListFull,
+                    place: at,
+                });
+            }
+            words[lines] = at as u32;
+            Step::Next(behind_line(s, state, line))
+        }
+        LineAnswer::Refused(refusal) => Step::Stopped(refusal),
     }
-    if !has_word(words, lines) {
-        return Step::Stopped(Refusal {
-            why: Reason::ListFull,
-            place: at,
-        });
-    }
-    Step::Next(behind_line(s, state, line))
 }
 
 // Whether the list has a word for the line behind so many.
@@ -87,19 +91,6 @@ fn behind_line(s: &[u8], state: State, line: Line) -> State
         parcels: state.parcels + parcels_in(kind),
         cents: state.cents + cash::cash_of(kind, &s[at..end]),
         due: Due::After(kind),
-    }
-}
-
-// The refusal of a line, handed on.
-fn refusal_of(answer: LineAnswer) -> Step
-    ensures { λ r. ⌜ r ≡ handedOn answer ⌝ }
-{
-    match answer {
-        LineAnswer::Accepted(_) => Step::Stopped(Refusal {
-            why: Reason::NotThere,
-            place: 0,
-        }),
-        LineAnswer::Refused(refusal) => Step::Stopped(refusal),
     }
 }
 

@@ -3,7 +3,7 @@ ghost use mathlib.Core.Path.{_≡_};
 ghost use Prim.Native.Nat.{_≤_};
 ghost use lib.ListN.{length, replicate};
 ghost use Rattle.line.specs.Line.{fileLimit};
-ghost use Rattle.file.specs.File.{handed, Judges};
+ghost use Rattle.file.specs.File.{Judges};
 use crate::list;
 use crate::step;
 use crate::step::State;
@@ -54,15 +54,16 @@ fn run(s: &[u8], words: &mut [u32], codes: &mut [u32]) -> FileAnswer
         due: Due::First,
     };
     while state.at < s.len() {
-        let at = state.at;
-        let lines = state.lines;
         let step = step::one_line(s, words, codes, state);
-        let Step::Next(next) = step else {
-            list::clear(words);
-            return refusal_of(step);
-        };
-        words[lines] = at as u32;
-        state = next;
+        match step {
+            Step::Next(next) => {
+                state = next;
+            }
+            Step::Stopped(refusal) => {
+                list::clear(words);
+                return FileAnswer::Refused(refusal);
+            }
+        }
     }
     let due = state.due;
     if !fields::may_end(due) {
@@ -77,17 +78,4 @@ fn run(s: &[u8], words: &mut [u32], codes: &mut [u32]) -> FileAnswer
         parcels: state.parcels,
         cents: state.cents,
     })
-}
-
-// The refusal of a line, handed on.
-fn refusal_of(step: Step) -> FileAnswer
-    ensures { λ r. ⌜ r ≡ handed step ⌝ }
-{
-    match step {
-        Step::Next(_) => FileAnswer::Refused(Refusal {
-            why: Reason::NotThere,
-            place: 0,
-        }),
-        Step::Stopped(refusal) => FileAnswer::Refused(refusal),
-    }
 }
