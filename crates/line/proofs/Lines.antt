@@ -45,7 +45,7 @@ module _ (s : List ℕ) (end : ℕ) where
 pub text-to : (s : List ℕ) (at end : ℕ) → end ≡ lineEnd s at → take (end - at) (drop at s) ≡ textAt s at
 text-to s at end e = ap (λ (k : ℕ). take (k - at) (drop at s)) e
 
--- the number of fields, the fields, then what the feature needs
+-- the number of fields, then the fields
 module _ (rules : Rules) (kind : Record) (at : ℕ) (line : List ℕ) (n : ℕ) (en : n ≡ count semicolon line) (t : Bool) (et : t ≡ countFits kind n) where
   fits : t ≡ countFits kind (length (fieldsOf line))
   fits = et ∙ ap (countFits kind) (count-fields n line en)
@@ -54,24 +54,27 @@ module _ (rules : Rules) (kind : Record) (at : ℕ) (line : List ℕ) (n : ℕ) 
   unfolding ofKind
   count-wrong e = rw (← fits, e)
 
-  module _ (right : not t ≡ false) (w : Walk) (ew : w ≡ walk (rules kind) 1 (at + length (nameOf line) + 1) (nameOf line) (fieldsOf line)) where
-    walked : (a : LineAnswer) → a ≡ afterWalk w kind at line → a ≡ ofKind rules kind at line
-    unfolding ofKind
-    walked a e = rw (← fits, right) (e ∙ ap (λ (v : Walk). afterWalk v kind at line) ew)
+  pub count-right :
+      not t ≡ false → (w : Walk) → w ≡ walk (rules kind) 1 (at + length (nameOf line) + 1) (nameOf line) (fieldsOf line) →
+      (a : LineAnswer) → a ≡ afterWalk w kind at line → a ≡ ofKind rules kind at line
+  unfolding ofKind
+  count-right right w ew a e = rw (← fits, right) (e ∙ ap (λ (v : Walk). afterWalk v kind at line) ew)
 
-    pub field-wrong : (refusal : Refusal) → w ≡ Stopped refusal → Refused refusal ≡ ofKind rules kind at line
+-- a field that stops the walk, then what the feature needs
+module _ (kind : Record) (at : ℕ) (line : List ℕ) (w : Walk) where
+  pub field-wrong : (refusal : Refusal) → w ≡ Stopped refusal → Refused refusal ≡ afterWalk w kind at line
+  unfolding afterWalk
+  field-wrong refusal e = rw e
+
+  module _ (fine : w ≡ Fine) (u : Bool) (eu : u ≡ lacks kind (split line)) where
+    pub lacks-one : u ≡ true → Refused (because FeatureLacks at) ≡ afterWalk w kind at line
     unfolding afterWalk
-    field-wrong refusal e = walked (Refused refusal) (rw e)
+    lacks-one e = rw (fine, ← eu, e)
 
-    module _ (fine : w ≡ Fine) (u : Bool) (eu : u ≡ lacks kind (split line)) where
-      pub lacks-one : u ≡ true → Refused (because FeatureLacks at) ≡ ofKind rules kind at line
-      unfolding afterWalk
-      lacks-one e = walked (Refused (because FeatureLacks at)) (rw (fine, ← eu, e))
-
-      pub has-all : u ≡ false → Accepted (record { kind = kind; count = n; next = at + length line + 2 }) ≡ ofKind rules kind at line
-      unfolding afterWalk
-      has-all e = walked (Accepted (record { kind = kind; count = n; next = at + length line + 2 }))
-          (rw (fine, ← eu, e, ← count-fields n line en))
+    pub has-all : u ≡ false → (n : ℕ) → n ≡ length (fieldsOf line) →
+        Accepted (record { kind = kind; count = n; next = at + length line + 2 }) ≡ afterWalk w kind at line
+    unfolding afterWalk
+    has-all e n en = rw (fine, ← eu, e, en)
 
 -- the record type, then the order
 module _ (told : Told) (at : ℕ) (line name : List ℕ) (en : name ≡ nameOf line) (nd : Named) (ed : nd ≡ named name) where

@@ -3,8 +3,8 @@ ghost use mathlib.Core.Path.{_≡_};
 ghost use Prim.Native.Nat.{_+_, _≤_};
 ghost use lib.ListN.{length};
 ghost use Rattle.fields.specs.Profile.{profile};
-ghost use Rattle.line.specs.Parts.{nameOf};
-ghost use Rattle.line.specs.Line.{ofText, ofKind, alone, fileLimit, lineAnswer};
+ghost use Rattle.line.specs.Parts.{nameOf, fieldsOf};
+ghost use Rattle.line.specs.Line.{ofText, ofKind, afterWalk, alone, fileLimit, lineAnswer};
 use crate::need;
 use crate::part::field_in;
 use crate::scan;
@@ -82,6 +82,14 @@ fn of_kind(kind: Record, at: usize, line: &[u8], name: usize) -> LineAnswer
         });
     }
     let walked = walk::walk_fields(kind, line, at, name);
+    after_walk(walked, kind, count, at, line)
+}
+
+// The fields of a line, so many, are in order or one is not; then what a feature needs.
+fn after_walk(walked: Walk, kind: Record, count: usize, at: usize, line: &[u8]) -> LineAnswer
+    requires { ⌜ (count ≡ length (fieldsOf (now line))) × (at + length (now line) ≤ fileLimit) ⌝ }
+    ensures { λ r. ⌜ r ≡ afterWalk walked kind at (now (line .entry)) ⌝ }
+{
     if let Walk::Stopped(refusal) = walked {
         return LineAnswer::Refused(refusal);
     }
