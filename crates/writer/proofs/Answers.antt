@@ -4,7 +4,7 @@ use mathlib.Core.Path.{_≡_, refl, sym, ap, _∙_}
 use mathlib.Core.Bool.{Bool, true, false, not}
 use mathlib.Core.List.{List, _∷_, _++_, append-assoc}
 use native.Mathlib.Omega.{arith}
-use lib.ListN.{length, take, drop}
+use lib.ListN.{length, take, drop, length-take}
 use lib.Seq.{take-at}
 use borrow.Author.Tests.{le-leb, lt-leb, ne-eqb, not-false}
 use Rattle.text.specs.Quoted.{bytes}
@@ -26,7 +26,7 @@ use Rattle.fields.proofs.Rules.{count-le, sound}
 use Rattle.line.specs.Render.{textOf, render}
 use Rattle.line.proofs.Plain.{render-long, plain-split}
 use Rattle.line.proofs.Passing.{Each, fine-each}
-use Rattle.writer.specs.Write.{recordNumbered, endsHold, between, testedToWrite, nextNumber, walked, ofFields, ofRecord, writeAnswer, lineTo, writtenTo}
+use Rattle.writer.specs.Write.{recordNumbered, endsHold, between, testedToWrite, nextNumber, walked, ofFields, afterWalk, ofRecord, writeAnswer, lineTo, writtenTo}
 use Rattle.writer.specs.declared.write.WriteAnswer.{WriteAnswer}
 use Rattle.writer.specs.declared.write.WriteAnswer.the-variants.{Written, Refused}
 use Rattle.writer.proofs.Ends.{between-count}
@@ -93,51 +93,69 @@ module _ (kind : Record) (text ends room line : List ℕ) (long : ℕ) (fits : l
   line-there out after fill l h e = e ∙ ap (placed out fill) line-taken
       ∙ placed-there out fill (render kind (between text ends)) (omega (arith, en))
 
--- the record, the ends, the count, the fields
+-- the record
 module _ (number : ℕ) (text ends : List ℕ) (size fill : ℕ) (nd : Named) (ed : nd ≡ recordNumbered number) where
-  recorded : (a : WriteAnswer) → a ≡ ofRecord nd text ends size fill → a ≡ writeAnswer number text ends size fill
-  unfolding writeAnswer
-  recorded a e = e ∙ ap (λ (m : Named). ofRecord m text ends size fill) ed
-
   pub number-unknown : nd ≡ Unknown → Refused (because UnknownRecord 0) ≡ writeAnswer number text ends size fill
+  unfolding writeAnswer ofRecord
+  number-unknown e = rw (← ed, e)
+
+  pub number-known : (kind : Record) → nd ≡ Known kind → (a : WriteAnswer) → a ≡ ofRecord (Known kind) text ends size fill →
+      a ≡ writeAnswer number text ends size fill
+  unfolding writeAnswer
+  number-known kind e a ea = rw (← ed, e) ea
+
+-- the ends, then the count
+module _ (kind : Record) (text ends : List ℕ) (size fill : ℕ) (t : Bool) (et : t ≡ endsHold ends (length text)) where
+  pub ends-wrong : not t ≡ true → Refused (because FieldEnds 0) ≡ ofRecord (Known kind) text ends size fill
   unfolding ofRecord
-  number-unknown e = recorded (Refused (because UnknownRecord 0)) (rw e)
+  ends-wrong e = rw (← et, e)
 
-  module _ (kind : Record) (known : nd ≡ Known kind) (t : Bool) (et : t ≡ endsHold ends (length text)) where
-    pub ends-wrong : not t ≡ true → Refused (because FieldEnds 0) ≡ writeAnswer number text ends size fill
-    unfolding ofRecord
-    ends-wrong e = recorded (Refused (because FieldEnds 0)) (rw (known, ← et, e))
+  module _ (hold : not t ≡ false) where
+    pub ends-held : endsHold ends (length text) ≡ true
+    ends-held = sym et ∙ not-false t hold
 
-    module _ (hold : not t ≡ false) (u : Bool) (eu : u ≡ countFits kind (length ends)) where
-      pub count-wrong : not u ≡ true → Refused (because FieldCount 0) ≡ writeAnswer number text ends size fill
+    module _ (u : Bool) (eu : u ≡ countFits kind (length ends)) where
+      pub count-wrong : not u ≡ true → Refused (because FieldCount 0) ≡ ofRecord (Known kind) text ends size fill
       unfolding ofRecord
-      count-wrong e = recorded (Refused (because FieldCount 0)) (rw (known, ← et, hold, ← eu, e))
+      count-wrong e = rw (← et, hold, ← eu, e)
 
-      module _ (right : not u ≡ false) (w : Walk) (ew : w ≡ walked (profile kind) 1 (typeOf kind) (between text ends)) where
-        pub field-wrong : (refusal : Refusal) → w ≡ Stopped refusal →
-            Refused refusal ≡ writeAnswer number text ends size fill
+      module _ (right : not u ≡ false) where
+        pub count-right : countFits kind (length ends) ≡ true
+        count-right = sym eu ∙ not-false u right
+
+        pub counted : (a : WriteAnswer) → a ≡ afterWalk (walked (profile kind) 1 (typeOf kind) (between text ends)) kind (between text ends) size fill →
+            a ≡ ofRecord (Known kind) text ends size fill
         unfolding ofRecord
-        field-wrong refusal e = recorded (Refused refusal) (rw (known, ← et, hold, ← eu, right, ← ew, e))
+        counted a ea = rw (← et, hold, ← eu, right) ea
 
-        pub fields-good : w ≡ Fine → (a : WriteAnswer) → a ≡ ofFields kind (between text ends) size fill →
-            a ≡ writeAnswer number text ends size fill
-        unfolding ofRecord
-        fields-good e a ea = recorded a (rw (known, ← et, hold, ← eu, right, ← ew, e) ea)
+-- the fields
+module _ (kind : Record) (text ends : List ℕ) (w : Walk) (ew : w ≡ walked (profile kind) 1 (typeOf kind) (between text ends)) where
+  pub field-wrong : (size fill : ℕ) (refusal : Refusal) → w ≡ Stopped refusal →
+      Refused refusal ≡ afterWalk (walked (profile kind) 1 (typeOf kind) (between text ends)) kind (between text ends) size fill
+  field-wrong size fill refusal e = rw (← ew, e)
 
--- what the next function asks of its arguments
-pub ends-held : (ends : List ℕ) (long : ℕ) (t : Bool) → t ≡ endsHold ends long → not t ≡ false → endsHold ends long ≡ true
-ends-held ends long t et hold = sym et ∙ not-false t hold
+  module _ (fine : w ≡ Fine) where
+    pub walk-fine : walked (profile kind) 1 (typeOf kind) (between text ends) ≡ Fine
+    walk-fine = sym ew ∙ fine
 
-module _ (kind : Record) (text ends : List ℕ) (w : Walk) (ew : w ≡ walked (profile kind) 1 (typeOf kind) (between text ends)) (fine : w ≡ Fine) where
-  pub walk-fine : walked (profile kind) 1 (typeOf kind) (between text ends) ≡ Fine
-  walk-fine = sym ew ∙ fine
+    pub fields-good : (size fill : ℕ) (a : WriteAnswer) → a ≡ ofFields kind (between text ends) size fill →
+        a ≡ afterWalk (walked (profile kind) 1 (typeOf kind) (between text ends)) kind (between text ends) size fill
+    fields-good size fill a ea = rw walk-fine ea
 
-  pub line-small : (t u : Bool) → t ≡ endsHold ends (length text) → not t ≡ false → u ≡ countFits kind (length ends) → not u ≡ false →
-      length text + length ends + 5 ≤ 4096
-  line-small t u et hold eu right =
-      let c = count-le kind (length ends) (sym eu ∙ not-false u right) in
-      let f = walked-le (profile kind) (sound .narrows kind) 1 (typeOf kind) (between text ends) (each kind text ends walk-fine) in
-      omega (arith, c, f, between-count text ends, together-long kind text ends (ends-held ends (length text) t et hold))
+    pub line-small : endsHold ends (length text) ≡ true → countFits kind (length ends) ≡ true → length text + length ends + 5 ≤ 4096
+    line-small hold right =
+        let c = count-le kind (length ends) right in
+        let f = walked-le (profile kind) (sound .narrows kind) 1 (typeOf kind) (between text ends) (each kind text ends walk-fine) in
+        omega (arith, c, f, between-count text ends, together-long kind text ends hold)
+
+-- the line put together: as much of it as is asked is there
+module _ (text ends room line : List ℕ) (long : ℕ) (fits : length text + length ends + 5 ≤ length room) (kept : length line ≡ length room)
+    (en : long ≡ length text + length ends + 5) where
+  pub line-long : long ≡ length (take long line)
+  line-long = omega (arith, length-take long line)
+
+  pub text-long : long - 2 ≡ length (take (long - 2) line)
+  text-long = omega (arith, length-take (long - 2) line)
 
 -- the output
 pub output-stays : (refusal : Refusal) (nd : Named) (fs : List (List ℕ)) (out : List ℕ) (fill : ℕ) →

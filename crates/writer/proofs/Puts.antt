@@ -1,6 +1,6 @@
 -- A line put together piece by piece.
 use Prim.Native.Nat.{ℕ, _+_, _-_, _≤_, _<_}
-use mathlib.Core.Path.{_≡_, sym, ap, _∙_}
+use mathlib.Core.Path.{_≡_, refl, sym, ap, _∙_}
 use mathlib.Core.Bool.{true}
 use mathlib.Core.List.{List, [], _∷_, _++_}
 use native.Mathlib.Numerals.{add-one}
@@ -22,45 +22,65 @@ use Rattle.writer.proofs.Ends.{end-rises, rest-rises, end-inside, field
 pub type-as : (out room : List ℕ) (kind case : Record) → kind ≡ case → out ≡ placed room 0 (typeOf case) → out ≡ placed room 0 (typeOf kind)
 type-as out room kind case e f = rw e f
 
--- a loop at the field behind i others, which starts at start in the text: each premise is a fact that the loop has
-module _ (text ends room : List ℕ) (i start : ℕ) (whole : List ℕ)
-    (left : placed room (start + i + 3) (joined (fieldsFrom start text (drop i ends))) ≡ whole) where
-  pub put-done : length ends ≤ i → room ≡ whole
-  put-done h =
+-- the loop at the field behind i others, which starts at start in the text: what is left, put now, gives the whole
+pub record Putting (front text ends room : List ℕ) (start i : ℕ) : Type 0 where
+  pub counted : i ≤ length ends
+  pub inside : start ≤ length text
+  pub size : length room ≡ length front
+  pub rises : risesTo (length text) start (drop i ends) ≡ true
+  pub left :
+      placed room (start + i + 3) (joined (fieldsFrom start text (drop i ends))) ≡ placed front 3 (joined (between text ends))
+
+pub putting-none : (front text ends : List ℕ) → endsHold ends (length text) ≡ true → Putting front text ends front 0 0
+unfolding endsHold between
+putting-none front text ends e = record { counted = omega arith; inside = omega arith; size = refl; rises = e; left = refl }
+
+module _ (front text ends room : List ℕ) (start i : ℕ) (g : Putting front text ends room start i) where
+  pub putting-done : length ends ≤ i → room ≡ placed front 3 (joined (between text ends))
+  putting-done h =
       let e : drop i ends ≡ [] = drop-of-length-le ends h in
       sym (ap (λ (l : List ℕ). placed room (start + i + 3) (joined (fieldsFrom start text l))) e ∙ placed-none room (start + i + 3) [])
-      ∙ left
+      ∙ g .left
 
-  module _ (h : i < length ends) (rises : risesTo (length text) start (drop i ends) ≡ true) (size : ℕ) (same : length room ≡ size)
-      (fits : length text + length ends + 3 ≤ size) where
-    pub put-on : (semi o : List ℕ) → semi ≡ placed room (start + i + 3) (bytes ";") →
+  module _ (h : i < length ends) where
+    pub next-rises : start ≤ getD ends i 0
+    next-rises = end-rises (length text) ends i start (g .rises) h
+
+    pub next-inside : getD ends i 0 ≤ length text
+    next-inside = end-inside (length text) ends i start (g .rises) h
+
+    pub putting-on :
+        length text + length ends + 3 ≤ length front → (semi o : List ℕ) → semi ≡ placed room (start + i + 3) (bytes ";") →
         o ≡ placed semi (start + i + 4) (take (getD ends i 0 - start) (drop start text)) →
-        placed o (getD ends i 0 + (i + 1) + 3) (joined (fieldsFrom (getD ends i 0) text (drop (i + 1) ends))) ≡ whole
-    put-on semi o es eo =
+        Putting front text ends o (getD ends i 0) (i + 1)
+    putting-on fits semi o es eo =
         let end = getD ends i 0 in
         let f = take (getD ends i 0 - start) (drop start text) in
         let r = joined (fieldsFrom (getD ends i 0) text (drop (i + 1) ends)) in
-        let u = end-rises (length text) ends i start rises h in
-        let v = end-inside (length text) ends i start rises h in
-        let n : length f ≡ end - start = field-long text start end u v in
-        let m = joined-long end text (drop (i + 1) ends) (rest-rises (length text) ends i start rises h) in
+        let rises = rest-rises (length text) ends i start (g .rises) h in
+        let n : length f ≡ end - start = field-long text start end next-rises next-inside in
+        let m = joined-long end text (drop (i + 1) ends) rises in
         let d = length-drop (i + 1) ends in
-        let a : end + (i + 1) + 3 ≡ start + i + 4 + length f = omega (arith, n, u) in
+        let a : end + (i + 1) + 3 ≡ start + i + 4 + length f = omega (arith, n, next-rises) in
         let b : start + i + 4 ≡ start + i + 3 + length (bytes ";") = omega arith in
-        let k : length semi ≡ size = ap length es ∙ placed-long room (start + i + 3) (bytes ";") ∙ same in
+        let k : length semi ≡ length front = ap length es ∙ placed-long room (start + i + 3) (bytes ";") ∙ g .size in
         let c : drop i ends ≡ getD ends i 0 ∷ drop (i + 1) ends = rw add-one (drop-cons ends i 0 h) in
-        ap (λ (p : ℕ). placed o p r) a
-        ∙ ap (λ (l : List ℕ). placed l (start + i + 4 + length f) r) eo
-        ∙ placed-on semi (start + i + 4) f r (omega (arith, n, m, d, u, v, k))
-        ∙ ap (λ (p : ℕ). placed semi p (f ++ r)) b
-        ∙ ap (λ (l : List ℕ). placed l (start + i + 3 + length (bytes ";")) (f ++ r)) es
-        ∙ placed-on room (start + i + 3) (bytes ";") (f ++ r) (omega (arith, n, m, d, u, v, length-append f r))
-        ∙ ap (λ (l : List ℕ). placed room (start + i + 3) (joined (fieldsFrom start text l))) (sym c)
-        ∙ left
-
-pub still-long : (room semi o f g : List ℕ) (at next size : ℕ) → length room ≡ size → semi ≡ placed room at f → o ≡ placed semi next g →
-    length o ≡ size
-still-long room semi o f g at next size e es eo = ap length eo ∙ placed-long semi next g ∙ ap length es ∙ placed-long room at f ∙ e
+        record {
+          counted = omega arith;
+          inside = next-inside;
+          size = ap length eo ∙ placed-long semi (start + i + 4) f ∙ k;
+          rises = rises;
+          left =
+              ap (λ (p : ℕ). placed o p r) a
+              ∙ ap (λ (l : List ℕ). placed l (start + i + 4 + length f) r) eo
+              ∙ placed-on semi (start + i + 4) f r (omega (arith, n, m, d, next-rises, next-inside, k))
+              ∙ ap (λ (p : ℕ). placed semi p (f ++ r)) b
+              ∙ ap (λ (l : List ℕ). placed l (start + i + 3 + length (bytes ";")) (f ++ r)) es
+              ∙ placed-on room (start + i + 3) (bytes ";") (f ++ r)
+              (omega (arith, n, m, d, next-rises, next-inside, length-append f r, g .size))
+              ∙ ap (λ (l : List ℕ). placed room (start + i + 3) (joined (fieldsFrom start text l))) (sym c)
+              ∙ g .left;
+        }
 
 -- the line as a whole
 module _ (kind : Record) (text ends : List ℕ) (rises : endsHold ends (length text) ≡ true) where

@@ -27,7 +27,8 @@ use Rattle.line.specs.declared.walk.Walk.{Walk}
 use Rattle.line.specs.declared.walk.Walk.the-variants.{Fine, Stopped}
 use Rattle.line.proofs.Splits.{allIn}
 use Rattle.line.proofs.Passing.{Each, each-le}
-use Rattle.writer.specs.Write.{fieldsFrom, between, ifPlain, testedToWrite, walked}
+use Rattle.writer.specs.Write.{risesTo, endsHold, fieldsFrom, between, ifPlain, testedToWrite, walked}
+use Rattle.writer.proofs.Ends.{end-rises, rest-rises, end-inside}
 
 module _ (rows : List Row) (n : ℕ) (beside f : List ℕ) (t : Tested) (et : t ≡ tested rows n beside f) where
   pub test-bad : (why : Reason) → t ≡ Bad why → Bad why ≡ testedToWrite rows n beside f
@@ -62,31 +63,62 @@ pub walk-starts : (kind : Record) (text ends : List ℕ) → walked (profile kin
 unfolding between
 walk-starts kind text ends = besides-alike kind (take (0 - 0) (drop 0 text)) (typeOf kind) (between text ends)
 
--- a loop at the field behind i others: each premise is a fact that the loop has
-module _ (rows : List Row) (text ends : List ℕ) (i start : ℕ) (beside : List ℕ) (whole : Walk)
-    (left : walked rows (i + 1) beside (fieldsFrom start text (drop i ends)) ≡ whole) where
-  pub walk-done : length ends ≤ i → Fine ≡ whole
-  walk-done h = sym (rw (drop-of-length-le ends)) ∙ left
+-- the loop at the field behind i others, which starts at start; beside it stands the one that starts at beside
+pub record Walking (kind : Record) (text ends : List ℕ) (beside start i : ℕ) : Type 0 where
+  pub counted : i ≤ length ends
+  pub behind : beside ≤ start
+  pub inside : start ≤ length text
+  pub rises : risesTo (length text) start (drop i ends) ≡ true
+  pub left :
+      walked (profile kind) (i + 1) (take (start - beside) (drop beside text)) (fieldsFrom start text (drop i ends)) ≡ walked
+      (profile kind) 1 (typeOf kind) (between text ends)
 
-  module _ (h : i < length ends) (t : Tested) (et : t ≡ testedToWrite rows (i + 1) beside
-      (take (getD ends i 0 - start) (drop start text))) where
-    turn : onTest t (i + 1) (walked rows (suc (i + 1)) (take (getD ends i 0 - start) (drop start text))
-        (fieldsFrom (getD ends i 0) text (drop (suc i) ends))) ≡ whole
-    turn = rw et (sym (ap (λ (l : List ℕ). walked rows (i + 1) beside (fieldsFrom start text l)) (drop-cons ends i 0 h)) ∙ left)
+pub walking-none : (kind : Record) (text ends : List ℕ) → endsHold ends (length text) ≡ true → Walking kind text ends 0 0 0
+unfolding endsHold
+walking-none kind text ends e =
+    record { counted = omega arith; behind = omega arith; inside = omega arith; rises = e; left = walk-starts kind text ends }
 
-    pub walk-stops : (why : Reason) → t ≡ Bad why → Stopped (because why (i + 1)) ≡ whole
-    walk-stops why e = rw e at turn
+module _ (kind : Record) (text ends : List ℕ) (beside start i : ℕ) (g : Walking kind text ends beside start i) where
+  pub walking-done : length ends ≤ i → Fine ≡ walked (profile kind) 1 (typeOf kind) (between text ends)
+  walking-done h = sym (rw (drop-of-length-le ends)) ∙ g .left
 
-    pub walk-on : t ≡ Good → walked rows (i + 1 + 1) (take (getD ends i 0 - start) (drop start text))
-        (fieldsFrom (getD ends i 0) text (drop (i + 1) ends)) ≡ whole
-    walk-on e =
-        let on : walked rows (suc (i + 1)) (take (getD ends i 0 - start) (drop start text))
-        (fieldsFrom (getD ends i 0) text (drop (suc i) ends)) ≡ whole = rw e at turn in
-        ap (λ (n : ℕ). walked rows n (take (getD ends i 0 - start) (drop start text))
-        (fieldsFrom (getD ends i 0) text (drop (i + 1) ends))) (add-one (i + 1))
-        ∙ ap (λ (n : ℕ). walked rows (suc (i + 1)) (take (getD ends i 0 - start) (drop start text))
-        (fieldsFrom (getD ends i 0) text (drop n ends))) (add-one i)
-        ∙ on
+  module _ (h : i < length ends) where
+    pub next-rises : start ≤ getD ends i 0
+    next-rises = end-rises (length text) ends i start (g .rises) h
+
+    pub next-inside : getD ends i 0 ≤ length text
+    next-inside = end-inside (length text) ends i start (g .rises) h
+
+    module _ (t : Tested) (et : t ≡ testedToWrite (profile kind) (i + 1) (take (start - beside) (drop beside text))
+        (take (getD ends i 0 - start) (drop start text))) where
+      abbrev field : List ℕ
+      field = take (getD ends i 0 - start) (drop start text)
+
+      turn : onTest t (i + 1) (walked (profile kind) (suc (i + 1)) field (fieldsFrom (getD ends i 0) text (drop (suc i) ends))) ≡ walked
+          (profile kind) 1 (typeOf kind) (between text ends)
+      turn =
+          rw et
+          (sym (ap (λ (l : List ℕ). walked (profile kind) (i + 1) (take (start - beside) (drop beside text)) (fieldsFrom start text l))
+          (drop-cons ends i 0 h)) ∙ g .left)
+
+      pub walking-stops : (why : Reason) → t ≡ Bad why →
+          Stopped (because why (i + 1)) ≡ walked (profile kind) 1 (typeOf kind) (between text ends)
+      walking-stops why e = rw e at turn
+
+      pub walking-on : t ≡ Good → Walking kind text ends start (getD ends i 0) (i + 1)
+      walking-on e =
+          let on : walked (profile kind) (suc (i + 1)) field (fieldsFrom (getD ends i 0) text (drop (suc i) ends)) ≡ walked
+          (profile kind) 1 (typeOf kind) (between text ends) = rw e at turn in
+          record {
+            counted = omega arith;
+            behind = next-rises;
+            inside = next-inside;
+            rises = rest-rises (length text) ends i start (g .rises) h;
+            left =
+                ap (λ (n : ℕ). walked (profile kind) n field (fieldsFrom (getD ends i 0) text (drop (i + 1) ends))) (add-one (i + 1))
+                ∙ ap (λ (n : ℕ). walked (profile kind) (suc (i + 1)) field (fieldsFrom (getD ends i 0) text (drop n ends))) (add-one i)
+                ∙ on;
+          }
 
 -- a field that is written passes the reader's test and is plain
 pub test-passes : (rows : List Row) (n : ℕ) (beside f : List ℕ) → testedToWrite rows n beside f ≡ Good →

@@ -3,10 +3,10 @@ ghost use mathlib.Core.Path.{_≡_};
 ghost use mathlib.Core.Bool.{true};
 ghost use Prim.Native.Nat.{_+_, _≤_};
 ghost use lib.ListN.{length};
-ghost use Rattle.fields.specs.Record.{typeOf};
+ghost use Rattle.fields.specs.Record.{typeOf, countFits};
 ghost use Rattle.fields.specs.Profile.{profile};
 ghost use Rattle.line.specs.declared.walk.Walk.the-variants.{Fine};
-ghost use Rattle.writer.specs.Write.{recordNumbered, endsHold, between, walked, ofFields, lineTo, Writes};
+ghost use Rattle.writer.specs.Write.{recordNumbered, endsHold, between, walked, ofFields, afterWalk, ofRecord, lineTo, Writes};
 use crate::put;
 use crate::test;
 use fields::Named;
@@ -39,6 +39,14 @@ pub fn write_line(
             place: 0,
         });
     };
+    of_record(kind, text, ends, out, fill)
+}
+
+// The same for a record that is known.
+fn of_record(kind: Record, text: &[u8], ends: &[usize], out: &mut [u8], fill: usize) -> WriteAnswer
+    ensures { λ r. ⌜ (r ≡ ofRecord (Named.Known kind) (now (text .entry)) (now (ends .entry)) (length (now (out .entry))) fill)
+        × (now (out .exit) ≡ lineTo r kind (between (now (text .entry)) (now (ends .entry))) (now (out .entry)) fill) ⌝ }
+{
     if !test::ends_hold(ends, text.len()) {
         return WriteAnswer::Refused(Refusal {
             why: Reason::FieldEnds,
@@ -51,6 +59,16 @@ pub fn write_line(
             place: 0,
         });
     }
+    of_counted(kind, text, ends, out, fill)
+}
+
+// The same for as many fields as the record may have.
+fn of_counted(kind: Record, text: &[u8], ends: &[usize], out: &mut [u8], fill: usize) -> WriteAnswer
+    requires { ⌜ (endsHold (now ends) (length (now text)) ≡ true) × (countFits kind (length (now ends)) ≡ true) ⌝ }
+    ensures { λ r. ⌜ (r ≡ afterWalk (walked (profile kind) 1 (typeOf kind) (between (now (text .entry)) (now (ends .entry)))) kind
+        (between (now (text .entry)) (now (ends .entry))) (length (now (out .entry))) fill)
+        × (now (out .exit) ≡ lineTo r kind (between (now (text .entry)) (now (ends .entry))) (now (out .entry)) fill) ⌝ }
+{
     let walked = test::walk_fields(kind, text, ends);
     if let Walk::Stopped(refusal) = walked {
         return WriteAnswer::Refused(refusal);
