@@ -9,7 +9,7 @@ use Rattle.fields.specs.declared.record.Record.{Record}
 use Rattle.identcodes.specs.declared.CodeAnswer.{CodeAnswer}
 use Rattle.identcodes.specs.declared.CodeAnswer.the-variants.{Known, New, NoRoom}
 use Rattle.identcodes.specs.Tree.{isThere, grown, hasRoom, codeAnswer, treeAfter}
-use Rattle.identcodes.proofs.Answers.{room-there, known-there, new-there, room-grows, room-answers}
+use Rattle.identcodes.proofs.Answers.{room-there, answer-tells, room-answers, room-grows}
 use Rattle.line.specs.Line.{fileLimit}
 use Rattle.file.specs.Identcode.{isThereFor, grownFor}
 
@@ -20,10 +20,10 @@ module _ (s codes : List ℕ) (parcels at : ℕ) (long : 4681 ≤ length codes) 
 
   module _ (answer : CodeAnswer) (ea : answer ≡ codeAnswer s codes parcels at) where
     pub is-there : answer ≡ Known → true ≡ isThere s codes parcels at
-    is-there e = known-there s codes parcels at room (sym ea ∙ e)
+    is-there e = answer-tells s codes parcels at room true (sym ea ∙ e)
 
     pub is-new : answer ≡ New → false ≡ isThere s codes parcels at
-    is-new e = new-there s codes parcels at room (sym ea ∙ e)
+    is-new e = answer-tells s codes parcels at room false (sym ea ∙ e)
 
     pub has-room : answer ≡ NoRoom → false ≡ isThere s codes parcels at
     has-room e = absurd (room-answers s codes parcels at room (sym ea ∙ e))

@@ -17,7 +17,7 @@ use Rattle.line.specs.Parts.{split}
 use Rattle.line.proofs.Accepting.{next-after}
 use Rattle.fields.proofs.Rules.{sound}
 use Rattle.file.specs.Step.{toldBy, parcelsIn, behind, listedSoFar, stepAnswer}
-use Rattle.file.specs.File.{Judged, begin, ended, onStep, fileFrom, judged, listOf}
+use Rattle.file.specs.File.{Judged, begin, passed, ended, onStep, fileFrom, judged, listOf, Judges}
 use Rattle.file.specs.declared.step.State.{State}
 use Rattle.file.specs.declared.step.Step.{Step}
 use Rattle.file.specs.declared.step.Step.the-variants.{Next, Stopped}
@@ -76,22 +76,19 @@ parcels-le Parcel = omega arith
 parcels-le Product = omega arith
 parcels-le Feature = omega arith
 
--- where no line is listed all words are 0
-no-lines : (s : List ℕ) (m : ℕ) (words : List ℕ) → length words ≡ m → (j : Judged) → j .starts ≡ [] →
-    replicate (length words) 0 ≡ listOf m (j .starts)
-no-lines s m words long j e = let k : length words ≡ m - 0 = omega arith in ap (λ (n : ℕ). replicate n 0) k ∙ sym (ap (listOf m) e)
+-- a file of which this is said lists no line: all words are 0
+all-clear : (s : List ℕ) (m : ℕ) (a : FileAnswer) → judged s m ≡ record { answer = a; starts = [] } → (words list : List ℕ) →
+    length words ≡ m → list ≡ replicate (length words) 0 → Judges s m a list
+all-clear s m a e words list long el =
+    let k : length words ≡ m - 0 = omega arith in (
+      sym (ap (λ (j : Judged). j .answer) e),
+      el ∙ ap (λ (n : ℕ). replicate n 0) k ∙ sym (ap (λ (j : Judged). listOf m (j .starts)) e),
+    )
 
-module _ (s : List ℕ) (m : ℕ) (h : fileLimit < length s) where
-  long-is : judged s m ≡ record { answer = Refused (because FileTooLong fileLimit); starts = [] }
-  unfolding judged
-  long-is = rw (lt-ltb fileLimit (length s) h)
-
-  pub long-answer : Refused (because FileTooLong fileLimit) ≡ judged s m .answer
-  long-answer = sym (ap (λ (j : Judged). j .answer) long-is)
-
-  pub long-list : (words : List ℕ) → length words ≡ m → (list : List ℕ) → list ≡ replicate (length words) 0 →
-      list ≡ listOf m (judged s m .starts)
-  long-list words long list e = e ∙ no-lines s m words long (judged s m) (ap (λ (j : Judged). j .starts) long-is)
+pub long-judged : (s : List ℕ) (m : ℕ) → fileLimit < length s → (words list : List ℕ) → length words ≡ m → list ≡ replicate (length words) 0 →
+    Judges s m (Refused (because FileTooLong fileLimit)) list
+unfolding judged
+long-judged s m h = all-clear s m (Refused (because FileTooLong fileLimit)) (rw (lt-ltb fileLimit (length s) h))
 
 module _ (s : List ℕ) (m : ℕ) (words codes : List ℕ) (state : State) (g : Going s m words codes state) where
   -- so few parcels have room in a file
@@ -150,18 +147,10 @@ module _ (s : List ℕ) (m : ℕ) (words codes : List ℕ) (state : State) (g : 
         } in
         rw (listed next e) (rw (w .there) at more)
 
-    going-stops : (refusal : Refusal) → step ≡ Stopped refusal → judged s m ≡ record { answer = Refused refusal; starts = [] }
-    going-stops refusal e = sym (rw (sym es ∙ e) at (turn h))
-
     -- what the code answers and leaves where a line stops it
-    module _ (refusal : Refusal) (e : step ≡ Stopped refusal) where
-      pub stop-answer : Refused refusal ≡ judged s m .answer
-      stop-answer = sym (ap (λ (j : Judged). j .answer) (going-stops refusal e))
-
-      pub stop-list : (left list : List ℕ) → length left ≡ length words → list ≡ replicate (length left) 0 →
-          list ≡ listOf m (judged s m .starts)
-      stop-list left list kept el =
-          el ∙ no-lines s m left (kept ∙ g .long) (judged s m) (ap (λ (j : Judged). j .starts) (going-stops refusal e))
+    pub stop-judged : (refusal : Refusal) → step ≡ Stopped refusal → (left list : List ℕ) → length left ≡ length words →
+        list ≡ replicate (length left) 0 → Judges s m (Refused refusal) list
+    stop-judged refusal e left list kept el = all-clear s m (Refused refusal) (sym (rw (sym es ∙ e) at (turn h))) left list (kept ∙ g .long) el
 
   module _ (h : length s ≤ state .at) where
     file-ends : (turns : ℕ) → fileFrom turns s m (listedSoFar (state .lines) words) state ≡ ended s (listedSoFar (state .lines) words) state
@@ -172,41 +161,21 @@ module _ (s : List ℕ) (m : ℕ) (words codes : List ℕ) (state : State) (g : 
     at-end = sym (g .going) ∙ file-ends (length s + 1 - state .lines)
 
     module _ (t : Bool) (et : t ≡ mayEnd (state .due)) where
-      due-left : not t ≡ true → judged s m ≡ record { answer = Refused (because FileEnds (length s)); starts = [] }
-      due-left e = at-end ∙ rw (← et, not-true t e)
+      pub due-judged : not t ≡ true → (list : List ℕ) → list ≡ replicate (length words) 0 → Judges s m (Refused (because FileEnds (length s))) list
+      due-judged e list el = all-clear s m (Refused (because FileEnds (length s))) (at-end ∙ rw (← et, not-true t e)) words list (g .long) el
 
-      pub due-answer : not t ≡ true → Refused (because FileEnds (length s)) ≡ judged s m .answer
-      due-answer e = sym (ap (λ (j : Judged). j .answer) (due-left e))
-
-      pub due-list : not t ≡ true → (list : List ℕ) → list ≡ replicate (length words) 0 → list ≡ listOf m (judged s m .starts)
-      due-list e list el = el ∙ no-lines s m words (g .long) (judged s m) (ap (λ (j : Judged). j .starts) (due-left e))
-
-      all-read : not t ≡ false → judged s m ≡ record {
-        answer = Accepted
-            (record { lines = state .lines; parcels = state .parcels; cents = state .cents });
-        starts = listedSoFar (state .lines) words;
-      }
-      all-read e = at-end ∙ rw (← et, not-false t e)
-
-      pub end-answer : not t ≡ false → Accepted (record {
-        lines = state .lines;
-        parcels = state .parcels;
-        cents =
-            state .cents;
-      }) ≡ judged s m .answer
-      end-answer e = sym (ap (λ (j : Judged). j .answer) (all-read e))
-
-      pub end-list : not t ≡ false → words ≡ listOf m (judged s m .starts)
-      end-list e = list-whole words (state .lines) m (g .long) (g .room) (g .cleared) ∙ sym
-          (ap (λ (j : Judged). listOf m (j .starts)) (all-read e))
+      pub end-judged : not t ≡ false →
+          Judges s m (Accepted (record { lines = state .lines; parcels = state .parcels; cents = state .cents })) words
+      end-judged e =
+          let all-read : judged s m ≡ passed (listedSoFar (state .lines) words) state = at-end ∙ rw (← et, not-false t e) in (
+            sym (ap (λ (j : Judged). j .answer) all-read),
+            list-whole words (state .lines) m (g .long) (g .room) (g .cleared)
+                ∙ sym (ap (λ (j : Judged). listOf m (j .starts)) all-read),
+          )
 
 -- the list's length is what it was
-module _ (s : List ℕ) (m n : ℕ) (e : m ≡ n) where
-  pub same-answer : (r : FileAnswer) → r ≡ judged s m .answer → r ≡ judged s n .answer
-  same-answer r er = er ∙ ap (λ (k : ℕ). judged s k .answer) e
-
-  pub same-list : (list : List ℕ) → list ≡ listOf m (judged s m .starts) → list ≡ listOf n (judged s n .starts)
-  same-list list el = el ∙ ap (λ (k : ℕ). listOf k (judged s k .starts)) e
+pub same-judged : (s : List ℕ) (m n : ℕ) → m ≡ n → (r : FileAnswer) (list : List ℕ) → Judges s m r list → Judges s n r list
+same-judged s m n e r list j = rw e at j
 
 pub clear-now : (words words₀ : List ℕ) → length words ≡ length words₀ → words ≡ replicate (length words₀) 0 →
     words ≡ replicate (length words) 0

@@ -29,25 +29,20 @@ unfolding hasRoom
 room-there tree parcels at long few small =
     rw (lt-ltb at 65536 small, le-leb (wordsOf (parcels + 1)) 65536 few, le-leb (wordsOf (parcels + 1)) (length tree) long)
 
--- the third answer is never given where there is room
+-- where there is room the answer tells whether the code is there, and the third is never given
 module _ (s tree : List ℕ) (parcels at : ℕ) (room : hasRoom tree parcels at ≡ true) where
   chosen : codeAnswer s tree parcels at ≡ (if isThere s tree parcels at then Known else New)
   unfolding codeAnswer
   chosen = rw room
 
-  pub known-there : codeAnswer s tree parcels at ≡ Known → true ≡ isThere s tree parcels at
-  known-there e = go (isThere s tree parcels at) (sym chosen ∙ e)
+  pub answer-tells : (t : Bool) → codeAnswer s tree parcels at ≡ (if t then Known else New) → t ≡ isThere s tree parcels at
+  answer-tells t e = go t (isThere s tree parcels at) (sym chosen ∙ e)
     where
-      go : (t : Bool) → (if t then Known else New) ≡ Known → true ≡ t
-      go true e = refl
-      go false e = let z : _≡_ {A = ℕ} 0 1 = cc in absurd (omega arith)
-
-  pub new-there : codeAnswer s tree parcels at ≡ New → false ≡ isThere s tree parcels at
-  new-there e = go (isThere s tree parcels at) (sym chosen ∙ e)
-    where
-      go : (t : Bool) → (if t then Known else New) ≡ New → false ≡ t
-      go true e = let z : _≡_ {A = ℕ} 0 1 = cc in absurd (omega arith)
-      go false e = refl
+      go : (t u : Bool) → (if u then Known else New) ≡ (if t then Known else New) → t ≡ u
+      go true true e = refl
+      go true false e = let z : _≡_ {A = ℕ} 0 1 = cc in absurd (omega arith)
+      go false true e = let z : _≡_ {A = ℕ} 0 1 = cc in absurd (omega arith)
+      go false false e = refl
 
   pub room-answers : codeAnswer s tree parcels at ≡ NoRoom → ⊥
   room-answers e = go (isThere s tree parcels at) (sym chosen ∙ e)

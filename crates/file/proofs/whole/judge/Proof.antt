@@ -1,10 +1,10 @@
 -- `whole::judge` meets its contract.
-use Rattle.file.proofs.Going.{long-answer, long-list, same-answer, same-list, clear-now}
+use Rattle.file.proofs.Going.{long-judged, same-judged, clear-now}
 use borrow.Author.Needs.{needs}
 use Rattle.file.proofs.whole.judge.Statement.{statement}
 use Rattle.file.proofs.whole.judge.Tie as tie
 
-ruleset laws = (needs, long-answer, long-list, same-answer, same-list, clear-now)
+ruleset laws = (needs, long-judged, same-judged, clear-now)
 
 pub judge-spec : {M : Type 1} → statement M
 judge-spec =

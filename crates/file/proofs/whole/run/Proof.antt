@@ -2,13 +2,13 @@
 use Prim.Native.Nat.{_-_}
 use mathlib.Core.Path.{_≡_}
 use lib.ListN.{length}
-use Rattle.file.proofs.Going.{Going, going-none, going-more, less-left, few-parcels, room-kept, stop-answer, stop-list}
-use Rattle.file.proofs.Going.{due-answer, due-list, end-answer, end-list}
+use Rattle.file.proofs.Going.{Going, going-none, going-more, less-left, few-parcels, room-kept}
+use Rattle.file.proofs.Going.{stop-judged, due-judged, end-judged}
 use borrow.Author.Needs.{needs}
 use Rattle.file.proofs.whole.run.Statement.{statement}
 use Rattle.file.proofs.whole.run.Tie as tie
 
-ruleset laws = (needs, going-none, going-more, less-left, few-parcels, room-kept, stop-answer, stop-list, due-answer, due-list, end-answer, end-list)
+ruleset laws = (needs, going-none, going-more, less-left, few-parcels, room-kept, stop-judged, due-judged, end-judged)
 
 abbrev Inv-loop : tie.InvT-loop
 Inv-loop s words₀ codes₀ state₀ words codes state = Going s (length words₀) words codes state × (length codes ≡ length codes₀)
