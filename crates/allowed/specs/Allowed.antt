@@ -63,10 +63,10 @@ NoneTwice [] = Unit {0}
 NoneTwice (c ∷ cs) = (oneOfCodes c cs ≡ false) × NoneTwice cs
 
 -- an allowed file, and its lines
-pub record AllowedFile (s : List ℕ) (ls : List FileLine) : Type 0 where
-  pub bytes : s ≡ fileBytes ls
+pub record AllowedFile (file : List ℕ) (ls : List FileLine) : Type 0 where
+  pub bytes : file ≡ fileBytes ls
   -- "At most 65,535 bytes."
-  pub small : length s ≤ fileLimit
+  pub small : length file ≤ fileLimit
   pub lines : LinesOk ls
   pub order : InOrder First ls
   pub codes : NoneTwice (identcodes ls)
@@ -87,5 +87,5 @@ totalsOf ls = record { lines = length ls; parcels = parcelCount ls; cents = cash
 
 -- "that line's first offset": where lines start, the first of them at this offset
 abbrev pub lineStarts : ℕ → List FileLine → List ℕ
-lineStarts at [] = []
-lineStarts at (l ∷ ls) = at ∷ lineStarts (at + length (lineBytes l)) ls
+lineStarts offset [] = []
+lineStarts offset (l ∷ ls) = offset ∷ lineStarts (offset + length (lineBytes l)) ls

@@ -32,9 +32,9 @@ passed starts state =
 
 -- "12 comes last": the file may end here, or a record is due
 abbrev pub ended : List ℕ → List ℕ → State → Judged
-ended s starts state =
+ended file starts state =
     if mayEnd (state .due) then passed starts state
-    else record { answer = Refused (because FileEnds (length s)); starts = [] }
+    else record { answer = Refused (because FileEnds (length file)); starts = [] }
 
 -- a refused line is the file's refusal; behind an accepted one the next follows
 abbrev pub onStep : Step → (State → Judged) → Judged
@@ -44,17 +44,17 @@ onStep (Stopped refusal) more = record { answer = Refused refusal; starts = [] }
 -- the file from a state on, with a list of so many words, behind the lines that start at these places. A file has fewer lines
 -- than bytes, so that as many turns as bytes, and one for the end, are enough.
 abbrev pub fileFrom : ℕ → List ℕ → ℕ → List ℕ → State → Judged
-fileFrom zero s words starts state = ended s starts state
-fileFrom (suc turns) s words starts state =
-    if ltb (state .at) (length s) then
-    onStep (stepAnswer s words starts state) (λ next. fileFrom turns s words (starts ++ (state .at ∷ [])) next)
-    else ended s starts state
+fileFrom zero file words starts state = ended file starts state
+fileFrom (suc turns) file words starts state =
+    if ltb (state .at) (length file) then
+    onStep (stepAnswer file words starts state) (λ next. fileFrom turns file words (starts ++ (state .at ∷ [])) next)
+    else ended file starts state
 
 -- "1 comes first of all."
 unfoldable pub judged : List ℕ → ℕ → Judged
-judged s words =
-    if ltb fileLimit (length s) then record { answer = Refused (because FileTooLong fileLimit); starts = [] }
-    else fileFrom (length s + 1) s words [] begin
+judged file words =
+    if ltb fileLimit (length file) then record { answer = Refused (because FileTooLong fileLimit); starts = [] }
+    else fileFrom (length file + 1) file words [] begin
 
 -- "every word below the line count holds that line's first offset, and every other word is 0. On a refusal all words are 0."
 abbrev pub listOf : ℕ → List ℕ → List ℕ
@@ -62,7 +62,7 @@ listOf words starts = starts ++ replicate (words - length starts) 0
 
 -- the answer and the list that judging allows
 abbrev pub Judges : List ℕ → ℕ → FileAnswer → List ℕ → Type 0
-Judges s words answer list = (answer ≡ judged s words .answer) × (list ≡ listOf words (judged s words .starts))
+Judges file words answer list = (answer ≡ judged file words .answer) × (list ≡ listOf words (judged file words .starts))
 
 -- the paper's number and place for each answer
 abbrev pub fileVerdict : FileAnswer → Verdict

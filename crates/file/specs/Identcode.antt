@@ -16,25 +16,25 @@ use Rattle.fields.specs.declared.record.Record.the-variants.{Parcel}
 
 -- a parcel line with the same identcode starts at the place earlier
 unfoldable pub sameParcel : List ℕ → ℕ → ℕ → Bool
-sameParcel s earlier at = same (take 3 (drop earlier s)) (bytes "040") && same (identcodeAt s earlier) (identcodeAt s at)
+sameParcel file earlier offset = same (take 3 (drop earlier file)) (bytes "040") && same (identcodeAt file earlier) (identcodeAt file offset)
 
 -- "identcode already on an earlier line": one of those that start at these places
 abbrev pub onEarlier : List ℕ → List ℕ → ℕ → Bool
-onEarlier s [] at = false
-onEarlier s (earlier ∷ starts) at = sameParcel s earlier at || onEarlier s starts at
+onEarlier file [] offset = false
+onEarlier file (earlier ∷ starts) offset = sameParcel file earlier offset || onEarlier file starts offset
 
 unfoldable pub repeats : Record → List ℕ → List ℕ → ℕ → Bool
-repeats kind s starts at = kind isA Parcel && onEarlier s starts at
+repeats kind file starts offset = kind isA Parcel && onEarlier file starts offset
 
 -- what the tree of identcodes tells of a line, and the tree then: only a parcel has an identcode
 unfoldable pub isThereFor : Record → List ℕ → List ℕ → ℕ → ℕ → Bool
-isThereFor kind s tree parcels at = kind isA Parcel && isThere s tree parcels at
+isThereFor kind file tree parcels offset = kind isA Parcel && isThere file tree parcels offset
 
 unfoldable pub grownFor : Record → List ℕ → List ℕ → ℕ → ℕ → List ℕ
-grownFor kind s tree parcels at = if kind isA Parcel then grown s tree parcels at else tree
+grownFor kind file tree parcels offset = if kind isA Parcel then grown file tree parcels offset else tree
 
 -- the tree of so many parcels tells which identcodes stand on the lines that start at these places. No promise to a caller speaks of
 -- it: it holds from line to line.
-pub record Sown (s starts : List ℕ) (parcels : ℕ) (tree : List ℕ) : Type 0 where
-  pub whole : Tree s parcels tree
-  pub tells : (at : ℕ) → identcode (identcodeAt s at) ≡ true → onEarlier s starts at ≡ isThere s tree parcels at
+pub record Sown (file starts : List ℕ) (parcels : ℕ) (tree : List ℕ) : Type 0 where
+  pub whole : Tree file parcels tree
+  pub tells : (offset : ℕ) → identcode (identcodeAt file offset) ≡ true → onEarlier file starts offset ≡ isThere file tree parcels offset

@@ -30,12 +30,12 @@ parcelsIn kind = if kind isA Parcel then 1 else 0
 
 -- the state behind an accepted line
 abbrev pub behind : List ℕ → State → Line → State
-behind s state line =
+behind file state line =
     record {
       at = line .next;
       lines = state .lines + 1;
       parcels = state .parcels + parcelsIn (line .kind);
-      cents = state .cents + cashOf (line .kind) (split (textAt s (state .at)));
+      cents = state .cents + cashOf (line .kind) (split (textAt file (state .at)));
       due = After (line .kind);
     }
 
@@ -49,15 +49,15 @@ hasWord words lines = ltb lines words
 
 -- the line's answer, with a list of so many words, behind the lines that start at these places
 unfoldable pub onLine : LineAnswer → List ℕ → ℕ → List ℕ → State → Step
-onLine (Refused refusal) s words starts state = Stopped refusal
-onLine (Accepted line) s words starts state =
-    if repeats (line .kind) s starts (state .at) then Stopped (because IdentcodeRepeated (state .at + 4))
+onLine (Refused refusal) file words starts state = Stopped refusal
+onLine (Accepted line) file words starts state =
+    if repeats (line .kind) file starts (state .at) then Stopped (because IdentcodeRepeated (state .at + 4))
     else if not (hasWord words (state .lines)) then Stopped (because ListFull (state .at))
-    else Next (behind s state line)
+    else Next (behind file state line)
 
 -- what the judge of the next line is told
 abbrev pub toldBy : State → Told
 toldBy state = record { rules = profile; due = state .due }
 
 unfoldable pub stepAnswer : List ℕ → ℕ → List ℕ → State → Step
-stepAnswer s words starts state = onLine (lineAnswer (toldBy state) s (state .at)) s words starts state
+stepAnswer file words starts state = onLine (lineAnswer (toldBy state) file (state .at)) file words starts state

@@ -9,28 +9,34 @@ use fields::Record;
 use identcodes::CodeAnswer;
 
 // Whether the line of this record that starts here repeats an identcode of the tree; one that is new is put into it.
-pub fn is_repeated(kind: Record, s: &[u8], codes: &mut [u32], parcels: usize, at: usize) -> bool
-    requires { ⌜ (4681 ≤ length (now codes)) × (parcels ≤ 2340) × (at ≤ fileLimit) ⌝ }
-    ensures { λ r. ⌜ (r ≡ isThereFor kind (now (s .entry)) (now (codes .entry)) parcels at)
-        × (now (codes .exit) ≡ grownFor kind (now (s .entry)) (now (codes .entry)) parcels at) ⌝ }
+pub fn is_repeated(
+    kind: Record,
+    file: &[u8],
+    codes: &mut [u32],
+    parcels: usize,
+    offset: usize,
+) -> bool
+    requires { ⌜ (4681 ≤ length (now codes)) × (parcels ≤ 2340) × (offset ≤ fileLimit) ⌝ }
+    ensures { λ r. ⌜ (r ≡ isThereFor kind (now (file .entry)) (now (codes .entry)) parcels offset)
+        × (now (codes .exit) ≡ grownFor kind (now (file .entry)) (now (codes .entry)) parcels offset) ⌝ }
 {
     match kind {
         Record::Header => false,
         Record::Sender => false,
         Record::Shipment => false,
-        Record::Parcel => is_known(s, codes, parcels, at),
+        Record::Parcel => is_known(file, codes, parcels, offset),
         Record::Product => false,
         Record::Feature => false,
     }
 }
 
 // The same for a parcel line.
-fn is_known(s: &[u8], codes: &mut [u32], parcels: usize, at: usize) -> bool
-    requires { ⌜ (4681 ≤ length (now codes)) × (parcels ≤ 2340) × (at ≤ fileLimit) ⌝ }
-    ensures { λ r. ⌜ (r ≡ isThere (now (s .entry)) (now (codes .entry)) parcels at)
-        × (now (codes .exit) ≡ grown (now (s .entry)) (now (codes .entry)) parcels at) ⌝ }
+fn is_known(file: &[u8], codes: &mut [u32], parcels: usize, offset: usize) -> bool
+    requires { ⌜ (4681 ≤ length (now codes)) × (parcels ≤ 2340) × (offset ≤ fileLimit) ⌝ }
+    ensures { λ r. ⌜ (r ≡ isThere (now (file .entry)) (now (codes .entry)) parcels offset)
+        × (now (codes .exit) ≡ grown (now (file .entry)) (now (codes .entry)) parcels offset) ⌝ }
 {
-    let answer = identcodes::find_or_grow(s, codes, parcels, at);
+    let answer = identcodes::find_or_grow(file, codes, parcels, offset);
     match answer {
         CodeAnswer::Known => true,
         CodeAnswer::New => false,

@@ -3,12 +3,12 @@ ghost use mathlib.Core.Path.{_≡_};
 ghost use lib.ListN.{length, replicate, getD};
 
 // Clears the list.
-pub fn clear(words: &mut [u32])
-    ensures { λ _. ⌜ now (words .exit) ≡ replicate (length (now (words .entry))) 0 ⌝ }
+pub fn clear(list: &mut [u32])
+    ensures { λ _. ⌜ now (list .exit) ≡ replicate (length (now (list .entry))) 0 ⌝ }
 {
     let mut i: usize = 0;
-    while i < words.len() {
-        words[i] = 0;
+    while i < list.len() {
+        list[i] = 0;
         i += 1;
     }
 }

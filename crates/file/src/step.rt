@@ -33,63 +33,63 @@ pub enum Step {
 }
 
 // Judges the line where the state is, and lists it; the list holds the offsets of the lines before it, and the tree their identcodes.
-pub fn one_line(s: &[u8], words: &mut [u32], codes: &mut [u32], state: State) -> Step
-    requires { ⌜ (state .at ≤ fileLimit) × (state .lines ≤ state .at) × (state .lines ≤ length (now words)) × (state .parcels ≤ state .lines)
+pub fn one_line(file: &[u8], list: &mut [u32], codes: &mut [u32], state: State) -> Step
+    requires { ⌜ (state .at ≤ fileLimit) × (state .lines ≤ state .at) × (state .lines ≤ length (now list)) × (state .parcels ≤ state .lines)
         × (state .cents ≤ 99999999 * state .lines) ⌝ }
-    requires { ⌜ Sown (now s) (listedSoFar (state .lines) (now words)) (state .parcels) (now codes) × (state .parcels ≤ 2340)
+    requires { ⌜ Sown (now file) (listedSoFar (state .lines) (now list)) (state .parcels) (now codes) × (state .parcels ≤ 2340)
         × (4681 ≤ length (now codes)) ⌝ }
-    ensures { λ r. ⌜ r ≡ stepAnswer (now (s .entry)) (length (now (words .entry))) (listedSoFar (state .lines) (now (words .entry))) state ⌝ }
+    ensures { λ r. ⌜ r ≡ stepAnswer (now (file .entry)) (length (now (list .entry))) (listedSoFar (state .lines) (now (list .entry))) state ⌝ }
     ensures { λ r. ⌜ ((next : State) → r ≡ Next next →
-        Sown (now (s .entry)) (listedSoFar (state .lines) (now (words .entry)) ++ (state .at ∷ [])) (next .parcels) (now (codes .exit))) ⌝ }
-    ensures { λ r. ⌜ ((next : State) → r ≡ Next next → now (words .exit) ≡ set (now (words .entry)) (state .lines) (state .at)) ⌝ }
+        Sown (now (file .entry)) (listedSoFar (state .lines) (now (list .entry)) ++ (state .at ∷ [])) (next .parcels) (now (codes .exit))) ⌝ }
+    ensures { λ r. ⌜ ((next : State) → r ≡ Next next → now (list .exit) ≡ set (now (list .entry)) (state .lines) (state .at)) ⌝ }
 {
-    let at = state.at;
+    let offset = state.at;
     let lines = state.lines;
     let due = state.due;
-    let answer = line::judge_line(due, s, at);
+    let answer = line::judge_line(due, file, offset);
     match answer {
         LineAnswer::Accepted(line) => {
             let kind = line.kind;
-            if identcode::is_repeated(kind, s, codes, state.parcels, at) {
+            if identcode::is_repeated(kind, file, codes, state.parcels, offset) {
                 return Step::Stopped(Refusal {
                     why: Reason::IdentcodeRepeated,
-                    place: at + 4,
+                    place: offset + 4,
                 });
             }
-            if !has_word(words, lines) {
+            if !has_word(list, lines) {
                 return Step::Stopped(Refusal {
                     why: Reason::ListFull,
-                    place: at,
+                    place: offset,
                 });
             }
-            words[lines] = at as u32;
-            Step::Next(behind_line(s, state, line))
+            list[lines] = offset as u32;
+            Step::Next(behind_line(file, state, line))
         }
         LineAnswer::Refused(refusal) => Step::Stopped(refusal),
     }
 }
 
 // Whether the list has a word for the line behind so many.
-fn has_word(words: &[u32], lines: usize) -> bool
-    ensures { λ r. ⌜ r ≡ hasWord (length (now (words .entry))) lines ⌝ }
+fn has_word(list: &[u32], lines: usize) -> bool
+    ensures { λ r. ⌜ r ≡ hasWord (length (now (list .entry))) lines ⌝ }
 {
-    lines < words.len()
+    lines < list.len()
 }
 
 // The state behind an accepted line.
-fn behind_line(s: &[u8], state: State, line: Line) -> State
-    requires { ⌜ (lineAnswer (toldBy state) (now s) (state .at) ≡ Accepted line) × (state .at ≤ fileLimit) × (state .lines ≤ state .at)
+fn behind_line(file: &[u8], state: State, line: Line) -> State
+    requires { ⌜ (lineAnswer (toldBy state) (now file) (state .at) ≡ Accepted line) × (state .at ≤ fileLimit) × (state .lines ≤ state .at)
         × (state .parcels ≤ state .lines) × (state .cents ≤ 99999999 * state .lines) ⌝ }
-    ensures { λ r. ⌜ r ≡ behind (now (s .entry)) state line ⌝ }
+    ensures { λ r. ⌜ r ≡ behind (now (file .entry)) state line ⌝ }
 {
-    let at = state.at;
+    let offset = state.at;
     let kind = line.kind;
     let end = line.next - 2;
     State {
         at: line.next,
         lines: state.lines + 1,
         parcels: state.parcels + parcels_in(kind),
-        cents: state.cents + cash::cash_of(kind, &s[at..end]),
+        cents: state.cents + cash::cash_of(kind, &file[offset..end]),
         due: Due::After(kind),
     }
 }

@@ -26,11 +26,11 @@ pub enum FileAnswer {
 
 // Judges a file. Accepted, each word of the list below the number of lines is that line's offset and every other word is 0;
 // refused, all words are 0.
-pub fn judge(s: &[u8], words: &mut [u32]) -> FileAnswer
-    ensures { λ r. ⌜ Judges (now (s .entry)) (length (now (words .entry))) r (now (words .exit)) ⌝ }
+pub fn judge(file: &[u8], list: &mut [u32]) -> FileAnswer
+    ensures { λ r. ⌜ Judges (now (file .entry)) (length (now (list .entry))) r (now (list .exit)) ⌝ }
 {
-    list::clear(words);
-    if FILE_LIMIT < s.len() {
+    list::clear(list);
+    if FILE_LIMIT < file.len() {
         return FileAnswer::Refused(Refusal {
             why: Reason::FileTooLong,
             place: FILE_LIMIT,
@@ -38,13 +38,13 @@ pub fn judge(s: &[u8], words: &mut [u32]) -> FileAnswer
     }
     // A file has at most 2,340 parcels.
     let mut codes = [0u32; 4681];
-    run(s, words, &mut codes)
+    run(file, list, &mut codes)
 }
 
 // The lines of a file that is not too long, with a list that is clear, and room for a tree of their identcodes.
-fn run(s: &[u8], words: &mut [u32], codes: &mut [u32]) -> FileAnswer
-    requires { ⌜ (length (now s) ≤ fileLimit) × (now words ≡ replicate (length (now words)) 0) × (4681 ≤ length (now codes)) ⌝ }
-    ensures { λ r. ⌜ Judges (now (s .entry)) (length (now (words .entry))) r (now (words .exit)) ⌝ }
+fn run(file: &[u8], list: &mut [u32], codes: &mut [u32]) -> FileAnswer
+    requires { ⌜ (length (now file) ≤ fileLimit) × (now list ≡ replicate (length (now list)) 0) × (4681 ≤ length (now codes)) ⌝ }
+    ensures { λ r. ⌜ Judges (now (file .entry)) (length (now (list .entry))) r (now (list .exit)) ⌝ }
 {
     let mut state = State {
         at: 0,
@@ -53,24 +53,24 @@ fn run(s: &[u8], words: &mut [u32], codes: &mut [u32]) -> FileAnswer
         cents: 0,
         due: Due::First,
     };
-    while state.at < s.len() {
-        let step = step::one_line(s, words, codes, state);
+    while state.at < file.len() {
+        let step = step::one_line(file, list, codes, state);
         match step {
             Step::Next(next) => {
                 state = next;
             }
             Step::Stopped(refusal) => {
-                list::clear(words);
+                list::clear(list);
                 return FileAnswer::Refused(refusal);
             }
         }
     }
     let due = state.due;
     if !fields::may_end(due) {
-        list::clear(words);
+        list::clear(list);
         return FileAnswer::Refused(Refusal {
             why: Reason::FileEnds,
-            place: s.len(),
+            place: file.len(),
         });
     }
     FileAnswer::Accepted(Totals {

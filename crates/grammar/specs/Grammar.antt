@@ -45,22 +45,22 @@ pub record LineOk (rules : Rules) (kind : Record) (fs : List (List ℕ)) : Type 
 
 -- at this offset of the file stands an allowed line with these fields, of a record that may come: "the answer names the record
 -- kind, the field count and where the next line starts"
-pub record Reads (told : Told) (s : List ℕ) (at : ℕ) (line : Line) (fs : List (List ℕ)) : Type 0 where
+pub record Reads (told : Told) (file : List ℕ) (offset : ℕ) (line : Line) (fs : List (List ℕ)) : Type 0 where
   -- "At most 65,535 bytes."
-  pub small : length s ≤ fileLimit
+  pub small : length file ≤ fileLimit
   -- "Record order"
   pub comes : mayCome (told .due) (line .kind) ≡ true
   pub allowed : LineOk (told .rules) (line .kind) fs
   pub rest : List ℕ
-  pub stands : drop at s ≡ render (line .kind) fs ++ rest
+  pub stands : drop offset file ≡ render (line .kind) fs ++ rest
   pub count : line .count ≡ length fs
-  pub next : line .next ≡ at + length (render (line .kind) fs)
+  pub next : line .next ≡ offset + length (render (line .kind) fs)
 
 -- "One field adds a field number, then 15 for 0 or above the count, and answers start and length."
-pub record Finds (kind : Record) (fs : List (List ℕ)) (s : List ℕ) (at n start long : ℕ) : Type 0 where
+pub record Finds (kind : Record) (fs : List (List ℕ)) (file : List ℕ) (offset n start long : ℕ) : Type 0 where
   pub first : 1 ≤ n
   pub last : n ≤ length fs
   -- in front of it stand the record type, the fields before it, and its own semicolon
-  pub starts : start ≡ at + length (textOf kind (take (n - 1) fs) ++ bytes ";")
+  pub starts : start ≡ offset + length (textOf kind (take (n - 1) fs) ++ bytes ";")
   pub measures : long ≡ length (fieldNo fs n)
-  pub there : take long (drop start s) ≡ fieldNo fs n
+  pub there : take long (drop start file) ≡ fieldNo fs n

@@ -9,12 +9,12 @@ use Rattle.line.specs.Line.{textAt}
 
 -- the part with this number of the line that starts here: the record type for 0, else the field
 abbrev pub fieldAt : List ℕ → ℕ → ℕ → List ℕ
-fieldAt s at n = partAt (textAt s at) n
+fieldAt file offset n = partAt (textAt file offset) n
 
 -- "A field of spaces is filled; only zero bytes is empty."
 abbrev pub filledAt : List ℕ → ℕ → ℕ → Bool
-filledAt s at n = isFilled (split (textAt s at)) n
+filledAt file offset n = isFilled (split (textAt file offset)) n
 
 -- a line of this record type starts here
 unfoldable pub isTyped : List ℕ → ℕ → List ℕ → Bool
-isTyped s at name = same (fieldAt s at 0) name
+isTyped file offset name = same (fieldAt file offset 0) name

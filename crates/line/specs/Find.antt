@@ -21,13 +21,13 @@ handedOn (Accepted line) = Refused (because NotThere 0)
 handedOn (Refused refusal) = Refused refusal
 
 unfoldable pub inLine : LineAnswer → List ℕ → ℕ → ℕ → FieldAnswer
-inLine (Refused refusal) s at n = Refused refusal
-inLine (Accepted line) s at n =
+inLine (Refused refusal) file offset n = Refused refusal
+inLine (Accepted line) file offset n =
     if eqb n 0 || ltb (line .count) n then Refused (because NotThere 0)
-    else Found (at + startOf (textAt s at) n) (length (partAt (textAt s at) n))
+    else Found (offset + startOf (textAt file offset) n) (length (partAt (textAt file offset) n))
 
 unfoldable pub fieldAnswer : Rules → List ℕ → ℕ → ℕ → FieldAnswer
-fieldAnswer rules s at n = inLine (lineAnswer (alone rules) s at) s at n
+fieldAnswer rules file offset n = inLine (lineAnswer (alone rules) file offset) file offset n
 
 -- the paper's number and place for each answer
 abbrev pub fieldVerdict : FieldAnswer → Verdict

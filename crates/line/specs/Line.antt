@@ -29,15 +29,15 @@ use Rattle.line.specs.declared.read.LineAnswer.the-variants.{Accepted, R
 
 -- "A line runs to its first other byte": the first byte from here on that is no text byte, or the file's length
 abbrev pub lineEnd : List ℕ → ℕ → ℕ
-lineEnd s at = firstFailing (λ _ b. textByte b) at (drop at s)
+lineEnd file offset = firstFailing (λ _ b. textByte b) offset (drop offset file)
 
 -- "which must be CR followed by LF"
 unfoldable pub endsWell : List ℕ → ℕ → Bool
-endsWell s end = same (take 2 (drop end s)) (bytes "\r\n")
+endsWell file end = same (take 2 (drop end file)) (bytes "\r\n")
 
 -- the text of the line that starts here
 abbrev pub textAt : List ℕ → ℕ → List ℕ
-textAt s at = take (lineEnd s at - at) (drop at s)
+textAt file offset = take (lineEnd file offset - offset) (drop offset file)
 
 -- "At most 65,535 bytes."
 abbrev pub fileLimit : ℕ
@@ -45,32 +45,32 @@ fileLimit = 65535
 
 -- 1, then 2: where the text of the line that starts here ends
 unfoldable pub textAnswer : List ℕ → ℕ → TextAnswer
-textAnswer s at =
-    if ltb fileLimit (length s) then Refused (because FileTooLong fileLimit)
-    else if ltb (length s) at then Refused (because NoLineEnd (length s))
-    else if not (endsWell s (lineEnd s at)) then Refused (because NoLineEnd (lineEnd s at))
-    else Ends (lineEnd s at)
+textAnswer file offset =
+    if ltb fileLimit (length file) then Refused (because FileTooLong fileLimit)
+    else if ltb (length file) offset then Refused (because NoLineEnd (length file))
+    else if not (endsWell file (lineEnd file offset)) then Refused (because NoLineEnd (lineEnd file offset))
+    else Ends (lineEnd file offset)
 
 -- the fields are in order, or one is not; then 9
 unfoldable pub afterWalk : Walk → Record → ℕ → List ℕ → LineAnswer
-afterWalk (Stopped refusal) kind at line = Refused refusal
-afterWalk Fine kind at line =
-    if lacks kind (split line) then Refused (because FeatureLacks at)
-    else Accepted (record { kind = kind; count = length (fieldsOf line); next = at + length line + 2 })
+afterWalk (Stopped refusal) kind offset line = Refused refusal
+afterWalk Fine kind offset line =
+    if lacks kind (split line) then Refused (because FeatureLacks offset)
+    else Accepted (record { kind = kind; count = length (fieldsOf line); next = offset + length line + 2 })
 
 -- the text of a line of this record that starts at this place: 5, then the fields
 unfoldable pub ofKind : Rules → Record → ℕ → List ℕ → LineAnswer
-ofKind rules kind at line =
-    if not (countFits kind (length (fieldsOf line))) then Refused (because FieldCount at)
-    else afterWalk (walk (rules kind) 1 (at + length (nameOf line) + 1) (nameOf line) (fieldsOf line)) kind at line
+ofKind rules kind offset line =
+    if not (countFits kind (length (fieldsOf line))) then Refused (because FieldCount offset)
+    else afterWalk (walk (rules kind) 1 (offset + length (nameOf line) + 1) (nameOf line) (fieldsOf line)) kind offset line
 
 -- 3, then 4
 unfoldable pub ofNamed : Named → Told → ℕ → List ℕ → LineAnswer
-ofNamed Unknown told at line = Refused (because UnknownRecord at)
-ofNamed (Known kind) told at line = if not (mayCome (told .due) kind) then Refused (because OutOfOrder at) else ofKind (told .rules) kind at line
+ofNamed Unknown told offset line = Refused (because UnknownRecord offset)
+ofNamed (Known kind) told offset line = if not (mayCome (told .due) kind) then Refused (because OutOfOrder offset) else ofKind (told .rules) kind offset line
 
 unfoldable pub ofText : Told → ℕ → List ℕ → LineAnswer
-ofText told at line = ofNamed (named (nameOf line)) told at line
+ofText told offset line = ofNamed (named (nameOf line)) told offset line
 
 -- a line judged alone
 abbrev pub alone : Rules → Told
@@ -78,11 +78,11 @@ alone rules = record { rules = rules; due = Any }
 
 -- the line that starts here: its text, and what is answered of it
 abbrev pub onText : TextAnswer → Told → List ℕ → ℕ → LineAnswer
-onText (Refused refusal) told s at = Refused refusal
-onText (Ends end) told s at = ofText told at (take (end - at) (drop at s))
+onText (Refused refusal) told file offset = Refused refusal
+onText (Ends end) told file offset = ofText told offset (take (end - offset) (drop offset file))
 
 unfoldable pub lineAnswer : Told → List ℕ → ℕ → LineAnswer
-lineAnswer told s at = onText (textAnswer s at) told s at
+lineAnswer told file offset = onText (textAnswer file offset) told file offset
 
 -- the paper's number and place for each answer
 abbrev pub textVerdict : TextAnswer → Verdict

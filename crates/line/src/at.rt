@@ -6,22 +6,22 @@ use crate::part;
 use crate::scan;
 
 // The part with this number of the line that starts here: the record type for 0, else the field.
-pub fn field_at(s: &[u8], at: usize, number: usize) -> &[u8]
-    ensures { λ r. ⌜ now r ≡ fieldAt (now (s .entry)) at number ⌝ }
+pub fn field_at(file: &[u8], offset: usize, number: usize) -> &[u8]
+    ensures { λ r. ⌜ now r ≡ fieldAt (now (file .entry)) offset number ⌝ }
 {
-    part::field_in(scan::text_at(s, at), number)
+    part::field_in(scan::text_at(file, offset), number)
 }
 
 // Whether a line of this type starts here.
-pub fn is_typed(s: &[u8], at: usize, name: &[u8]) -> bool
-    ensures { λ r. ⌜ r ≡ isTyped (now (s .entry)) at (now (name .entry)) ⌝ }
+pub fn is_typed(file: &[u8], offset: usize, name: &[u8]) -> bool
+    ensures { λ r. ⌜ r ≡ isTyped (now (file .entry)) offset (now (name .entry)) ⌝ }
 {
-    text::equal(field_at(s, at, 0), name)
+    text::equal(field_at(file, offset, 0), name)
 }
 
 // Whether the field with this number of the line that starts here is filled.
-pub fn is_filled_at(s: &[u8], at: usize, number: usize) -> bool
-    ensures { λ r. ⌜ r ≡ filledAt (now (s .entry)) at number ⌝ }
+pub fn is_filled_at(file: &[u8], offset: usize, number: usize) -> bool
+    ensures { λ r. ⌜ r ≡ filledAt (now (file .entry)) offset number ⌝ }
 {
-    need::is_filled(scan::text_at(s, at), number)
+    need::is_filled(scan::text_at(file, offset), number)
 }

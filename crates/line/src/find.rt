@@ -18,10 +18,10 @@ pub enum FieldAnswer {
 }
 
 // Finds the field with this number of the line that starts here.
-pub fn find_field(s: &[u8], at: usize, number: usize) -> FieldAnswer
-    ensures { λ r. ⌜ r ≡ fieldAnswer (profile) (now (s .entry)) at number ⌝ }
+pub fn find_field(file: &[u8], offset: usize, number: usize) -> FieldAnswer
+    ensures { λ r. ⌜ r ≡ fieldAnswer (profile) (now (file .entry)) offset number ⌝ }
 {
-    let answer = read::read_line(s, at);
+    let answer = read::read_line(file, offset);
     let LineAnswer::Accepted(line) = answer else {
         return refusal_of(answer);
     };
@@ -38,7 +38,7 @@ pub fn find_field(s: &[u8], at: usize, number: usize) -> FieldAnswer
         });
     }
     let end = line.next - 2;
-    in_text(at, &s[at..end], number)
+    in_text(offset, &file[offset..end], number)
 }
 
 // The refusal of a line, handed on.
@@ -55,14 +55,14 @@ fn refusal_of(answer: LineAnswer) -> FieldAnswer
 }
 
 // The field with this number of a line's text that starts at this place.
-fn in_text(at: usize, line: &[u8], number: usize) -> FieldAnswer
-    requires { ⌜ at + length (now line) ≤ fileLimit ⌝ }
-    ensures { λ r. ⌜ r ≡ FieldAnswer.Found (at + startOf (now (line .entry)) number) (length (partAt (now (line .entry)) number)) ⌝ }
+fn in_text(offset: usize, line: &[u8], number: usize) -> FieldAnswer
+    requires { ⌜ offset + length (now line) ≤ fileLimit ⌝ }
+    ensures { λ r. ⌜ r ≡ FieldAnswer.Found (offset + startOf (now (line .entry)) number) (length (partAt (now (line .entry)) number)) ⌝ }
 {
     let start = part::start_of(line, number);
     let field = part::field_in(line, number);
     FieldAnswer::Found {
-        start: at + start,
+        start: offset + start,
         length: field.len(),
     }
 }

@@ -30,65 +30,65 @@ pub enum LineAnswer {
 }
 
 // Judges the line that starts here, alone.
-pub fn read_line(s: &[u8], at: usize) -> LineAnswer
-    ensures { λ r. ⌜ r ≡ lineAnswer (alone (profile)) (now (s .entry)) at ⌝ }
+pub fn read_line(file: &[u8], offset: usize) -> LineAnswer
+    ensures { λ r. ⌜ r ≡ lineAnswer (alone (profile)) (now (file .entry)) offset ⌝ }
 {
-    judge_line(Due::Any, s, at)
+    judge_line(Due::Any, file, offset)
 }
 
 // Judges the line that starts here, where this record is due.
-pub fn judge_line(due: Due, s: &[u8], at: usize) -> LineAnswer
-    ensures { λ r. ⌜ r ≡ lineAnswer (record { rules = profile; due = due }) (now (s .entry)) at ⌝ }
+pub fn judge_line(due: Due, file: &[u8], offset: usize) -> LineAnswer
+    ensures { λ r. ⌜ r ≡ lineAnswer (record { rules = profile; due = due }) (now (file .entry)) offset ⌝ }
 {
-    let answer = scan::find_text(s, at);
+    let answer = scan::find_text(file, offset);
     match answer {
-        TextAnswer::Ends(end) => of_text(due, at, &s[at..end]),
+        TextAnswer::Ends(end) => of_text(due, offset, &file[offset..end]),
         TextAnswer::Refused(refusal) => LineAnswer::Refused(refusal),
     }
 }
 
 // The text of a line that starts at this place and ends well.
-fn of_text(due: Due, at: usize, line: &[u8]) -> LineAnswer
-    requires { ⌜ at + length (now line) ≤ fileLimit ⌝ }
-    ensures { λ r. ⌜ r ≡ ofText (record { rules = profile; due = due }) at (now (line .entry)) ⌝ }
+fn of_text(due: Due, offset: usize, line: &[u8]) -> LineAnswer
+    requires { ⌜ offset + length (now line) ≤ fileLimit ⌝ }
+    ensures { λ r. ⌜ r ≡ ofText (record { rules = profile; due = due }) offset (now (line .entry)) ⌝ }
 {
     let name = field_in(line, 0);
     let named = fields::record_named(name);
     let Named::Known(kind) = named else {
         return LineAnswer::Refused(Refusal {
             why: Reason::UnknownRecord,
-            place: at,
+            place: offset,
         });
     };
     if !fields::may_come(due, kind) {
         return LineAnswer::Refused(Refusal {
             why: Reason::OutOfOrder,
-            place: at,
+            place: offset,
         });
     }
-    of_kind(kind, at, line, name.len())
+    of_kind(kind, offset, line, name.len())
 }
 
 // The text of a line of a record that may come, whose type is so long.
-fn of_kind(kind: Record, at: usize, line: &[u8], name: usize) -> LineAnswer
-    requires { ⌜ (name ≡ length (nameOf (now line))) × (at + length (now line) ≤ fileLimit) ⌝ }
-    ensures { λ r. ⌜ r ≡ ofKind (profile) kind at (now (line .entry)) ⌝ }
+fn of_kind(kind: Record, offset: usize, line: &[u8], name: usize) -> LineAnswer
+    requires { ⌜ (name ≡ length (nameOf (now line))) × (offset + length (now line) ≤ fileLimit) ⌝ }
+    ensures { λ r. ⌜ r ≡ ofKind (profile) kind offset (now (line .entry)) ⌝ }
 {
     let count = scan::field_count(line);
     if !fields::count_fits(kind, count) {
         return LineAnswer::Refused(Refusal {
             why: Reason::FieldCount,
-            place: at,
+            place: offset,
         });
     }
-    let walked = walk::walk_fields(kind, line, at, name);
-    after_walk(walked, kind, count, at, line)
+    let walked = walk::walk_fields(kind, line, offset, name);
+    after_walk(walked, kind, count, offset, line)
 }
 
 // The fields of a line, so many, are in order or one is not; then what a feature needs.
-fn after_walk(walked: Walk, kind: Record, count: usize, at: usize, line: &[u8]) -> LineAnswer
-    requires { ⌜ (count ≡ length (fieldsOf (now line))) × (at + length (now line) ≤ fileLimit) ⌝ }
-    ensures { λ r. ⌜ r ≡ afterWalk walked kind at (now (line .entry)) ⌝ }
+fn after_walk(walked: Walk, kind: Record, count: usize, offset: usize, line: &[u8]) -> LineAnswer
+    requires { ⌜ (count ≡ length (fieldsOf (now line))) × (offset + length (now line) ≤ fileLimit) ⌝ }
+    ensures { λ r. ⌜ r ≡ afterWalk walked kind offset (now (line .entry)) ⌝ }
 {
     if let Walk::Stopped(refusal) = walked {
         return LineAnswer::Refused(refusal);
@@ -96,12 +96,12 @@ fn after_walk(walked: Walk, kind: Record, count: usize, at: usize, line: &[u8]) 
     if need::lacks_field(kind, line) {
         return LineAnswer::Refused(Refusal {
             why: Reason::FeatureLacks,
-            place: at,
+            place: offset,
         });
     }
     LineAnswer::Accepted(Line {
         kind,
         count,
-        next: at + line.len() + 2,
+        next: offset + line.len() + 2,
     })
 }

@@ -19,24 +19,24 @@ pub enum TextAnswer {
 }
 
 // Finds the text of the line that starts here.
-pub fn find_text(s: &[u8], at: usize) -> TextAnswer
-    ensures { λ r. ⌜ r ≡ textAnswer (now (s .entry)) at ⌝ }
+pub fn find_text(file: &[u8], offset: usize) -> TextAnswer
+    ensures { λ r. ⌜ r ≡ textAnswer (now (file .entry)) offset ⌝ }
 {
-    let n = s.len();
+    let n = file.len();
     if FILE_LIMIT < n {
         return TextAnswer::Refused(Refusal {
             why: Reason::FileTooLong,
             place: FILE_LIMIT,
         });
     }
-    if n < at {
+    if n < offset {
         return TextAnswer::Refused(Refusal {
             why: Reason::NoLineEnd,
             place: n,
         });
     }
-    let stop = line_end(s, at);
-    if !ends_well(s, stop) {
+    let stop = line_end(file, offset);
+    if !ends_well(file, stop) {
         return TextAnswer::Refused(Refusal {
             why: Reason::NoLineEnd,
             place: stop,
@@ -46,13 +46,13 @@ pub fn find_text(s: &[u8], at: usize) -> TextAnswer
 }
 
 // The first byte from here on that is no text byte, or the end of the file.
-pub fn line_end(s: &[u8], at: usize) -> usize
-    requires { ⌜ at ≤ length (now s) ⌝ }
-    ensures { λ r. ⌜ (r ≡ lineEnd (now (s .entry)) at) × (at ≤ r) × (r ≤ length (now (s .entry))) ⌝ }
+pub fn line_end(file: &[u8], offset: usize) -> usize
+    requires { ⌜ offset ≤ length (now file) ⌝ }
+    ensures { λ r. ⌜ (r ≡ lineEnd (now (file .entry)) offset) × (offset ≤ r) × (r ≤ length (now (file .entry))) ⌝ }
 {
-    let mut i = at;
-    while i < s.len() {
-        if !text::is_text_byte(s[i]) {
+    let mut i = offset;
+    while i < file.len() {
+        if !text::is_text_byte(file[i]) {
             return i;
         }
         i += 1;
@@ -61,25 +61,25 @@ pub fn line_end(s: &[u8], at: usize) -> usize
 }
 
 // The text of the line that starts here; no bytes past the file.
-pub fn text_at(s: &[u8], at: usize) -> &[u8]
-    ensures { λ r. ⌜ now r ≡ textAt (now (s .entry)) at ⌝ }
+pub fn text_at(file: &[u8], offset: usize) -> &[u8]
+    ensures { λ r. ⌜ now r ≡ textAt (now (file .entry)) offset ⌝ }
 {
-    if s.len() < at {
-        return &s[0..0];
+    if file.len() < offset {
+        return &file[0..0];
     }
-    let end = line_end(s, at);
-    &s[at..end]
+    let end = line_end(file, offset);
+    &file[offset..end]
 }
 
 // Whether CR LF stands here.
-pub fn ends_well(s: &[u8], end: usize) -> bool
-    requires { ⌜ end ≤ length (now s) ⌝ }
-    ensures { λ r. ⌜ r ≡ endsWell (now (s .entry)) end ⌝ }
+pub fn ends_well(file: &[u8], end: usize) -> bool
+    requires { ⌜ end ≤ length (now file) ⌝ }
+    ensures { λ r. ⌜ r ≡ endsWell (now (file .entry)) end ⌝ }
 {
-    if s.len() - end < 2 {
+    if file.len() - end < 2 {
         return false;
     }
-    text::equal(&s[end..end + 2], b"\r\n")
+    text::equal(&file[end..end + 2], b"\r\n")
 }
 
 // The first semicolon from here on, or the end of the line.

@@ -18,9 +18,9 @@ pub enum Walk {
 
 // Tests the fields of a line that starts at the place at and whose record type is so long. Beside a field stands the part in front
 // of it.
-pub fn walk_fields(kind: Record, line: &[u8], at: usize, name: usize) -> Walk
-    requires { ⌜ (name ≡ length (nameOf (now line))) × (at + length (now line) ≤ fileLimit) ⌝ }
-    ensures { λ r. ⌜ r ≡ walk (profile kind) 1 (at + length (nameOf (now (line .entry))) + 1) (nameOf (now (line .entry))) (fieldsOf (now (line .entry))) ⌝ }
+pub fn walk_fields(kind: Record, line: &[u8], offset: usize, name: usize) -> Walk
+    requires { ⌜ (name ≡ length (nameOf (now line))) × (offset + length (now line) ≤ fileLimit) ⌝ }
+    ensures { λ r. ⌜ r ≡ walk (profile kind) 1 (offset + length (nameOf (now (line .entry))) + 1) (nameOf (now (line .entry))) (fieldsOf (now (line .entry))) ⌝ }
 {
     let mut number: usize = 1;
     let mut beside: usize = 0;
@@ -31,7 +31,7 @@ pub fn walk_fields(kind: Record, line: &[u8], at: usize, name: usize) -> Walk
         if let Tested::Bad(why) = tested {
             return Walk::Stopped(Refusal {
                 why,
-                place: at + start,
+                place: offset + start,
             });
         }
         beside = start;

@@ -30,32 +30,32 @@ cut text = take purposeLong text
 
 -- the whole text that a source supplies: a field, or "that 040's field 1, `/`, 030.16"
 abbrev pub sourceText : List ℕ → Source → List ℕ
-sourceText s (Field at n) = fieldAt s at n
-sourceText s (Joined parcel shipment) = fieldAt s parcel 1 ++ bytes "/" ++ fieldAt s shipment 16
+sourceText file (Field offset n) = fieldAt file offset n
+sourceText file (Joined parcel shipment) = fieldAt file parcel 1 ++ bytes "/" ++ fieldAt file shipment 16
 
 abbrev pub textFrom : List ℕ → Sourced → List ℕ
-textFrom s (From source) = cut (sourceText s source)
-textFrom s Nowhere = []
+textFrom file (From source) = cut (sourceText file source)
+textFrom file Nowhere = []
 
 -- 15, then 13: "output under 35", for an output of so many bytes
 unfoldable pub onSource : Sourced → List ℕ → ℕ → PurposeAnswer
-onSource Nowhere s room = Refused (because NotThere 0)
-onSource (From source) s room = if ltb room purposeLong then Refused (because OutputTooShort 0) else Written (length (cut (sourceText s source)))
+onSource Nowhere file room = Refused (because NotThere 0)
+onSource (From source) file room = if ltb room purposeLong then Refused (because OutputTooShort 0) else Written (length (cut (sourceText file source)))
 
 -- "Order: the file's refusals, 15, 13"
 unfoldable pub onFile : FileAnswer → Sourced → List ℕ → ℕ → PurposeAnswer
-onFile (Refused refusal) sourced s room = Refused refusal
-onFile (Accepted totals) sourced s room = onSource sourced s room
+onFile (Refused refusal) sourced file room = Refused refusal
+onFile (Accepted totals) sourced file room = onSource sourced file room
 
 -- the source for the line with this number, where the list has so many words
 abbrev pub purposeSource : List ℕ → ℕ → ℕ → Sourced
-purposeSource s n words = sourceOf s (judged s words .starts) n
+purposeSource file n words = sourceOf file (judged file words .starts) n
 
 abbrev pub purposeAnswer : List ℕ → ℕ → ℕ → ℕ → PurposeAnswer
-purposeAnswer s n words room = onFile (judged s words .answer) (purposeSource s n words) s room
+purposeAnswer file n words room = onFile (judged file words .answer) (purposeSource file n words) file room
 
 abbrev pub purposeText : List ℕ → ℕ → ℕ → List ℕ
-purposeText s n words = textFrom s (purposeSource s n words)
+purposeText file n words = textFrom file (purposeSource file n words)
 
 -- "list lent as for the whole file", and "the list's words are all 0 after 15 or 13 too"
 abbrev pub listAfter : PurposeAnswer → ℕ → List ℕ → List ℕ
@@ -64,15 +64,15 @@ listAfter (Refused refusal) words starts = replicate words 0
 
 -- "The output's other bytes stay, and all of them on a refusal"
 abbrev pub outputAfter : PurposeAnswer → List ℕ → List ℕ → List ℕ
-outputAfter (Written n) text out = written out 0 text
-outputAfter (Refused refusal) text out = out
+outputAfter (Written n) text output = written output 0 text
+outputAfter (Refused refusal) text output = output
 
 -- the answer, the list and the output that the call allows
 abbrev pub Purposes : List ℕ → ℕ → ℕ → List ℕ → PurposeAnswer → List ℕ → List ℕ → Type 0
-Purposes s n words out answer list after =
-    (answer ≡ purposeAnswer s n words (length out))
-    × (list ≡ listAfter answer words (judged s words .starts))
-    × (after ≡ outputAfter answer (purposeText s n words) out)
+Purposes file n words output answer list after =
+    (answer ≡ purposeAnswer file n words (length output))
+    × (list ≡ listAfter answer words (judged file words .starts))
+    × (after ≡ outputAfter answer (purposeText file n words) output)
 
 -- the paper's number and place for each answer
 abbrev pub purposeVerdict : PurposeAnswer → Verdict

@@ -13,39 +13,39 @@ use line::field_at;
 pub const PURPOSE_LONG: usize = 35;
 
 // Writes the text that this source supplies, and answers how many bytes.
-pub fn write_source(s: &[u8], source: Source, out: &mut [u8]) -> usize
-    requires { ⌜ purposeLong ≤ length (now out) ⌝ }
-    ensures { λ r. ⌜ (r ≡ length (cut (sourceText (now (s .entry)) source)))
-        × (now (out .exit) ≡ written (now (out .entry)) 0 (cut (sourceText (now (s .entry)) source))) ⌝ }
+pub fn write_source(file: &[u8], source: Source, output: &mut [u8]) -> usize
+    requires { ⌜ purposeLong ≤ length (now output) ⌝ }
+    ensures { λ r. ⌜ (r ≡ length (cut (sourceText (now (file .entry)) source)))
+        × (now (output .exit) ≡ written (now (output .entry)) 0 (cut (sourceText (now (file .entry)) source))) ⌝ }
 {
     match source {
-        Source::Field { at, number } => write_upto(out, 0, field_at(s, at, number)),
+        Source::Field { offset, number } => write_upto(output, 0, field_at(file, offset, number)),
         Source::Joined { parcel, shipment } => write_joined(
-            out,
-            field_at(s, parcel, 1),
-            field_at(s, shipment, 16),
+            output,
+            field_at(file, parcel, 1),
+            field_at(file, shipment, 16),
         ),
     }
 }
 
 // Writes two texts with a slash between them.
-fn write_joined(out: &mut [u8], a: &[u8], b: &[u8]) -> usize
-    requires { ⌜ purposeLong ≤ length (now out) ⌝ }
+fn write_joined(output: &mut [u8], a: &[u8], b: &[u8]) -> usize
+    requires { ⌜ purposeLong ≤ length (now output) ⌝ }
     ensures { λ r. ⌜ (r ≡ length (cut (now (a .entry) ++ bytes "/" ++ now (b .entry))))
-        × (now (out .exit) ≡ written (now (out .entry)) 0 (cut (now (a .entry) ++ bytes "/" ++ now (b .entry)))) ⌝ }
+        × (now (output .exit) ≡ written (now (output .entry)) 0 (cut (now (a .entry) ++ bytes "/" ++ now (b .entry)))) ⌝ }
 {
-    let slash = write_upto(out, 0, a);
-    let second = write_upto(out, slash, b"/");
-    write_upto(out, second, b)
+    let slash = write_upto(output, 0, a);
+    let second = write_upto(output, slash, b"/");
+    write_upto(output, second, b)
 }
 
 // Writes src from the place at on, as much of it as the first 35 bytes have room for, and answers where it ends.
-fn write_upto(out: &mut [u8], at: usize, src: &[u8]) -> usize
-    requires { ⌜ (at ≤ purposeLong) × (purposeLong ≤ length (now out)) ⌝ }
+fn write_upto(output: &mut [u8], at: usize, src: &[u8]) -> usize
+    requires { ⌜ (at ≤ purposeLong) × (purposeLong ≤ length (now output)) ⌝ }
     ensures { λ r. ⌜ (r ≡ at + length (take (purposeLong - at) (now (src .entry)))) × (r ≤ purposeLong)
-        × (now (out .exit) ≡ written (now (out .entry)) at (take (purposeLong - at) (now (src .entry)))) ⌝ }
+        × (now (output .exit) ≡ written (now (output .entry)) at (take (purposeLong - at) (now (src .entry)))) ⌝ }
 {
     let part = text::clip(src, 0, PURPOSE_LONG - at);
-    text::place(out, at, part);
+    text::place(output, at, part);
     at + part.len()
 }

@@ -12,7 +12,7 @@ use line::is_typed;
 
 pub enum Source {
     // The field with this number of the line that starts at this offset.
-    Field { at: usize, number: usize },
+    Field { offset: usize, number: usize },
     // The parcel line's field 1, `/` and the shipment line's field 16.
     Joined { parcel: usize, shipment: usize },
 }
@@ -23,69 +23,69 @@ pub enum Sourced {
 }
 
 // The source for the line with this number; the first words of the list, as many as the file has lines, hold where each starts.
-pub fn find_source(s: &[u8], words: &[u32], lines: usize, number: usize) -> Sourced
-    requires { ⌜ lines ≤ length (now words) ⌝ }
-    ensures { λ r. ⌜ r ≡ sourceOf (now (s .entry)) (take lines (now (words .entry))) number ⌝ }
+pub fn find_source(file: &[u8], list: &[u32], lines: usize, number: usize) -> Sourced
+    requires { ⌜ lines ≤ length (now list) ⌝ }
+    ensures { λ r. ⌜ r ≡ sourceOf (now (file .entry)) (take lines (now (list .entry))) number ⌝ }
 {
-    let starts = &words[..lines];
+    let starts = &list[..lines];
     if starts.len() <= number {
         return Sourced::Nowhere;
     }
-    if !is_cash_line(s, offset_of(starts, number)) {
+    if !is_cash_line(file, offset_of(starts, number)) {
         return Sourced::Nowhere;
     }
-    Sourced::From(for_feature(s, starts, number))
+    Sourced::From(for_feature(file, starts, number))
 }
 
 // Whether a 060 line with the code 006 starts here.
-fn is_cash_line(s: &[u8], at: usize) -> bool
-    ensures { λ r. ⌜ r ≡ isCashLine (now (s .entry)) at ⌝ }
+fn is_cash_line(file: &[u8], offset: usize) -> bool
+    ensures { λ r. ⌜ r ≡ isCashLine (now (file .entry)) offset ⌝ }
 {
-    if !is_typed(s, at, b"060") {
+    if !is_typed(file, offset, b"060") {
         return false;
     }
-    text::equal(field_at(s, at, 1), b"006")
+    text::equal(field_at(file, offset, 1), b"006")
 }
 
 // The source for a cash line: its own field first, then its shipment's.
-fn for_feature(s: &[u8], starts: &[u32], number: usize) -> Source
+fn for_feature(file: &[u8], starts: &[u32], number: usize) -> Source
     requires { ⌜ number < length (now starts) ⌝ }
-    ensures { λ r. ⌜ r ≡ forFeature (now (s .entry)) (now (starts .entry)) number ⌝ }
+    ensures { λ r. ⌜ r ≡ forFeature (now (file .entry)) (now (starts .entry)) number ⌝ }
 {
-    let at = offset_of(starts, number);
-    if is_filled_at(s, at, 8) {
-        return Source::Field { at, number: 8 };
+    let offset = offset_of(starts, number);
+    if is_filled_at(file, offset, 8) {
+        return Source::Field { offset, number: 8 };
     }
-    let shipment = shipment_above(s, starts, number);
-    let parcel = first_parcel(s, starts, shipment);
-    from_shipment(s, offset_of(starts, shipment), parcel)
+    let shipment = shipment_above(file, starts, number);
+    let parcel = first_parcel(file, starts, shipment);
+    from_shipment(file, offset_of(starts, shipment), parcel)
 }
 
 // The source in a shipment: the lines of the shipment and of its first parcel start here.
-fn from_shipment(s: &[u8], shipment: usize, parcel: usize) -> Source
-    ensures { λ r. ⌜ r ≡ fromShipment (now (s .entry)) shipment parcel ⌝ }
+fn from_shipment(file: &[u8], shipment: usize, parcel: usize) -> Source
+    ensures { λ r. ⌜ r ≡ fromShipment (now (file .entry)) shipment parcel ⌝ }
 {
-    if is_filled_at(s, shipment, 1) {
+    if is_filled_at(file, shipment, 1) {
         return Source::Field {
-            at: shipment,
+            offset: shipment,
             number: 1,
         };
     }
-    if is_filled_at(s, shipment, 34) {
+    if is_filled_at(file, shipment, 34) {
         return Source::Field {
-            at: shipment,
+            offset: shipment,
             number: 34,
         };
     }
-    if is_filled_at(s, shipment, 36) {
+    if is_filled_at(file, shipment, 36) {
         return Source::Field {
-            at: shipment,
+            offset: shipment,
             number: 36,
         };
     }
-    if is_filled_at(s, parcel, 3) {
+    if is_filled_at(file, parcel, 3) {
         return Source::Field {
-            at: parcel,
+            offset: parcel,
             number: 3,
         };
     }

@@ -17,28 +17,28 @@ pub enum PurposeAnswer {
 
 // Writes the purpose of the line with this number at the output's start. Written, the list is as for the whole file; otherwise all
 // its words are 0 and the output is as it was.
-pub fn write_purpose(s: &[u8], number: usize, words: &mut [u32], out: &mut [u8]) -> PurposeAnswer
-    ensures { λ r. ⌜ Purposes (now (s .entry)) number (length (now (words .entry))) (now (out .entry)) r (now (words .exit)) (now (out .exit)) ⌝ }
+pub fn write_purpose(file: &[u8], line: usize, list: &mut [u32], output: &mut [u8]) -> PurposeAnswer
+    ensures { λ r. ⌜ Purposes (now (file .entry)) line (length (now (list .entry))) (now (output .entry)) r (now (list .exit)) (now (output .exit)) ⌝ }
 {
-    let answer = file::judge(s, words);
+    let answer = file::judge(file, list);
     match answer {
         FileAnswer::Accepted(totals) => {
-            let sourced = source::find_source(s, words, totals.lines, number);
+            let sourced = source::find_source(file, list, totals.lines, line);
             let Sourced::From(source) = sourced else {
-                file::clear(words);
+                file::clear(list);
                 return PurposeAnswer::Refused(Refusal {
                     why: Reason::NotThere,
                     place: 0,
                 });
             };
-            if out.len() < PURPOSE_LONG {
-                file::clear(words);
+            if output.len() < PURPOSE_LONG {
+                file::clear(list);
                 return PurposeAnswer::Refused(Refusal {
                     why: Reason::OutputTooShort,
                     place: 0,
                 });
             }
-            PurposeAnswer::Written(cut::write_source(s, source, out))
+            PurposeAnswer::Written(cut::write_source(file, source, output))
         }
         FileAnswer::Refused(refusal) => PurposeAnswer::Refused(refusal),
     }

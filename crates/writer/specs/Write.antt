@@ -100,19 +100,19 @@ writeAnswer number text ends size fill = ofRecord (recordNumbered number) text e
 
 -- "The line goes at the fill, other output bytes stay; a refusal changes none."
 abbrev pub lineTo : WriteAnswer → Record → List (List ℕ) → List ℕ → ℕ → List ℕ
-lineTo (Refused refusal) kind fs out fill = out
-lineTo (Written n) kind fs out fill = written out fill (render kind fs)
+lineTo (Refused refusal) kind fs output fill = output
+lineTo (Written n) kind fs output fill = written output fill (render kind fs)
 
 -- the output after an answer; under an unknown record nothing is written
 unfoldable pub writtenTo : WriteAnswer → Named → List (List ℕ) → List ℕ → ℕ → List ℕ
-writtenTo answer Unknown fs out fill = out
-writtenTo answer (Known kind) fs out fill = lineTo answer kind fs out fill
+writtenTo answer Unknown fs output fill = output
+writtenTo answer (Known kind) fs output fill = lineTo answer kind fs output fill
 
 -- the outcomes that the writer may have: its answer, and the output after it
 abbrev pub Writes : ℕ → List ℕ → List ℕ → List ℕ → ℕ → WriteAnswer → List ℕ → Type 0
-Writes number text ends out fill answer after =
-    (answer ≡ writeAnswer number text ends (length out) fill)
-    × (after ≡ writtenTo answer (recordNumbered number) (between text ends) out fill)
+Writes number text ends output fill answer after =
+    (answer ≡ writeAnswer number text ends (length output) fill)
+    × (after ≡ writtenTo answer (recordNumbered number) (between text ends) output fill)
 
 -- the paper's number and place for each answer
 abbrev pub writeVerdict : WriteAnswer → Verdict

@@ -27,10 +27,10 @@ pub fn write_line(
     number: u32,
     text: &[u8],
     ends: &[usize],
-    out: &mut [u8],
+    output: &mut [u8],
     fill: usize,
 ) -> WriteAnswer
-    ensures { λ r. ⌜ Writes number (now (text .entry)) (now (ends .entry)) (now (out .entry)) fill r (now (out .exit)) ⌝ }
+    ensures { λ r. ⌜ Writes number (now (text .entry)) (now (ends .entry)) (now (output .entry)) fill r (now (output .exit)) ⌝ }
 {
     let named = record_numbered(number);
     let Named::Known(kind) = named else {
@@ -39,13 +39,19 @@ pub fn write_line(
             place: 0,
         });
     };
-    of_record(kind, text, ends, out, fill)
+    of_record(kind, text, ends, output, fill)
 }
 
 // The same for a record that is known.
-fn of_record(kind: Record, text: &[u8], ends: &[usize], out: &mut [u8], fill: usize) -> WriteAnswer
-    ensures { λ r. ⌜ (r ≡ ofRecord (Named.Known kind) (now (text .entry)) (now (ends .entry)) (length (now (out .entry))) fill)
-        × (now (out .exit) ≡ lineTo r kind (between (now (text .entry)) (now (ends .entry))) (now (out .entry)) fill) ⌝ }
+fn of_record(
+    kind: Record,
+    text: &[u8],
+    ends: &[usize],
+    output: &mut [u8],
+    fill: usize,
+) -> WriteAnswer
+    ensures { λ r. ⌜ (r ≡ ofRecord (Named.Known kind) (now (text .entry)) (now (ends .entry)) (length (now (output .entry))) fill)
+        × (now (output .exit) ≡ lineTo r kind (between (now (text .entry)) (now (ends .entry))) (now (output .entry)) fill) ⌝ }
 {
     if !test::ends_hold(ends, text.len()) {
         return WriteAnswer::Refused(Refusal {
@@ -59,15 +65,21 @@ fn of_record(kind: Record, text: &[u8], ends: &[usize], out: &mut [u8], fill: us
             place: 0,
         });
     }
-    of_counted(kind, text, ends, out, fill)
+    of_counted(kind, text, ends, output, fill)
 }
 
 // The same for as many fields as the record may have.
-fn of_counted(kind: Record, text: &[u8], ends: &[usize], out: &mut [u8], fill: usize) -> WriteAnswer
+fn of_counted(
+    kind: Record,
+    text: &[u8],
+    ends: &[usize],
+    output: &mut [u8],
+    fill: usize,
+) -> WriteAnswer
     requires { ⌜ (endsHold (now ends) (length (now text)) ≡ true) × (countFits kind (length (now ends)) ≡ true) ⌝ }
     ensures { λ r. ⌜ (r ≡ afterWalk (walked (profile kind) 1 (typeOf kind) (between (now (text .entry)) (now (ends .entry)))) kind
-        (between (now (text .entry)) (now (ends .entry))) (length (now (out .entry))) fill)
-        × (now (out .exit) ≡ lineTo r kind (between (now (text .entry)) (now (ends .entry))) (now (out .entry)) fill) ⌝ }
+        (between (now (text .entry)) (now (ends .entry))) (length (now (output .entry))) fill)
+        × (now (output .exit) ≡ lineTo r kind (between (now (text .entry)) (now (ends .entry))) (now (output .entry)) fill) ⌝ }
 {
     let walked = test::walk_fields(kind, text, ends);
     if let Walk::Stopped(refusal) = walked {
@@ -75,7 +87,7 @@ fn of_counted(kind: Record, text: &[u8], ends: &[usize], out: &mut [u8], fill: u
     }
     // No allowed line is longer than 4,045 bytes.
     let mut line = [0u8; 4096];
-    write_fields(kind, text, ends, &mut line, out, fill)
+    write_fields(kind, text, ends, &mut line, output, fill)
 }
 
 // The record with this number.
@@ -100,13 +112,13 @@ fn write_fields(
     text: &[u8],
     ends: &[usize],
     line: &mut [u8],
-    out: &mut [u8],
+    output: &mut [u8],
     fill: usize,
 ) -> WriteAnswer
     requires { ⌜ (length (now text) + length (now ends) + 5 ≤ length (now line)) × (endsHold (now ends) (length (now text)) ≡ true)
         × (walked (profile kind) 1 (typeOf kind) (between (now text) (now ends)) ≡ Fine) ⌝ }
-    ensures { λ r. ⌜ (r ≡ ofFields kind (between (now (text .entry)) (now (ends .entry))) (length (now (out .entry))) fill)
-        × (now (out .exit) ≡ lineTo r kind (between (now (text .entry)) (now (ends .entry))) (now (out .entry)) fill) ⌝ }
+    ensures { λ r. ⌜ (r ≡ ofFields kind (between (now (text .entry)) (now (ends .entry))) (length (now (output .entry))) fill)
+        × (now (output .exit) ≡ lineTo r kind (between (now (text .entry)) (now (ends .entry))) (now (output .entry)) fill) ⌝ }
 {
     let long = put::put_line(line, kind, text, ends);
     if line::lacks_field(kind, &line[..long - 2]) {
@@ -115,18 +127,18 @@ fn write_fields(
             place: 0,
         });
     }
-    if out.len() < fill {
+    if output.len() < fill {
         return WriteAnswer::Refused(Refusal {
             why: Reason::OutputTooShort,
             place: 0,
         });
     }
-    if out.len() - fill < long {
+    if output.len() - fill < long {
         return WriteAnswer::Refused(Refusal {
             why: Reason::OutputTooShort,
             place: 0,
         });
     }
-    text::place(out, fill, &line[..long]);
+    text::place(output, fill, &line[..long]);
     WriteAnswer::Written(long)
 }
