@@ -298,6 +298,6 @@ int main(int argc, char **argv)
     check_number_cases();
     issue_number_cases();
     check_iban_cases();
-    printf("test: %d calls from C answered as they should be\n", cases);
+    printf("test: %d calls from C: answered as they should be\n", cases);
     return 0;
 }
