@@ -60,7 +60,10 @@ fn lines(input: &[u8]) -> impl Iterator<Item = &[u8]> {
 
 /// Takes a number and the byte behind it off the input's start.
 fn number(input: &mut &[u8]) -> usize {
-    let digits = input.iter().take_while(|byte| byte.is_ascii_digit()).count();
+    let digits = input
+        .iter()
+        .take_while(|byte| byte.is_ascii_digit())
+        .count();
     let text = std::str::from_utf8(&input[..digits]).expect("digits are text");
     let value = text.parse().expect("a number stands here");
     *input = &input[input.len().min(digits + 1)..];
