@@ -1,6 +1,6 @@
-/* Calls every function of peliranopi.h on the stored files and vectors, on the example, and on refusals: calls CASES VECTORS, the folders
- * of the test programs that have them. Every number behind a pointer is nonsense before each call, so that one which is not set is
- * seen. The first wrong answer is named; the status is 1. */
+/* Calls every function of peliranopi.h on the stored files and vectors, on the example, and on refusals: calls CASES VECTORS, the
+ * folders of the test programs that have them. Every number behind a pointer is nonsense before each call, so that one which is not
+ * set is seen. The first wrong answer is named; the status is 1. */
 #include "peliranopi.h"
 
 #include <inttypes.h>
