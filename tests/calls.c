@@ -1,5 +1,6 @@
-/* Calls every function of peliranopi.h on the cases that document 01 marks, and on refusals: calls EXAMPLE. Every number behind a
- * pointer is nonsense before each call, so that one which is not set is seen. The first wrong answer is named; the status is 1. */
+/* Calls every function of peliranopi.h on the stored files and vectors, on the example, and on refusals: calls CASES VECTORS, the
+ * folders of the test programs that have them. Every number behind a pointer is nonsense before each call, so that one which is not
+ * set is seen. The first wrong answer is named; the status is 1. */
 #include "peliranopi.h"
 
 #include <inttypes.h>
@@ -55,44 +56,79 @@ static void list_is(const uint32_t *list, size_t length, size_t lines)
         is("a word of the list", list[line], line < lines ? starts[line] : 0);
 }
 
-/* Judges a file with a list of so many words, 8 at most. */
-static void judge(const uint8_t *file, size_t length, size_t words, uint32_t refusal, size_t place)
+/* Opens a file of a folder; the test fails where there is none. */
+static FILE *open_in(const char *folder, const char *name)
 {
-    uint32_t list[8];
-    for (size_t line = 0; line < 8; line++)
-        list[line] = NONSENSE;
-    size_t lines = NONSENSE, parcels = NONSENSE, at = NONSENSE;
-    uint64_t cents = NONSENSE;
-    is("the answer", peliranopi_judge(file, length, list, words, &lines, &parcels, &cents, &at), refusal);
-    is("the place", at, place);
-    is("the lines", lines, refusal ? 0 : 6);
-    is("the parcels", parcels, refusal ? 0 : 1);
-    is("the cents", cents, refusal ? 0 : 1250);
-    list_is(list, words, refusal ? 0 : 6);
-    for (size_t line = words; line < 8; line++)
-        is("a word behind the list", list[line], NONSENSE);
+    char path[4096];
+    snprintf(path, sizeof path, "%s/%s", folder, name);
+    FILE *stream = fopen(path, "rb");
+    if (stream == NULL)
+        fail(path);
+    return stream;
 }
 
-static void judge_cases(void)
+/* Reads a file of a folder, up to a room for it; answers its length. */
+static size_t read_in(const char *folder, const char *name, uint8_t *file, size_t room)
 {
-    static uint8_t spaces[65536];
-    memset(spaces, ' ', sizeof spaces);
-    open_case("judge", "the example");
-    judge(example, sizeof example, 8, PELIRANOPI_ACCEPTED, 0);
-    open_case("judge", "the example with a word for each line");
-    judge(example, sizeof example, 6, PELIRANOPI_ACCEPTED, 0);
-    open_case("judge", "a list of five words");
-    judge(example, sizeof example, 5, PELIRANOPI_LIST_FULL, 216);
-    open_case("judge", "the last line feed missing");
-    judge(example, sizeof example - 1, 8, PELIRANOPI_NO_LINE_END, 274);
-    open_case("judge", "no byte");
-    judge(example, 0, 8, PELIRANOPI_FILE_ENDS, 0);
-    open_case("judge", "a file that starts with its second line");
-    judge(example + 74, sizeof example - 74, 8, PELIRANOPI_OUT_OF_ORDER, 0);
-    open_case("judge", "65,536 bytes");
-    judge(spaces, sizeof spaces, 8, PELIRANOPI_FILE_TOO_LONG, 65535);
-    open_case("judge", "65,535 bytes");
-    judge(spaces, sizeof spaces - 1, 8, PELIRANOPI_NO_LINE_END, 65535);
+    FILE *stream = open_in(folder, name);
+    size_t length = fread(file, 1, room, stream);
+    fclose(stream);
+    return length;
+}
+
+/* Reads a row without its line feed; answers whether there was one. */
+static int read_row(FILE *rows, char *row, int room)
+{
+    if (fgets(row, room, rows) == NULL)
+        return 0;
+    row[strcspn(row, "\n")] = '\0';
+    return 1;
+}
+
+/* Judges a file with a list of so many words, 4,096 at most, and holds the answer against `ok LINES PARCELS CENTS list SUM` or `no
+ * NUMBER PLACE list 0`, where the sum is that of the list's words. */
+static void judge(const uint8_t *file, size_t length, size_t words, const char *due)
+{
+    static uint32_t list[4097];
+    for (size_t line = 0; line < 4097; line++)
+        list[line] = NONSENSE;
+    size_t lines = NONSENSE, parcels = NONSENSE, at = NONSENSE;
+    uint64_t cents = NONSENSE, sum = 0;
+    uint32_t refusal = peliranopi_judge(file, length, list, words, &lines, &parcels, &cents, &at);
+    for (size_t line = 0; line < words; line++)
+        sum += list[line];
+    char answer[128];
+    if (refusal == PELIRANOPI_ACCEPTED)
+        snprintf(answer, sizeof answer, "ok %zu %zu %" PRIu64 " list %" PRIu64, lines, parcels, cents, sum);
+    else
+        snprintf(answer, sizeof answer, "no %" PRIu32 " %zu list %" PRIu64, refusal, at, sum);
+    if (strcmp(answer, due) != 0)
+        fail(answer);
+    if (refusal == PELIRANOPI_ACCEPTED)
+        is("the place", at, 0);
+    else
+        is("what is counted", lines | parcels | cents, 0);
+    for (size_t line = lines; line < words; line++)
+        is("a word behind the lines", list[line], 0);
+    is("the word behind the list", list[words], NONSENSE);
+}
+
+/* The stored files: each row of stdout is a name in data/, the words lent, and the answer. */
+static void judge_cases(const char *folder)
+{
+    static uint8_t file[1 << 18];
+    char row[256], name[256], path[512];
+    FILE *rows = open_in(folder, "stdout");
+    while (read_row(rows, row, sizeof row)) {
+        size_t words;
+        int answer;
+        if (sscanf(row, "%255s %zu %n", name, &words, &answer) != 2 || words > 4096)
+            fail(row);
+        open_case("judge", name);
+        snprintf(path, sizeof path, "data/%s", name);
+        judge(file, read_in(folder, path, file, sizeof file), words, row + answer);
+    }
+    fclose(rows);
 }
 
 /* Reads the example's line at an offset; a refused one has neither record, fields nor next. */
@@ -232,18 +268,6 @@ static void check_number(const char *symbols, uint32_t refusal, uint32_t kind, s
     is("the place", at, place);
 }
 
-static void check_number_cases(void)
-{
-    check_number("09980000020041F", PELIRANOPI_ACCEPTED, PELIRANOPI_TRACKING, 0);
-    check_number("09980000020041f", PELIRANOPI_WRONG_SYMBOL, 0, 14);
-    check_number("09980000020041", PELIRANOPI_WRONG_LENGTH, 0, 0);
-    check_number("00000000000000U", PELIRANOPI_ACCEPTED, PELIRANOPI_TRACKING, 0);
-    check_number("09230000000000Z", PELIRANOPI_ACCEPTED, PELIRANOPI_TRACKING, 0);
-    check_number("09320000000000Z", PELIRANOPI_ACCEPTED, PELIRANOPI_TRACKING, 0);
-    check_number("0002800099800000200371550566", PELIRANOPI_ACCEPTED, PELIRANOPI_LABEL, 0);
-    check_number("0002800099800000200371550567", PELIRANOPI_WRONG_CHECK, 0, 27);
-}
-
 /* Issues a number into an output of so many bytes, 32 at most. */
 static void issue_number(const char *body, size_t length, uint32_t refusal, const char *number, size_t place)
 {
@@ -257,15 +281,6 @@ static void issue_number(const char *body, size_t length, uint32_t refusal, cons
     output_is(output, sizeof output, number, 0);
 }
 
-static void issue_number_cases(void)
-{
-    issue_number("09980000020041", 15, PELIRANOPI_ACCEPTED, "09980000020041F", 0);
-    issue_number("000280009980000020037155056", 32, PELIRANOPI_ACCEPTED, "0002800099800000200371550566", 0);
-    issue_number("09980000020041", 14, PELIRANOPI_OUTPUT_TOO_SHORT, "", 0);
-    issue_number("0998000002004F", 32, PELIRANOPI_WRONG_SYMBOL, "", 13);
-    issue_number("099800000200411", 32, PELIRANOPI_WRONG_LENGTH, "", 0);
-}
-
 static void check_iban(const char *symbols, uint32_t refusal, size_t place)
 {
     open_case("check_iban", symbols);
@@ -274,30 +289,59 @@ static void check_iban(const char *symbols, uint32_t refusal, size_t place)
     is("the place", at, place);
 }
 
-static void check_iban_cases(void)
+/* One stored vector: what is asked, the symbols, and the answer in words. The answer of `C` comes from no call. */
+static void vector(char asked, const char *symbols, const char *due)
 {
-    check_iban("AT611904300234573201", PELIRANOPI_ACCEPTED, 0);
-    check_iban("AT161904300234573201", PELIRANOPI_WRONG_CHECK, 2);
-    check_iban("AT61190430023457320a", PELIRANOPI_WRONG_SYMBOL, 19);
-    check_iban("AT611904300234", PELIRANOPI_WRONG_LENGTH, 0);
+    uint32_t refusal = PELIRANOPI_ACCEPTED;
+    size_t place = 0;
+    char number[64] = "";
+    sscanf(due, "no %" SCNu32 " %zu", &refusal, &place);
+    if (asked == 'B' && refusal == PELIRANOPI_ACCEPTED)
+        snprintf(number, sizeof number, "%.*s", (int)strcspn(due, "."), due);
+    uint32_t kind = strcmp(due, "tracking number") == 0 ? PELIRANOPI_TRACKING : strcmp(due, "label code") == 0 ? PELIRANOPI_LABEL : 0;
+    if (asked == 'N')
+        check_number(symbols, refusal, kind, place);
+    else if (asked == 'B')
+        issue_number(symbols, 30, refusal, number, place);
+    else if (asked == 'I')
+        check_iban(symbols, refusal, place);
+    else if (asked != 'C')
+        fail("no such vector");
+}
+
+/* The stored vectors: a row of stdin is a letter and symbols, and that of stdout the symbols and the answer. */
+static void vector_cases(const char *folder)
+{
+    char request[256], answer[256];
+    FILE *requests = open_in(folder, "stdin"), *answers = open_in(folder, "stdout");
+    while (read_row(requests, request, sizeof request)) {
+        const char *symbols = request + 2;
+        size_t length = strlen(symbols);
+        if (!read_row(answers, answer, sizeof answer) || strncmp(answer, symbols, length) != 0)
+            fail(request);
+        vector(request[0], symbols, answer + length + 1);
+    }
+    fclose(requests);
+    fclose(answers);
+    issue_number("09980000020041", 15, PELIRANOPI_ACCEPTED, "09980000020041F", 0);
+    issue_number("09980000020041", 14, PELIRANOPI_OUTPUT_TOO_SHORT, "", 0);
 }
 
 int main(int argc, char **argv)
 {
-    FILE *stream = argc == 2 ? fopen(argv[1], "rb") : NULL;
-    if (stream == NULL || fread(example, 1, sizeof example, stream) != sizeof example || fgetc(stream) != EOF) {
-        fprintf(stderr, "usage: calls EXAMPLE, a file of 276 bytes\n");
+    if (argc != 3) {
+        fprintf(stderr, "usage: calls CASES VECTORS\n");
         return 2;
     }
-    fclose(stream);
-    judge_cases();
+    called = "calls";
+    with = "the example";
+    is("its length", read_in(argv[1], "data/example", example, sizeof example), sizeof example);
+    judge_cases(argv[1]);
     read_line_cases();
     find_field_cases();
     write_line_cases();
     write_purpose_cases();
-    check_number_cases();
-    issue_number_cases();
-    check_iban_cases();
-    printf("test: %d calls from C answered as they should be\n", cases);
+    vector_cases(argv[2]);
+    printf("test: %d calls from C: answered as they should be\n", cases);
     return 0;
 }

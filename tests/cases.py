@@ -135,6 +135,8 @@ def cases():
     lines, cents = full_file(65535)
     yield "at_limit", accepted(lines, 4096, cents)
     yield "over_limit", refused(render(lines) + b" ", 1, 65535)
+    yield "far_over_limit", refused(b" " * 200000, 1, 65535)
+    yield "spaces_at_limit", refused(b" " * 65535, 2, 65535)
     # 2
     whole = render(e)
     yield "no_last_end", refused(whole[:-2], 2, len(whole) - 2)

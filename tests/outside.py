@@ -227,13 +227,13 @@ def main(count, seed, program):
     rng, known = random.Random(seed), structures()
     for name, requests, expected in kinds(count, rng, known):
         accepted, refusals = compare(name, requests, expected, program)
-        print(f"test: {count} {name} (seed {seed}) answered as stdnum does: {accepted} accepted, refusals{refusals}", flush=True)
+        print(f"test: {count} {name}: answered as stdnum does, {accepted} accepted, refusals{refusals} (seed {seed})", flush=True)
         if accepted in (0, count):
             sys.exit(f"test: of the {name} all or none were accepted")
     texts = [printed_iban(rng, known) for _ in range(count)]
     name = "IBANs with spaces or small letters"
     accepted, refusals = compare(name, [f"iban {text}" for text in texts], [expected_printed(text) for text in texts], program)
-    print(f"test: {count} {name} (seed {seed}), which stdnum takes: {accepted} accepted, refusals{refusals}")
+    print(f"test: {count} {name}: stdnum takes them, {accepted} accepted, refusals{refusals} (seed {seed})")
     if accepted:
         sys.exit(f"test: of the {name} some were accepted")
 

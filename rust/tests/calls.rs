@@ -1,4 +1,4 @@
-//! The marked cases of document 01, one refusal for each number, and the tables that name them.
+//! The calls on the example, one refusal for each number, and the tables that name them.
 
 use peliranopi::*;
 
@@ -120,39 +120,6 @@ fn the_purpose_of_the_cash_line_is_written() {
     let answer = write_purpose(EXAMPLE, 4, &mut list, &mut output);
     assert_eq!(refusal(answer), (15, 0));
     assert_eq!((list, output), ([0; 8], [b'.'; 40]));
-}
-
-#[test]
-fn the_marked_numbers_and_ibans() {
-    assert_eq!(check_number(b"09980000020041F"), Ok(Kind::Tracking));
-    assert_eq!(refusal(check_number(b"09980000020041f")), (17, 14));
-    assert_eq!(refusal(check_number(b"09980000020041")), (16, 0));
-    assert_eq!(check_number(b"00000000000000U"), Ok(Kind::Tracking));
-    assert_eq!(check_number(b"09230000000000Z"), Ok(Kind::Tracking));
-    assert_eq!(check_number(b"09320000000000Z"), Ok(Kind::Tracking));
-    let label = b"0002800099800000200371550566";
-    assert_eq!(check_number(label), Ok(Kind::Label));
-    let damaged = check_number(b"0002800099800000200371550567");
-    assert_eq!(refusal(damaged), (18, 27));
-    assert_eq!(check_iban(b"AT611904300234573201"), Ok(()));
-    assert_eq!(refusal(check_iban(b"AT161904300234573201")), (18, 2));
-
-    let mut output = [b'.'; 30];
-    assert_eq!(issue_number(&label[..27], &mut output), Ok(28));
-    assert_eq!(&output, b"0002800099800000200371550566..");
-}
-
-#[test]
-fn the_marked_amounts_and_dates() {
-    for amount in ["0.01", "999999.99"] {
-        assert!(judged(&with("12.50", amount)).is_ok(), "{amount}");
-    }
-    for amount in ["0.00", "01.00"] {
-        assert_eq!(refusal(judged(&with("12.50", amount))), (8, 225));
-    }
-    assert!(judged(&with("2021-02-24", "2024-02-29")).is_ok());
-    let missing_day = judged(&with("2021-02-24", "2023-02-29"));
-    assert_eq!(refusal(missing_day), (8, 42));
 }
 
 /// A refusal of each number, with its place.

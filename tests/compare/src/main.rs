@@ -105,7 +105,7 @@ fn main() {
         let count = (comparisons * share.share).div_ceil(1000);
         let tally = compare_all(share, count, seed);
         println!(
-            "test: {count} {} compared (seed {seed}): {} accepted, refusals{}",
+            "test: {count} {} compared: {} accepted, refusals{} (seed {seed})",
             share.name,
             tally.answers[0],
             tally.refusals()
@@ -126,7 +126,7 @@ fn require_all(share: &Share, tally: &Tally) {
     if share.kind != Kind::File {
         return;
     }
-    println!("test: {} of these files have {LIMIT} bytes", tally.full);
+    println!("test: of these files {} have {LIMIT} bytes", tally.full);
     if tally.full == 0 {
         exit(1);
     }

@@ -346,7 +346,7 @@ fn is_date_time(part: &[u8]) -> bool {
 
 /// The days of a Gregorian month.
 fn days_in(year: u64, month: u64) -> u64 {
-    let leap = year.is_multiple_of(4) && (!year.is_multiple_of(100) || year.is_multiple_of(400));
+    let leap = year % 4 == 0 && (year % 100 != 0 || year % 400 == 0);
     match month {
         2 if leap => 29,
         2 => 28,

@@ -1,0 +1,68 @@
+//! The stored files and vectors of the test programs, called from Rust.
+
+use peliranopi::*;
+
+/// The folders of the test programs that have them.
+const CASES: &str = concat!(env!("CARGO_MANIFEST_DIR"), "/../crates/cases");
+const VECTORS: &str = concat!(env!("CARGO_MANIFEST_DIR"), "/../crates/vectors");
+
+fn rows(folder: &str, name: &str) -> Vec<String> {
+    let text = std::fs::read_to_string(format!("{folder}/{name}")).unwrap();
+    text.lines().map(String::from).collect()
+}
+
+/// An answer in the words of the test programs.
+fn said<T>(answer: Result<T, Refused>, accepted: impl FnOnce(T) -> String) -> String {
+    match answer {
+        Ok(value) => accepted(value),
+        Err(refused) => format!("no {} {}", refused.why.number(), refused.place),
+    }
+}
+
+/// A row is a name in data/, the words lent, and the answer with the sum of the list's words.
+#[test]
+fn the_stored_files_are_judged_as_stored() {
+    let due = rows(CASES, "stdout");
+    let judged = due.iter().map(|row| {
+        let mut words = row.split(' ');
+        let (name, count) = (words.next().unwrap(), words.next().unwrap());
+        let file = std::fs::read(format!("{CASES}/data/{name}")).unwrap();
+        let mut list = vec![u32::MAX; count.parse().unwrap()];
+        let answer = said(judge(&file, &mut list), |totals| {
+            format!("ok {} {} {}", totals.lines, totals.parcels, totals.cents)
+        });
+        let sum: u64 = list.into_iter().map(u64::from).sum();
+        format!("{name} {count} {answer} list {sum}")
+    });
+    assert_eq!(judged.collect::<Vec<_>>(), due);
+}
+
+/// The answer to a request, which is a letter, a space and symbols.
+fn answer(request: &str) -> String {
+    let symbols = request[2..].as_bytes();
+    match &request[..1] {
+        "N" => said(check_number(symbols), |kind| match kind {
+            Kind::Tracking => "tracking number".to_string(),
+            Kind::Label => "label code".to_string(),
+        }),
+        "B" => {
+            let mut output = *b"..............................";
+            let written = issue_number(symbols, &mut output);
+            said(written, |_| String::from_utf8_lossy(&output).into_owned())
+        }
+        "I" => said(check_iban(symbols), |()| "IBAN".to_string()),
+        asked => panic!("no call answers {asked}"),
+    }
+}
+
+/// Check characters (`C`) come from no call.
+#[test]
+fn the_stored_vectors_are_answered_as_stored() {
+    let (requests, due) = (rows(VECTORS, "stdin"), rows(VECTORS, "stdout"));
+    assert_eq!(requests.len(), due.len());
+    for (request, due) in requests.iter().zip(due) {
+        if !request.starts_with('C') {
+            assert_eq!(format!("{} {}", &request[2..], answer(request)), due);
+        }
+    }
+}
