@@ -2,7 +2,9 @@
 
 use std::ops::Range;
 
-use crate::raw;
+use peliranopi_sys as sys;
+
+use crate::named::{named, UnknownNumber};
 use crate::refusal::{accepted, Refused};
 
 /// What an accepted file holds.
@@ -34,24 +36,47 @@ pub enum Record {
 }
 
 impl Record {
-    /// The record type as a number: 10 for 010, up to 60. The writer takes it.
-    pub fn number(self) -> u32 {
-        self as u32
-    }
-
-    /// The record with this number.
+    /// All six, by rising numbers.
     ///
     /// ```
     /// use peliranopi::Record;
     ///
-    /// assert_eq!(Record::from_number(40), Some(Record::Parcel));
-    /// assert_eq!(Record::from_number(41), None);
+    /// assert_eq!(Record::ALL.len(), 6);
     /// ```
-    pub fn from_number(number: u32) -> Option<Record> {
-        use Record::*;
-        [Header, Sender, Shipment, Parcel, Product, Feature]
-            .into_iter()
-            .find(|record| record.number() == number)
+    pub const ALL: &'static [Record] = &[
+        Record::Header,
+        Record::Sender,
+        Record::Shipment,
+        Record::Parcel,
+        Record::Product,
+        Record::Feature,
+    ];
+
+    /// The record type as a number: 10 for 010, up to 60. The writer takes it.
+    ///
+    /// ```
+    /// use peliranopi::Record;
+    ///
+    /// assert_eq!(Record::Parcel.number(), 40);
+    /// ```
+    pub fn number(self) -> u32 {
+        self as u32
+    }
+}
+
+/// The record with this number.
+///
+/// ```
+/// use peliranopi::Record;
+///
+/// assert_eq!(Record::try_from(40), Ok(Record::Parcel));
+/// assert!(Record::try_from(41).is_err());
+/// ```
+impl TryFrom<u32> for Record {
+    type Error = UnknownNumber;
+
+    fn try_from(number: u32) -> Result<Record, UnknownNumber> {
+        named(Record::ALL, Record::number, number)
     }
 }
 
@@ -69,7 +94,8 @@ pub struct Line {
 /// Judges a whole file.
 ///
 /// Accepted, word i of the list is where line i starts, for each line, and every other word is 0;
-/// refused, all words are 0. A list with too few words for the lines is a refusal.
+/// refused, all words are 0. A list with too few words for the lines is a refusal;
+/// [`LINES_MAX`](crate::LINES_MAX) words are always enough.
 ///
 /// ```
 /// let file = include_bytes!("../../examples/preadvice.csv");
@@ -84,7 +110,7 @@ pub fn judge(file: &[u8], list: &mut [u32]) -> Result<Totals, Refused> {
     // SAFETY: each pointer comes with the length of its own slice or points to one local number;
     // the list and the numbers are borrowed for this call alone.
     let number = unsafe {
-        raw::peliranopi_judge(
+        sys::peliranopi_judge(
             file.as_ptr(),
             file.len(),
             list.as_mut_ptr(),
@@ -118,7 +144,7 @@ pub fn read_line(file: &[u8], offset: usize) -> Result<Line, Refused> {
     let (mut record, mut fields, mut next, mut place) = (0, 0, 0, 0);
     // SAFETY: the file's pointer comes with its length; the others point to one local number each.
     let number = unsafe {
-        raw::peliranopi_read_line(
+        sys::peliranopi_read_line(
             file.as_ptr(),
             file.len(),
             offset,
@@ -129,16 +155,16 @@ pub fn read_line(file: &[u8], offset: usize) -> Result<Line, Refused> {
         )
     };
     accepted(number, place)?;
-    let record = Record::from_number(record).expect("the contract names one of the six records");
     Ok(Line {
-        record,
+        record: Record::try_from(record)?,
         fields,
         next,
     })
 }
 
 /// Finds the field with this number, counted from 1, of the line that starts at the offset. The
-/// answer is its part of the file, which may be empty. The line is judged as by [`read_line`].
+/// answer is its part of the file, which may be empty. The line is judged as by [`read_line`], at
+/// each call anew: [`find_fields`](crate::find_fields) gives all fields of a line at once.
 ///
 /// ```
 /// let file = include_bytes!("../../examples/preadvice.csv");
@@ -150,7 +176,7 @@ pub fn find_field(file: &[u8], offset: usize, number: usize) -> Result<Range<usi
     let (mut start, mut length, mut place) = (0, 0, 0);
     // SAFETY: the file's pointer comes with its length; the others point to one local number each.
     let refusal = unsafe {
-        raw::peliranopi_find_field(
+        sys::peliranopi_find_field(
             file.as_ptr(),
             file.len(),
             offset,
@@ -161,7 +187,7 @@ pub fn find_field(file: &[u8], offset: usize, number: usize) -> Result<Range<usi
         )
     };
     accepted(refusal, place)?;
-    Ok(start..start + length)
+    Ok(start..start.saturating_add(length))
 }
 
 /// Writes one line into the output from the fill on, and answers how many bytes it has. The record
@@ -190,7 +216,7 @@ pub fn write_line(
     // SAFETY: each pointer comes with the length of its own slice or points to one local number;
     // the output and the numbers are borrowed for this call alone.
     let number = unsafe {
-        raw::peliranopi_write_line(
+        sys::peliranopi_write_line(
             record,
             text.as_ptr(),
             text.len(),
@@ -208,7 +234,8 @@ pub fn write_line(
 }
 
 /// Writes the payment purpose of the cash line with this number, counted from 0, at the output's
-/// start, and answers how many bytes it has: at most 35, and the output must have 35 or more.
+/// start, and answers how many bytes it has: at most [`PURPOSE_LEN_MAX`](crate::PURPOSE_LEN_MAX), and
+/// the output must have so many or more.
 ///
 /// The file is judged first, and the list is lent as for [`judge`]; here too its words are all 0
 /// after a refusal. Every other byte of the output stays as it was; on a refusal all of them do.
@@ -230,7 +257,7 @@ pub fn write_purpose(
     // SAFETY: each pointer comes with the length of its own slice or points to one local number;
     // the list, the output and the numbers are borrowed for this call alone.
     let number = unsafe {
-        raw::peliranopi_write_purpose(
+        sys::peliranopi_write_purpose(
             file.as_ptr(),
             file.len(),
             line,
