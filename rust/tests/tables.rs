@@ -145,9 +145,9 @@ fn constants_in(block: &str) -> Vec<Constant> {
 }
 
 /// A name of the code as C's constants are written: `FileTooLong` as `FILE_TOO_LONG`.
-fn constant(name: impl Debug) -> String {
+fn constant(name: &str) -> String {
     let mut constant = String::new();
-    for letter in format!("{name:?}").chars() {
+    for letter in name.chars() {
         if letter.is_uppercase() && !constant.is_empty() {
             constant.push('_');
         }
@@ -156,28 +156,46 @@ fn constant(name: impl Debug) -> String {
     constant
 }
 
+/// Names of the code and their numbers as the header has them.
+fn in_c(names: impl Iterator<Item = (String, u32)>) -> Vec<(String, usize)> {
+    names
+        .map(|(name, number)| (constant(&name), number as usize))
+        .collect()
+}
+
+/// Names and numbers of the constants of one enum of the header.
+fn numbers(which: usize) -> Vec<(String, usize)> {
+    let constants = constants().swap_remove(which).into_iter();
+    constants.map(|(name, number, _)| (name, number)).collect()
+}
+
 #[test]
-fn the_c_header_has_the_refusals_with_the_words_of_the_crate() {
-    let mut due = vec![("ACCEPTED".to_string(), 0, String::new())];
-    due.extend(Refusal::ALL.iter().map(|refusal| {
-        let number = refusal.number() as usize;
-        (constant(refusal), number, refusal.to_string())
-    }));
-    hold("c/peliranopi.h", &constants()[0], &due);
+fn the_c_header_has_the_proved_refusals() {
+    let refusals = proved().into_iter().map(|(number, name)| (name, number));
+    let due = [("Accepted".to_string(), 0)].into_iter().chain(refusals);
+    hold("c/peliranopi.h", &numbers(0), &in_c(due));
+}
+
+#[test]
+fn the_c_header_has_the_words_of_the_crate() {
+    let refusals = constants().swap_remove(0);
+    for (name, number, words) in &refusals[1..] {
+        let refusal = Refusal::try_from(*number as u32);
+        let due = refusal.map(|refusal| refusal.to_string());
+        assert_eq!(due.as_ref(), Ok(words), "{name} in c/peliranopi.h");
+    }
 }
 
 #[test]
 fn the_c_header_has_the_records_the_kinds_and_the_limits() {
-    let numbers = |which: usize| -> Vec<(String, usize)> {
-        let constants = constants().swap_remove(which).into_iter();
-        constants.map(|(name, number, _)| (name, number)).collect()
-    };
     let records = Record::ALL
         .iter()
-        .map(|r| (constant(r), r.number() as usize));
-    hold("c/peliranopi.h", &numbers(1), &records.collect::<Vec<_>>());
-    let kinds = Kind::ALL.iter().map(|k| (constant(k), k.number() as usize));
-    hold("c/peliranopi.h", &numbers(2), &kinds.collect::<Vec<_>>());
+        .map(|record| (format!("{record:?}"), record.number()));
+    hold("c/peliranopi.h", &numbers(1), &in_c(records));
+    let kinds = Kind::ALL
+        .iter()
+        .map(|kind| (format!("{kind:?}"), kind.number()));
+    hold("c/peliranopi.h", &numbers(2), &in_c(kinds));
     let limits = [
         ("FILE_LEN_MAX", FILE_LEN_MAX),
         ("LINES_MAX", LINES_MAX),
