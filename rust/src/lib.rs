@@ -8,7 +8,7 @@
 //! says, after a refusal too.
 //!
 //! None panics. The contracts fix which numbers the library answers; should another library be
-//! linked that answers others, they are [`Refusal::Unknown`].
+//! linked that answers others, they are [`Refusal::Other`].
 //!
 //! ```
 //! use peliranopi::{find_fields, judge, LINES_MAX};

@@ -13,7 +13,7 @@ macro_rules! refusals {
         /// README.md. The writer alone has no file: there the place is the number of the field for
         /// the refusals 6 to 8, else 0.
         ///
-        /// Later versions may have more of them, so a `match` has an arm for others.
+        /// Later versions may have more of them, so a `match` needs an arm for the others.
         #[derive(Clone, Copy, Debug, PartialEq, Eq, Hash)]
         #[non_exhaustive]
         pub enum Refusal {
@@ -23,8 +23,8 @@ macro_rules! refusals {
             )*
             /// No row of the table: the linked library answered this number, as a refusal, a record
             /// or a kind, and this version of the crate has no name for it. The library of the same
-            /// version is proved to answer no such number; a later one may.
-            Unknown(UnknownNumber),
+            /// version is proved to answer no such number; another one may.
+            Other(UnknownNumber),
         }
 
         impl Refusal {
@@ -50,7 +50,7 @@ macro_rules! refusals {
             pub fn number(self) -> u32 {
                 match self {
                     $(Refusal::$name => $number,)*
-                    Refusal::Unknown(unknown) => unknown.number(),
+                    Refusal::Other(unknown) => unknown.number(),
                 }
             }
         }
@@ -60,7 +60,7 @@ macro_rules! refusals {
             fn fmt(&self, f: &mut fmt::Formatter<'_>) -> fmt::Result {
                 match self {
                     $(Refusal::$name => f.write_str($when),)*
-                    Refusal::Unknown(unknown) => unknown.fmt(f),
+                    Refusal::Other(unknown) => unknown.fmt(f),
                 }
             }
         }
@@ -126,7 +126,7 @@ impl fmt::Display for Refused {
     fn fmt(&self, f: &mut fmt::Formatter<'_>) -> fmt::Result {
         let Refused { why, place } = self;
         match why {
-            Refusal::Unknown(unknown) => {
+            Refusal::Other(unknown) => {
                 write!(f, "another library answered at {place}: {unknown}")
             }
             _ => write!(f, "refusal {} at {place}: {why}", why.number()),
@@ -139,7 +139,7 @@ impl Error for Refused {}
 /// An answer that has no name is handed on as a refusal, at 0.
 impl From<UnknownNumber> for Refused {
     fn from(unknown: UnknownNumber) -> Refused {
-        let why = Refusal::Unknown(unknown);
+        let why = Refusal::Other(unknown);
         Refused { why, place: 0 }
     }
 }
@@ -149,7 +149,7 @@ pub(crate) fn accepted(number: u32, place: usize) -> Result<(), Refused> {
     if number == 0 {
         return Ok(());
     }
-    let why = Refusal::try_from(number).unwrap_or_else(Refusal::Unknown);
+    let why = Refusal::try_from(number).unwrap_or_else(Refusal::Other);
     Err(Refused { why, place })
 }
 
@@ -162,6 +162,6 @@ mod tests {
         assert_eq!(accepted(0, 0), Ok(()));
         let refused = accepted(1_000, 7).unwrap_err();
         assert_eq!((refused.why.number(), refused.place), (1_000, 7));
-        assert!(matches!(refused.why, Refusal::Unknown(_)));
+        assert!(matches!(refused.why, Refusal::Other(_)));
     }
 }
