@@ -9,18 +9,16 @@ use crate::refusal::Refused;
 /// Judges the line that starts at the offset, as [`read_line`] does, and gives its fields in their
 /// order, each as its part of the file. The line is judged once, however many fields it has.
 ///
-/// The n-th of them is what [`find_field`](crate::find_field) finds under the number n. In a line
-/// that is accepted, semicolons divide the fields and nothing quotes them; no field has one, and CR
-/// LF stands at the end alone. So the proved reader and this division cut the line at the same
-/// bytes. Tests hold the two against each other, field by field, on every stored line and on
-/// generated ones.
+/// The n-th of them is what [`find_field`](crate::find_field) finds under the number n: the proved
+/// reader divides an accepted line at its semicolons, and nothing quotes one. So its text in front
+/// of CR LF, cut at every semicolon, is the record type and the fields. This cut is not proved;
+/// tests hold it against `find_field`, for every field of every stored line and of generated ones.
 ///
 /// ```
 /// let file = include_bytes!("../../examples/preadvice.csv");
-/// let fields = peliranopi::find_fields(file, 216)?;
+/// let mut fields = peliranopi::find_fields(file, 216)?.map(|field| &file[field]);
 /// assert_eq!(fields.len(), 10);
-/// let filled: Vec<&[u8]> = fields.map(|field| &file[field]).filter(|text| !text.is_empty()).collect();
-/// assert_eq!(filled[..3], [&b"006"[..], b"12.50", b"EUR"]);
+/// assert_eq!(fields.next(), Some(&b"006"[..]));
 /// # Ok::<(), peliranopi::Refused>(())
 /// ```
 pub fn find_fields(file: &[u8], offset: usize) -> Result<Fields<'_>, Refused> {

@@ -234,8 +234,8 @@ pub fn write_line(
 }
 
 /// Writes the payment purpose of the cash line with this number, counted from 0, at the output's
-/// start, and answers how many bytes it has: at most [`PURPOSE_LEN_MAX`](crate::PURPOSE_LEN_MAX), and
-/// the output must have so many or more.
+/// start, and answers how many bytes it has: at most [`PURPOSE_LEN_MAX`](crate::PURPOSE_LEN_MAX),
+/// and the output must have so many or more.
 ///
 /// The file is judged first, and the list is lent as for [`judge`]; here too its words are all 0
 /// after a refusal. Every other byte of the output stays as it was; on a refusal all of them do.

@@ -1,4 +1,5 @@
-//! Links libpeliranopi.a, which `rt staticlib peliranopi` writes; PELIRANOPI_LIB names another folder that has it.
+//! Links libpeliranopi.a, which `rt staticlib peliranopi` writes; PELIRANOPI_LIB names another folder
+//! that has it, by its whole path.
 
 use std::path::PathBuf;
 
@@ -10,7 +11,8 @@ fn main() {
     println!("cargo:rerun-if-changed={}", library.display());
     if !library.exists() {
         println!(
-            "cargo:warning={} is missing: `rt staticlib peliranopi` writes it, or PELIRANOPI_LIB names its folder",
+            "cargo:warning={} is missing: `rt staticlib peliranopi` writes it, \
+             or PELIRANOPI_LIB names its folder",
             library.display()
         );
     }

@@ -186,11 +186,8 @@ fn each_number_is_given_at_its_place_and_said_in_words() {
     assert_eq!(whys, Refusal::ALL, "a case for each refusal");
     for (refused, place) in given {
         assert_eq!(refused.place, place, "{refused}");
-        let words = format!(
-            "refusal {} at {place}: {}",
-            refused.why.number(),
-            refused.why
-        );
+        let (number, when) = (refused.why.number(), refused.why);
+        let words = format!("refusal {number} at {place}: {when}");
         assert_eq!(refused.to_string(), words);
     }
 }
@@ -230,11 +227,8 @@ fn the_calls_have_these_limits() {
 
     let mut output = [0; PURPOSE_LEN_MAX];
     assert!(write_purpose(EXAMPLE, 5, &mut [0; 8], &mut output).is_ok());
-    let short = &mut output[1..];
-    assert_eq!(
-        refusal(write_purpose(EXAMPLE, 5, &mut [0; 8], short)),
-        (13, 0)
-    );
+    let answer = write_purpose(EXAMPLE, 5, &mut [0; 8], &mut output[1..]);
+    assert_eq!(refusal(answer), (13, 0));
 
     for length in 0..=100 {
         let fits = [TRACKING_LEN, LABEL_LEN].contains(&length);
@@ -255,52 +249,48 @@ fn line(record: &str, count: usize, filled: &[(usize, &str)]) -> Vec<u8> {
     format!("{record};{}\r\n", fields.join(";")).into_bytes()
 }
 
-#[test]
-fn no_file_has_more_lines_than_the_limit() {
-    let date = "2021-02-23T13:37:50";
-    let header = [
-        (1, "0000000000"),
-        (2, "x"),
-        (3, date),
-        (4, date),
-        (5, "1005"),
-        (6, "5"),
-    ];
+/// A short line of each record, in the order in which they come.
+fn short_lines() -> [Vec<u8>; 6] {
+    let (customer, date) = ("0000000000", "2021-02-23T13:37:50");
+    let times = [(3, date), (4, date), (5, "1005"), (6, "5")];
+    let header = [&[(1, customer), (2, "x")], &times[..]].concat();
     let sender = [1, 5, 6, 7, 9, 11, 12, 13].map(|at| (at, if at == 5 { "BR" } else { "x" }));
     let shipment = [16, 20, 21, 22, 24, 26].map(|at| (at, if at == 20 { "BR" } else { "x" }));
-    let parcel = line("040", 3, &[(1, "1000000000000000000001")]);
-    let product = line("050", 1, &[(1, "x")]);
-    let feature = line("060", 10, &[(1, "004")]);
-
-    // Lines have 18 bytes or more on average, each 050 line with the 040 line in front of it.
-    assert_eq!((parcel.len(), product.len(), feature.len()), (30, 7, 18));
-    assert_eq!(LINES_MAX, FILE_LEN_MAX / feature.len());
-    for shortest in [&parcel, &product, &feature] {
-        assert!(read_line(shortest, 0).is_ok());
-        for at in 0..shortest.len() {
-            let shorter = [&shortest[..at], &shortest[at + 1..]].concat();
-            assert!(read_line(&shorter, 0).is_err(), "without its byte {at}");
-        }
-    }
-
-    let mut file = [
+    [
         line("010", 10, &header),
         line("020", 16, &sender),
         line("030", 40, &shipment),
-        parcel,
-        product,
+        line("040", 3, &[(1, "1000000000000000000001")]),
+        line("050", 1, &[(1, "x")]),
+        line("060", 10, &[(1, "004")]),
     ]
-    .concat();
-    let mut lines = 5;
+}
+
+/// So lines have 18 bytes or more on average, each 050 line with the 040 line in front of it.
+#[test]
+fn no_line_is_shorter_than_the_most_lines_ask_for() {
+    let lines = short_lines();
+    assert_eq!(lines.each_ref().map(Vec::len), [69, 30, 52, 30, 7, 18]);
+    assert_eq!(LINES_MAX, FILE_LEN_MAX / 18);
+    for line in &lines[3..] {
+        assert!(read_line(line, 0).is_ok());
+        for at in 0..line.len() {
+            let shorter = [&line[..at], &line[at + 1..]].concat();
+            assert!(read_line(&shorter, 0).is_err(), "without its byte {at}");
+        }
+    }
+}
+
+#[test]
+fn a_list_for_the_most_lines_is_never_full() {
+    let feature = &short_lines()[5];
+    let mut file = short_lines().concat();
     while file.len() + feature.len() <= FILE_LEN_MAX {
-        file.extend(&feature);
-        lines += 1;
+        file.extend(feature);
     }
     let totals = judge(&file, &mut [0; LINES_MAX]).unwrap();
-    assert_eq!((totals.lines, lines), (3_635, 3_635));
-    file.extend(&feature);
-    assert_eq!(
-        refusal(judge(&file, &mut [0; LINES_MAX])),
-        (1, FILE_LEN_MAX)
-    );
+    assert_eq!(totals.lines, 3_635);
+    file.extend(feature);
+    let answer = judge(&file, &mut [0; LINES_MAX]);
+    assert_eq!(refusal(answer), (1, FILE_LEN_MAX));
 }

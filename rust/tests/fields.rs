@@ -1,4 +1,5 @@
-//! All fields of a line at once, held against the proved call that finds one of them: on every stored line and on generated ones.
+//! All fields of a line at once, held against the proved call that finds one of them: on every
+//! stored line and on generated ones.
 
 use std::path::{Path, PathBuf};
 

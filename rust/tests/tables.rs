@@ -1,5 +1,5 @@
-//! What stands in more than one place, held together: the refusals, the other constants of the C header, its functions and the
-//! version. A test fails with the name of the place that lacks a row.
+//! What stands in more than one place, held together: the refusals, the other constants of the C
+//! header, its functions and the version. A test fails with the name of the place that lacks a row.
 
 use std::fmt::Debug;
 
@@ -105,18 +105,10 @@ fn the_table_of_the_readme_has_the_proved_refusals() {
 #[test]
 fn the_table_of_the_readme_has_the_words_of_the_crate() {
     let rows = spaced(between(CRATE, "\nrefusals! {", "\n}"));
-    for Row {
-        number,
-        name,
-        when,
-        place,
-    } in table()
-    {
-        let row = format!("{number} {name}: {when:?}, {place:?};");
-        assert!(
-            rows.contains(&row),
-            "rust/src/refusal.rs lacks the row of README.md: {row}"
-        );
+    for row in table() {
+        let (number, name, when, place) = (row.number, row.name, row.when, row.place);
+        let due = format!("{number} {name}: {when:?}, {place:?};");
+        assert!(rows.contains(&due), "rust/src/refusal.rs lacks {due}");
     }
 }
 

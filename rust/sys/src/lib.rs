@@ -1,14 +1,16 @@
-//! The calls of Peliranopi's static library as they are: the functions of c/peliranopi.h, with its names and in its order. The
-//! crate `peliranopi` has safe functions over them, and names for the numbers.
+//! The calls of Peliranopi's static library as they are: the functions of c/peliranopi.h, with its
+//! names and in its order. The crate `peliranopi` has safe functions over them, and names for the
+//! numbers.
 //!
-//! Each answers 0 where it accepts, else a refusal's number, and sets every number behind a pointer. The header says what a call
-//! leaves in what it was lent. The declarations below are held against the header by a test of the crate `peliranopi`.
+//! Each answers 0 where it accepts, else a refusal's number, and sets every number behind a pointer.
+//! The header says what a call leaves in what it was lent. A test of the crate `peliranopi` holds
+//! these declarations against the header.
 //!
 //! # Safety
 //!
-//! Each call is safe if every pointer is aligned, not null (not even for length 0) and has as many elements behind it as its
-//! length says (one where it has no length), and if what is lent for writing overlaps nothing else. Nothing is asked of the
-//! bytes, lengths and numbers themselves.
+//! A call is safe if every pointer is aligned, not null (not even for length 0) and has as many
+//! elements behind it as its length says, or one where it has no length, and if what is lent for
+//! writing overlaps nothing else. Nothing is asked of the bytes, lengths and numbers themselves.
 //!
 //! ```
 //! let (iban, mut place) = (b"AT161904300234573201", 0);
