@@ -6,8 +6,8 @@
 #include <stdio.h>
 
 /* One byte more than a file may have, so that a longer file is seen to be one. Nothing behind it is read. */
-static uint8_t file[65536];
-static uint32_t list[4096];
+static uint8_t file[PELIRANOPI_FILE_LEN_MAX + 1];
+static uint32_t list[PELIRANOPI_LINES_MAX];
 
 /* Reads the start of a file, up to the room for it; answers whether that was possible. */
 static int read_start(const char *name, size_t *length)

@@ -1,8 +1,9 @@
-/* The calls of Peliranopi for C. Link libpeliranopi.a, which `rt staticlib peliranopi` builds (README.md, 'From C').
+/* The calls of Peliranopi for C and C++. Link libpeliranopi.a, which `rt staticlib peliranopi` builds (README.md, 'From C').
  *
  * Every call answers 0 where it accepts, else the refusal's number below. Each takes every input: whatever the bytes, lengths and
- * numbers are, it ends and reads and writes only inside what it was lent. What the caller has to keep is C's own part: a pointer is
- * not null and has as many elements behind it as its length says, and what is lent for writing overlaps nothing else.
+ * numbers are, it ends and reads and writes only inside what it was lent. What the caller has to keep is C's own part: a pointer has
+ * as many elements behind it as its length says, or one where it has no length; what is lent for writing overlaps nothing else; and
+ * no pointer is null, not even for length 0.
  *
  * After every call each number behind a pointer is set: `place` to the refusal's place, or 0 where the call accepts; every other one
  * to the value that its comment names, or 0 where the call refuses. */
@@ -16,11 +17,19 @@
 extern "C" {
 #endif
 
-/* The refusals. README.md has the table with their places. */
+/* The version of this interface. CONTRIBUTING.md says how it is counted. */
+#define PELIRANOPI_VERSION_MAJOR 0
+#define PELIRANOPI_VERSION_MINOR 1
+#define PELIRANOPI_VERSION_PATCH 0
+#define PELIRANOPI_VERSION "0.1.0"
+
+/* The refusals. README.md has the table with their places. Later versions may have more: an answer that is not 0 is a refusal, also
+ * where its number is not among these. */
 enum {
     PELIRANOPI_ACCEPTED = 0,
     PELIRANOPI_FILE_TOO_LONG = 1,       /* the file has over 65,535 bytes */
-    PELIRANOPI_NO_LINE_END = 2,         /* a line does not end in CR LF, or the offset lies past the file */
+    PELIRANOPI_NO_LINE_END = 2,         /* a line's first byte that is no text byte is missing or not CR LF, or the offset lies
+                                           past the file */
     PELIRANOPI_UNKNOWN_RECORD = 3,      /* the record type is none of 010 to 060 */
     PELIRANOPI_OUT_OF_ORDER = 4,        /* the record may not come here */
     PELIRANOPI_FIELD_COUNT = 5,         /* the line has too few or too many fields */
@@ -39,10 +48,31 @@ enum {
     PELIRANOPI_WRONG_CHECK = 18         /* the check is wrong */
 };
 
+/* The records of a file, as numbers. */
+enum {
+    PELIRANOPI_HEADER = 10,   /* 010, the first line */
+    PELIRANOPI_SENDER = 20,   /* 020, who sends */
+    PELIRANOPI_SHIPMENT = 30, /* 030, one shipment and its receiver */
+    PELIRANOPI_PARCEL = 40,   /* 040, one parcel of the shipment */
+    PELIRANOPI_PRODUCT = 50,  /* 050, the product */
+    PELIRANOPI_FEATURE = 60   /* 060, a feature of the product, for example cash on delivery */
+};
+
 /* The kinds of DPD number. */
 enum {
-    PELIRANOPI_TRACKING = 1,
-    PELIRANOPI_LABEL = 2
+    PELIRANOPI_TRACKING = 1, /* a tracking number: 14 digits and a check */
+    PELIRANOPI_LABEL = 2     /* a label code: 27 symbols and a check */
+};
+
+/* The limits. Lengths are in bytes. */
+enum {
+    PELIRANOPI_FILE_LEN_MAX = 65535, /* a longer file is refused */
+    PELIRANOPI_LINES_MAX = 3640,     /* more lines no accepted file has: a list with so many words is never full */
+    PELIRANOPI_PURPOSE_LEN_MAX = 35, /* a payment purpose at most, and the output for it at least */
+    PELIRANOPI_TRACKING_LEN = 15,    /* a tracking number */
+    PELIRANOPI_LABEL_LEN = 28,       /* a label code */
+    PELIRANOPI_IBAN_LEN_MIN = 15,    /* an IBAN at least */
+    PELIRANOPI_IBAN_LEN_MAX = 34     /* an IBAN at most */
 };
 
 /* Judges a whole file: its lines, its 040 lines (parcels), and the cash to collect in cents.
@@ -51,8 +81,8 @@ uint32_t peliranopi_judge(const uint8_t *file, size_t file_len,
                           uint32_t *list, size_t list_len,
                           size_t *lines, size_t *parcels, uint64_t *cents, size_t *place);
 
-/* Judges the line that starts at the offset, alone: its record as a number (10 for 010, up to 60), how many fields it has behind the
- * record type, and where the next line starts. */
+/* Judges the line that starts at the offset, alone: its record (PELIRANOPI_HEADER to PELIRANOPI_FEATURE), how many fields it has
+ * behind the record type, and where the next line starts. */
 uint32_t peliranopi_read_line(const uint8_t *file, size_t file_len, size_t offset,
                               uint32_t *record, size_t *fields, size_t *next, size_t *place);
 
@@ -61,7 +91,8 @@ uint32_t peliranopi_read_line(const uint8_t *file, size_t file_len, size_t offse
 uint32_t peliranopi_find_field(const uint8_t *file, size_t file_len, size_t offset, size_t number,
                                size_t *start, size_t *length, size_t *place);
 
-/* Writes one line: record as a number (10 for 010, up to 60), the fields joined in one text, and where each of them ends in it.
+/* Writes one line: its record (PELIRANOPI_HEADER to PELIRANOPI_FEATURE), the fields joined in one text, and where each of them ends
+ * in it.
  * place: the number of the field for the refusals 6 to 8, counted from 1, else 0.
  * written: how many bytes.
  * output: accepted, the line stands from fill on, and every other byte is as it was; refused, all bytes are as they were. */
@@ -70,9 +101,9 @@ uint32_t peliranopi_write_line(uint32_t record, const uint8_t *text, size_t text
                                uint8_t *output, size_t output_len, size_t fill,
                                size_t *written, size_t *place);
 
-/* Writes the payment purpose of the line with this number, counted from 0, of a file. The output has at least 35 bytes, or it is
- * refused.
- * written: how many bytes, at most 35.
+/* Writes the payment purpose of the line with this number, counted from 0, of a file. The output has PELIRANOPI_PURPOSE_LEN_MAX bytes
+ * or more, or it is refused.
+ * written: how many bytes, at most PELIRANOPI_PURPOSE_LEN_MAX.
  * list: accepted, as after peliranopi_judge; refused, all words are 0.
  * output: accepted, the purpose stands at its start, and every other byte is as it was; refused, all bytes are as they were. */
 uint32_t peliranopi_write_purpose(const uint8_t *file, size_t file_len, size_t line,
@@ -80,7 +111,7 @@ uint32_t peliranopi_write_purpose(const uint8_t *file, size_t file_len, size_t l
                                   uint8_t *output, size_t output_len,
                                   size_t *written, size_t *place);
 
-/* Checks a tracking number (15 symbols) or a label code (28): its kind. */
+/* Checks a tracking number (15 symbols) or a label code (28): its kind, PELIRANOPI_TRACKING or PELIRANOPI_LABEL. */
 uint32_t peliranopi_check_number(const uint8_t *symbols, size_t symbols_len, uint32_t *kind, size_t *place);
 
 /* Issues the number that has this body (14 or 27 symbols).

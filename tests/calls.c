@@ -145,7 +145,8 @@ static void read_line(size_t offset, uint32_t refusal, uint32_t record, size_t f
 
 static void read_line_cases(void)
 {
-    static const uint32_t records[6] = {10, 20, 30, 40, 50, 60};
+    static const uint32_t records[6] = {
+        PELIRANOPI_HEADER, PELIRANOPI_SENDER, PELIRANOPI_SHIPMENT, PELIRANOPI_PARCEL, PELIRANOPI_PRODUCT, PELIRANOPI_FEATURE};
     static const size_t fields[6] = {10, 16, 40, 3, 1, 10};
     for (int line = 0; line < 6; line++) {
         open_case("read_line", "a line of the example");
@@ -211,21 +212,21 @@ static void write_line_cases(void)
     open_case("write_line", "the example's last line");
     if (memcmp(line, example + 216, 60) != 0)
         fail("the example has another");
-    write_line(60, text, cash, 10, 60, 0, PELIRANOPI_ACCEPTED, line, 0);
+    write_line(PELIRANOPI_FEATURE, text, cash, 10, 60, 0, PELIRANOPI_ACCEPTED, line, 0);
     open_case("write_line", "behind 40 bytes");
-    write_line(60, text, cash, 10, 128, 40, PELIRANOPI_ACCEPTED, line, 0);
+    write_line(PELIRANOPI_FEATURE, text, cash, 10, 128, 40, PELIRANOPI_ACCEPTED, line, 0);
     open_case("write_line", "one byte short");
-    write_line(60, text, cash, 10, 99, 40, PELIRANOPI_OUTPUT_TOO_SHORT, "", 0);
+    write_line(PELIRANOPI_FEATURE, text, cash, 10, 99, 40, PELIRANOPI_OUTPUT_TOO_SHORT, "", 0);
     open_case("write_line", "a fill past the output");
-    write_line(50, "10", product, 1, 128, SIZE_MAX, PELIRANOPI_OUTPUT_TOO_SHORT, "", 0);
+    write_line(PELIRANOPI_PRODUCT, "10", product, 1, 128, SIZE_MAX, PELIRANOPI_OUTPUT_TOO_SHORT, "", 0);
     open_case("write_line", "record 51");
     write_line(51, "10", product, 1, 128, 0, PELIRANOPI_UNKNOWN_RECORD, "", 0);
     open_case("write_line", "an end behind the text");
-    write_line(50, "1", product, 1, 128, 0, PELIRANOPI_FIELD_ENDS, "", 0);
+    write_line(PELIRANOPI_PRODUCT, "1", product, 1, 128, 0, PELIRANOPI_FIELD_ENDS, "", 0);
     open_case("write_line", "one field of ten");
-    write_line(60, "10", product, 1, 128, 0, PELIRANOPI_FIELD_COUNT, "", 0);
+    write_line(PELIRANOPI_FEATURE, "10", product, 1, 128, 0, PELIRANOPI_FIELD_COUNT, "", 0);
     open_case("write_line", "a semicolon in field 1");
-    write_line(50, "1;", product, 1, 128, 0, PELIRANOPI_FIELD_FORM, "", 1);
+    write_line(PELIRANOPI_PRODUCT, "1;", product, 1, 128, 0, PELIRANOPI_FIELD_FORM, "", 1);
 }
 
 /* Writes the purpose of a line of the example into an output of so many bytes, 64 at most. */
@@ -249,9 +250,9 @@ static void write_purpose_cases(void)
     open_case("write_purpose", "the cash line");
     write_purpose(5, 64, PELIRANOPI_ACCEPTED, "1000000000000000000001/B");
     open_case("write_purpose", "an output of 35 bytes");
-    write_purpose(5, 35, PELIRANOPI_ACCEPTED, "1000000000000000000001/B");
+    write_purpose(5, PELIRANOPI_PURPOSE_LEN_MAX, PELIRANOPI_ACCEPTED, "1000000000000000000001/B");
     open_case("write_purpose", "an output of 34 bytes");
-    write_purpose(5, 34, PELIRANOPI_OUTPUT_TOO_SHORT, "");
+    write_purpose(5, PELIRANOPI_PURPOSE_LEN_MAX - 1, PELIRANOPI_OUTPUT_TOO_SHORT, "");
     open_case("write_purpose", "a line that is no 006 line");
     write_purpose(4, 64, PELIRANOPI_NOT_THERE, "");
     open_case("write_purpose", "a line that is not there");
@@ -323,8 +324,16 @@ static void vector_cases(const char *folder)
     }
     fclose(requests);
     fclose(answers);
-    issue_number("09980000020041", 15, PELIRANOPI_ACCEPTED, "09980000020041F", 0);
-    issue_number("09980000020041", 14, PELIRANOPI_OUTPUT_TOO_SHORT, "", 0);
+    issue_number("09980000020041", PELIRANOPI_TRACKING_LEN, PELIRANOPI_ACCEPTED, "09980000020041F", 0);
+    issue_number("09980000020041", PELIRANOPI_TRACKING_LEN - 1, PELIRANOPI_OUTPUT_TOO_SHORT, "", 0);
+    issue_number("000280009980000020037155056", PELIRANOPI_LABEL_LEN, PELIRANOPI_ACCEPTED, "0002800099800000200371550566", 0);
+    /* Of the lengths at the limits: the first symbol is a digit, which is told where the length holds. */
+    const char *digits = "00000000000000000000000000000000000";
+    const char *end = digits + strlen(digits);
+    check_iban(end - (PELIRANOPI_IBAN_LEN_MIN - 1), PELIRANOPI_WRONG_LENGTH, 0);
+    check_iban(end - PELIRANOPI_IBAN_LEN_MIN, PELIRANOPI_WRONG_SYMBOL, 0);
+    check_iban(end - PELIRANOPI_IBAN_LEN_MAX, PELIRANOPI_WRONG_SYMBOL, 0);
+    check_iban(end - (PELIRANOPI_IBAN_LEN_MAX + 1), PELIRANOPI_WRONG_LENGTH, 0);
 }
 
 int main(int argc, char **argv)

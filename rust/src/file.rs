@@ -2,8 +2,10 @@
 
 use std::ops::Range;
 
-use crate::raw;
-use crate::refusal::{accepted, Refused};
+use peliranopi_sys as sys;
+
+use crate::named::{named, UnknownNumber};
+use crate::refusal::{accepted, Refusal};
 
 /// What an accepted file holds.
 #[derive(Clone, Copy, Debug, PartialEq, Eq, Hash)]
@@ -34,24 +36,47 @@ pub enum Record {
 }
 
 impl Record {
-    /// The record type as a number: 10 for 010, up to 60. The writer takes it.
-    pub fn number(self) -> u32 {
-        self as u32
-    }
-
-    /// The record with this number.
+    /// All six, by rising numbers.
     ///
     /// ```
     /// use peliranopi::Record;
     ///
-    /// assert_eq!(Record::from_number(40), Some(Record::Parcel));
-    /// assert_eq!(Record::from_number(41), None);
+    /// assert_eq!(Record::ALL.len(), 6);
     /// ```
-    pub fn from_number(number: u32) -> Option<Record> {
-        use Record::*;
-        [Header, Sender, Shipment, Parcel, Product, Feature]
-            .into_iter()
-            .find(|record| record.number() == number)
+    pub const ALL: &'static [Record] = &[
+        Record::Header,
+        Record::Sender,
+        Record::Shipment,
+        Record::Parcel,
+        Record::Product,
+        Record::Feature,
+    ];
+
+    /// The record type as a number: 10 for 010, up to 60. The writer takes it.
+    ///
+    /// ```
+    /// use peliranopi::Record;
+    ///
+    /// assert_eq!(Record::Parcel.number(), 40);
+    /// ```
+    pub fn number(self) -> u32 {
+        self as u32
+    }
+}
+
+/// The record with this number.
+///
+/// ```
+/// use peliranopi::Record;
+///
+/// assert_eq!(Record::try_from(40), Ok(Record::Parcel));
+/// assert!(Record::try_from(41).is_err());
+/// ```
+impl TryFrom<u32> for Record {
+    type Error = UnknownNumber;
+
+    fn try_from(number: u32) -> Result<Record, UnknownNumber> {
+        named(Record::ALL, Record::number, number)
     }
 }
 
@@ -69,7 +94,8 @@ pub struct Line {
 /// Judges a whole file.
 ///
 /// Accepted, word i of the list is where line i starts, for each line, and every other word is 0;
-/// refused, all words are 0. A list with too few words for the lines is a refusal.
+/// refused, all words are 0. A list with too few words for the lines is a refusal;
+/// [`LINES_MAX`](crate::LINES_MAX) words are always enough.
 ///
 /// ```
 /// let file = include_bytes!("../../examples/preadvice.csv");
@@ -77,14 +103,14 @@ pub struct Line {
 /// let totals = peliranopi::judge(file, &mut list)?;
 /// assert_eq!((totals.lines, totals.parcels, totals.cents), (6, 1, 1250));
 /// assert_eq!(list, [0, 74, 116, 178, 208, 216, 0, 0]);
-/// # Ok::<(), peliranopi::Refused>(())
+/// # Ok::<(), peliranopi::Refusal>(())
 /// ```
-pub fn judge(file: &[u8], list: &mut [u32]) -> Result<Totals, Refused> {
+pub fn judge(file: &[u8], list: &mut [u32]) -> Result<Totals, Refusal> {
     let (mut lines, mut parcels, mut cents, mut place) = (0, 0, 0, 0);
     // SAFETY: each pointer comes with the length of its own slice or points to one local number;
     // the list and the numbers are borrowed for this call alone.
     let number = unsafe {
-        raw::peliranopi_judge(
+        sys::peliranopi_judge(
             file.as_ptr(),
             file.len(),
             list.as_mut_ptr(),
@@ -112,13 +138,13 @@ pub fn judge(file: &[u8], list: &mut [u32]) -> Result<Totals, Refused> {
 /// let file = include_bytes!("../../examples/preadvice.csv");
 /// let line = read_line(file, 178)?;
 /// assert_eq!((line.record, line.fields, line.next), (Record::Parcel, 3, 208));
-/// # Ok::<(), peliranopi::Refused>(())
+/// # Ok::<(), peliranopi::Refusal>(())
 /// ```
-pub fn read_line(file: &[u8], offset: usize) -> Result<Line, Refused> {
+pub fn read_line(file: &[u8], offset: usize) -> Result<Line, Refusal> {
     let (mut record, mut fields, mut next, mut place) = (0, 0, 0, 0);
     // SAFETY: the file's pointer comes with its length; the others point to one local number each.
     let number = unsafe {
-        raw::peliranopi_read_line(
+        sys::peliranopi_read_line(
             file.as_ptr(),
             file.len(),
             offset,
@@ -129,28 +155,28 @@ pub fn read_line(file: &[u8], offset: usize) -> Result<Line, Refused> {
         )
     };
     accepted(number, place)?;
-    let record = Record::from_number(record).expect("the contract names one of the six records");
     Ok(Line {
-        record,
+        record: Record::try_from(record)?,
         fields,
         next,
     })
 }
 
 /// Finds the field with this number, counted from 1, of the line that starts at the offset. The
-/// answer is its part of the file, which may be empty. The line is judged as by [`read_line`].
+/// answer is its part of the file, which may be empty. The line is judged as by [`read_line`], at
+/// each call anew: [`find_fields`](crate::find_fields) gives all fields of a line at once.
 ///
 /// ```
 /// let file = include_bytes!("../../examples/preadvice.csv");
 /// let identcode = peliranopi::find_field(file, 178, 1)?;
 /// assert_eq!(&file[identcode], b"1000000000000000000001");
-/// # Ok::<(), peliranopi::Refused>(())
+/// # Ok::<(), peliranopi::Refusal>(())
 /// ```
-pub fn find_field(file: &[u8], offset: usize, number: usize) -> Result<Range<usize>, Refused> {
+pub fn find_field(file: &[u8], offset: usize, number: usize) -> Result<Range<usize>, Refusal> {
     let (mut start, mut length, mut place) = (0, 0, 0);
     // SAFETY: the file's pointer comes with its length; the others point to one local number each.
     let refusal = unsafe {
-        raw::peliranopi_find_field(
+        sys::peliranopi_find_field(
             file.as_ptr(),
             file.len(),
             offset,
@@ -161,7 +187,7 @@ pub fn find_field(file: &[u8], offset: usize, number: usize) -> Result<Range<usi
         )
     };
     accepted(refusal, place)?;
-    Ok(start..start + length)
+    Ok(start..start.saturating_add(length))
 }
 
 /// Writes one line into the output from the fill on, and answers how many bytes it has. The record
@@ -177,7 +203,7 @@ pub fn find_field(file: &[u8], offset: usize, number: usize) -> Result<Range<usi
 /// let written = write_line(Record::Product.number(), b"10", &[2], &mut output, 3)?;
 /// assert_eq!(written, 8);
 /// assert_eq!(&output, b"...050;10\r\n.");
-/// # Ok::<(), peliranopi::Refused>(())
+/// # Ok::<(), peliranopi::Refusal>(())
 /// ```
 pub fn write_line(
     record: u32,
@@ -185,12 +211,12 @@ pub fn write_line(
     ends: &[usize],
     output: &mut [u8],
     fill: usize,
-) -> Result<usize, Refused> {
+) -> Result<usize, Refusal> {
     let (mut written, mut place) = (0, 0);
     // SAFETY: each pointer comes with the length of its own slice or points to one local number;
     // the output and the numbers are borrowed for this call alone.
     let number = unsafe {
-        raw::peliranopi_write_line(
+        sys::peliranopi_write_line(
             record,
             text.as_ptr(),
             text.len(),
@@ -208,7 +234,8 @@ pub fn write_line(
 }
 
 /// Writes the payment purpose of the cash line with this number, counted from 0, at the output's
-/// start, and answers how many bytes it has: at most 35, and the output must have 35 or more.
+/// start, and answers how many bytes it has: at most [`PURPOSE_LEN_MAX`](crate::PURPOSE_LEN_MAX),
+/// and the output must have so many or more.
 ///
 /// The file is judged first, and the list is lent as for [`judge`]; here too its words are all 0
 /// after a refusal. Every other byte of the output stays as it was; on a refusal all of them do.
@@ -218,19 +245,19 @@ pub fn write_line(
 /// let (mut list, mut output) = ([0; 8], [0; 35]);
 /// let written = peliranopi::write_purpose(file, 5, &mut list, &mut output)?;
 /// assert_eq!(&output[..written], b"1000000000000000000001/B");
-/// # Ok::<(), peliranopi::Refused>(())
+/// # Ok::<(), peliranopi::Refusal>(())
 /// ```
 pub fn write_purpose(
     file: &[u8],
     line: usize,
     list: &mut [u32],
     output: &mut [u8],
-) -> Result<usize, Refused> {
+) -> Result<usize, Refusal> {
     let (mut written, mut place) = (0, 0);
     // SAFETY: each pointer comes with the length of its own slice or points to one local number;
     // the list, the output and the numbers are borrowed for this call alone.
     let number = unsafe {
-        raw::peliranopi_write_purpose(
+        sys::peliranopi_write_purpose(
             file.as_ptr(),
             file.len(),
             line,

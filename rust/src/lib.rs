@@ -7,38 +7,47 @@
 //! the table of README.md and a place. What the caller lends holds after a call what the function
 //! says, after a refusal too.
 //!
-//! None panics, since the contracts fix which numbers the library answers. Only another library of
-//! the same name could answer others, and then they do.
+//! None panics. The contracts fix which numbers the library answers; should another library be
+//! linked that answers others, they are [`Reason::Other`].
 //!
 //! ```
-//! let file = include_bytes!("../../examples/preadvice.csv");
-//! let mut list = [0; 4096];
+//! use peliranopi::{find_fields, judge, LINES_MAX};
 //!
-//! let totals = peliranopi::judge(file, &mut list)?;
+//! let file = include_bytes!("../../examples/preadvice.csv");
+//! let mut list = [0; LINES_MAX];
+//!
+//! let totals = judge(file, &mut list)?;
 //! assert_eq!((totals.lines, totals.parcels, totals.cents), (6, 1, 1250));
 //!
 //! // Line 5, counted from 0, is a cash line; field 3 is its amount.
-//! let amount = peliranopi::find_field(file, list[5] as usize, 3)?;
+//! let amount = find_fields(file, list[5] as usize)?.nth(2).unwrap();
 //! assert_eq!(&file[amount], b"12.50");
 //!
-//! let refused = peliranopi::judge(&file[..200], &mut list).unwrap_err();
+//! let refused = judge(&file[..200], &mut list).unwrap_err();
 //! assert_eq!(
 //!     refused.to_string(),
 //!     "refusal 2 at 200: a line's first byte that is no text byte is missing or not CR LF, \
 //!      or the offset lies past the file"
 //! );
-//! # Ok::<(), peliranopi::Refused>(())
+//! # Ok::<(), peliranopi::Refusal>(())
 //! ```
 
 #![deny(missing_docs)]
 #![deny(unsafe_op_in_unsafe_fn)]
 
+mod fields;
 mod file;
+mod limits;
+mod named;
 mod numbers;
-#[doc(hidden)] // for tests that compare every byte; c/peliranopi.h says what each function does
-pub mod raw;
 mod refusal;
 
+pub use fields::{find_fields, Fields};
 pub use file::{find_field, judge, read_line, write_line, write_purpose, Line, Record, Totals};
+pub use limits::{
+    FILE_LEN_MAX, IBAN_LEN_MAX, IBAN_LEN_MIN, LABEL_LEN, LINES_MAX, PURPOSE_LEN_MAX, TRACKING_LEN,
+};
+pub use named::UnknownNumber;
 pub use numbers::{check_iban, check_number, issue_number, Kind};
-pub use refusal::{Refusal, Refused};
+pub use peliranopi_sys as sys;
+pub use refusal::{Reason, Refusal};

@@ -1,20 +1,18 @@
-//! The calls on the example, one refusal for each number, and the tables that name them.
+//! The calls on the example, one refusal for each number, and the limits.
 
 use peliranopi::*;
 
 const EXAMPLE: &[u8] = include_bytes!("../../examples/preadvice.csv");
-const README: &str = include_str!("../../README.md");
-const HEADER: &str = include_str!("../../c/peliranopi.h");
 
 /// Where the example's lines start, and its length.
 const STARTS: [usize; 7] = [0, 74, 116, 178, 208, 216, 276];
 
-fn judged(file: &[u8]) -> Result<Totals, Refused> {
+fn judged(file: &[u8]) -> Result<Totals, Refusal> {
     judge(file, &mut [0; 16])
 }
 
 /// The number and the place of an answer that must be a refusal.
-fn refusal<T: std::fmt::Debug>(answer: Result<T, Refused>) -> (u32, usize) {
+fn refusal<T: std::fmt::Debug>(answer: Result<T, Refusal>) -> (u32, usize) {
     let refused = answer.unwrap_err();
     (refused.why.number(), refused.place)
 }
@@ -57,7 +55,6 @@ fn the_lines_of_the_example_are_read() {
             next: STARTS[line + 1],
         };
         assert_eq!(read_line(EXAMPLE, STARTS[line]), Ok(due));
-        assert_eq!(Record::from_number(due.record.number()), Some(due.record));
     }
     assert_eq!(refusal(read_line(EXAMPLE, 4)), (3, 4));
     assert_eq!(refusal(read_line(EXAMPLE, usize::MAX)), (2, 276));
@@ -123,11 +120,11 @@ fn the_purpose_of_the_cash_line_is_written() {
 }
 
 /// A refusal of each number, with its place.
-fn one_of_each() -> [(Refused, usize); 18] {
+fn one_of_each() -> Vec<(Refusal, usize)> {
     let parcel_twice = [&EXAMPLE[..208], &EXAMPLE[178..]].concat();
     let too_wide = format!("050;{}\r\n", "x".repeat(21));
     let body = b"09980000020041";
-    [
+    vec![
         (judged(&[b' '; 65_536]).unwrap_err(), 65_535),
         (judged(b"010").unwrap_err(), 3),
         (judged(b"\r\n").unwrap_err(), 0),
@@ -151,73 +148,116 @@ fn one_of_each() -> [(Refused, usize); 18] {
 
 #[test]
 fn each_number_is_given_at_its_place_and_said_in_words() {
-    for (at, (refused, place)) in one_of_each().into_iter().enumerate() {
-        assert_eq!(refused.why, Refusal::ALL[at]);
-        assert_eq!(refused.why.number() as usize, at + 1);
+    let given = one_of_each();
+    let whys: Vec<Reason> = given.iter().map(|(refused, _)| refused.why).collect();
+    assert_eq!(whys, Reason::ALL, "a case for each refusal");
+    for (refused, place) in given {
         assert_eq!(refused.place, place, "{refused}");
-        let words = format!("refusal {} at {place}: {}", at + 1, refused.why);
+        let (number, when) = (refused.why.number(), refused.why);
+        let words = format!("refusal {number} at {place}: {when}");
         assert_eq!(refused.to_string(), words);
-        assert_eq!(
-            Refusal::from_number(refused.why.number()),
-            Some(refused.why)
-        );
     }
-    assert_eq!(Refusal::from_number(0), None);
-    assert_eq!(Refusal::from_number(19), None);
 }
 
-/// A refusal as README.md's table has it: number, name and words.
-fn row(refusal: Refusal) -> [String; 3] {
-    let number = refusal.number().to_string();
-    [number, format!("`{refusal:?}`"), refusal.to_string()]
-}
-
-#[test]
-fn the_table_of_the_readme_names_the_same_refusals() {
-    let table = README
-        .split("| No. | Name in the code | Given when | Place |")
-        .nth(1)
-        .unwrap();
-    let rows: Vec<[String; 3]> = table
-        .lines()
-        .skip(2) // the rest of the heading, and the rule below it
-        .take_while(|line| line.starts_with('|'))
-        .map(|line| {
-            let cells: Vec<&str> = line.split('|').map(str::trim).collect();
-            [cells[1], cells[2], cells[3]].map(String::from)
-        })
-        .collect();
-    assert_eq!(rows, Refusal::ALL.map(row));
-}
-
-/// A name of the code as C's constants are written: `FileTooLong` as `FILE_TOO_LONG`.
-fn constant(name: &str) -> String {
-    let mut constant = String::new();
-    for letter in name.chars() {
-        if letter.is_uppercase() && !constant.is_empty() {
-            constant.push('_');
+/// Whether exactly the numbers of these have a name, and each its own.
+fn are_named<T: Copy + PartialEq + TryFrom<u32, Error = UnknownNumber> + std::fmt::Debug>(
+    all: &[T],
+    number_of: fn(T) -> u32,
+) {
+    assert!(all.is_sorted_by(|one, other| number_of(*one) < number_of(*other)));
+    for number in (0..=1_000).chain([u32::MAX]) {
+        match all.iter().find(|one| number_of(**one) == number) {
+            Some(one) => assert_eq!(T::try_from(number), Ok(*one)),
+            None => assert_eq!(T::try_from(number).unwrap_err().number(), number),
         }
-        constant.push(letter.to_ascii_uppercase());
     }
-    constant
 }
 
 #[test]
-fn the_constants_of_the_c_header_are_the_same_refusals_and_kinds() {
-    let constants: Vec<(String, u32)> = HEADER
-        .lines()
-        .filter_map(|line| line.trim().strip_prefix("PELIRANOPI_")?.split_once(" = "))
-        .map(|(name, rest)| {
-            let digits = rest.split(|c: char| !c.is_ascii_digit()).next().unwrap();
-            (name.to_string(), digits.parse().unwrap())
-        })
-        .collect();
-    let mut due = vec![("ACCEPTED".to_string(), 0)];
-    for refusal in Refusal::ALL {
-        due.push((constant(&format!("{refusal:?}")), refusal.number()));
+fn numbers_have_their_names_and_others_have_none() {
+    are_named(Reason::ALL, Reason::number);
+    are_named(Record::ALL, Record::number);
+    are_named(Kind::ALL, Kind::number);
+
+    let refused = Refusal::from(Record::try_from(70).unwrap_err());
+    assert_eq!(refusal::<()>(Err(refused)), (70, 0));
+    assert!(!Reason::ALL.contains(&refused.why));
+    let words = "another library answered at 0: the number 70 has no name in this version";
+    assert_eq!(refused.to_string(), words);
+}
+
+#[test]
+fn the_calls_have_these_limits() {
+    let spaces = [b' '; FILE_LEN_MAX + 1];
+    assert_eq!(refusal(judged(&spaces)), (1, FILE_LEN_MAX));
+    assert_eq!(refusal(judged(&spaces[1..])), (2, FILE_LEN_MAX));
+
+    let mut output = [0; PURPOSE_LEN_MAX];
+    assert!(write_purpose(EXAMPLE, 5, &mut [0; 8], &mut output).is_ok());
+    let answer = write_purpose(EXAMPLE, 5, &mut [0; 8], &mut output[1..]);
+    assert_eq!(refusal(answer), (13, 0));
+
+    for length in 0..=100 {
+        let fits = [TRACKING_LEN, LABEL_LEN].contains(&length);
+        let due = if fits { (17, 0) } else { (16, 0) };
+        assert_eq!(refusal(check_number(&vec![b'?'; length])), due);
+        let fits = (IBAN_LEN_MIN..=IBAN_LEN_MAX).contains(&length);
+        let due = if fits { (17, 0) } else { (16, 0) };
+        assert_eq!(refusal(check_iban(&vec![b'?'; length])), due);
     }
-    for kind in [Kind::Tracking, Kind::Label] {
-        due.push((constant(&format!("{kind:?}")), kind as u32));
+}
+
+/// A line with so many fields, of which these are filled.
+fn line(record: &str, count: usize, filled: &[(usize, &str)]) -> Vec<u8> {
+    let mut fields = vec![""; count];
+    for (number, field) in filled {
+        fields[number - 1] = field;
     }
-    assert_eq!(constants, due);
+    format!("{record};{}\r\n", fields.join(";")).into_bytes()
+}
+
+/// A short line of each record, in the order in which they come.
+fn short_lines() -> [Vec<u8>; 6] {
+    let (customer, date) = ("0000000000", "2021-02-23T13:37:50");
+    let times = [(3, date), (4, date), (5, "1005"), (6, "5")];
+    let header = [&[(1, customer), (2, "x")], &times[..]].concat();
+    let sender = [1, 5, 6, 7, 9, 11, 12, 13].map(|at| (at, if at == 5 { "BR" } else { "x" }));
+    let shipment = [16, 20, 21, 22, 24, 26].map(|at| (at, if at == 20 { "BR" } else { "x" }));
+    [
+        line("010", 10, &header),
+        line("020", 16, &sender),
+        line("030", 40, &shipment),
+        line("040", 3, &[(1, "1000000000000000000001")]),
+        line("050", 1, &[(1, "x")]),
+        line("060", 10, &[(1, "004")]),
+    ]
+}
+
+/// So lines have 18 bytes or more on average, each 050 line with the 040 line in front of it.
+#[test]
+fn no_line_is_shorter_than_the_most_lines_ask_for() {
+    let lines = short_lines();
+    assert_eq!(lines.each_ref().map(Vec::len), [69, 30, 52, 30, 7, 18]);
+    assert_eq!(LINES_MAX, FILE_LEN_MAX / 18);
+    for line in &lines[3..] {
+        assert!(read_line(line, 0).is_ok());
+        for at in 0..line.len() {
+            let shorter = [&line[..at], &line[at + 1..]].concat();
+            assert!(read_line(&shorter, 0).is_err(), "without its byte {at}");
+        }
+    }
+}
+
+#[test]
+fn a_list_for_the_most_lines_is_never_full() {
+    let feature = &short_lines()[5];
+    let mut file = short_lines().concat();
+    while file.len() + feature.len() <= FILE_LEN_MAX {
+        file.extend(feature);
+    }
+    let totals = judge(&file, &mut [0; LINES_MAX]).unwrap();
+    assert_eq!(totals.lines, 3_635);
+    file.extend(feature);
+    let answer = judge(&file, &mut [0; LINES_MAX]);
+    assert_eq!(refusal(answer), (1, FILE_LEN_MAX));
 }

@@ -12,7 +12,7 @@ fn rows(folder: &str, name: &str) -> Vec<String> {
 }
 
 /// An answer in the words of the test programs.
-fn said<T>(answer: Result<T, Refused>, accepted: impl FnOnce(T) -> String) -> String {
+fn said<T>(answer: Result<T, Refusal>, accepted: impl FnOnce(T) -> String) -> String {
     match answer {
         Ok(value) => accepted(value),
         Err(refused) => format!("no {} {}", refused.why.number(), refused.place),

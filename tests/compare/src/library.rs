@@ -1,7 +1,7 @@
 //! The calls as the static library answers them, by its own functions.
 
 use crate::{lent, Call, Left, NONSENSE};
-use peliranopi::raw;
+use peliranopi::sys;
 use reference::generate::WriterCall;
 
 /// What the library leaves of what was there before the call.
@@ -27,7 +27,7 @@ fn judge(left: &mut Left) {
     let list = lent(&mut left.words);
     // SAFETY: as said above.
     left.answer = unsafe {
-        raw::peliranopi_judge(
+        sys::peliranopi_judge(
             left.input.as_ptr(),
             left.input.len(),
             list.as_mut_ptr(),
@@ -45,7 +45,7 @@ fn read_line(left: &mut Left, offset: usize) {
     let (mut record, mut fields, mut next) = (NONSENSE as u32, NONSENSE, NONSENSE);
     // SAFETY: as said above.
     left.answer = unsafe {
-        raw::peliranopi_read_line(
+        sys::peliranopi_read_line(
             left.input.as_ptr(),
             left.input.len(),
             offset,
@@ -62,7 +62,7 @@ fn find_field(left: &mut Left, offset: usize, number: usize) {
     let (mut start, mut length) = (NONSENSE, NONSENSE);
     // SAFETY: as said above.
     left.answer = unsafe {
-        raw::peliranopi_find_field(
+        sys::peliranopi_find_field(
             left.input.as_ptr(),
             left.input.len(),
             offset,
@@ -80,7 +80,7 @@ fn write_line(left: &mut Left, call: &WriterCall) {
     let output = lent(&mut left.output);
     // SAFETY: as said above.
     left.answer = unsafe {
-        raw::peliranopi_write_line(
+        sys::peliranopi_write_line(
             call.record,
             left.input.as_ptr(),
             left.input.len(),
@@ -102,7 +102,7 @@ fn write_purpose(left: &mut Left, line: usize) {
     let output = lent(&mut left.output);
     // SAFETY: as said above.
     left.answer = unsafe {
-        raw::peliranopi_write_purpose(
+        sys::peliranopi_write_purpose(
             left.input.as_ptr(),
             left.input.len(),
             line,
@@ -121,7 +121,7 @@ fn check_number(left: &mut Left) {
     let mut kind = NONSENSE as u32;
     // SAFETY: as said above.
     left.answer = unsafe {
-        raw::peliranopi_check_number(
+        sys::peliranopi_check_number(
             left.input.as_ptr(),
             left.input.len(),
             &mut kind,
@@ -136,7 +136,7 @@ fn issue_number(left: &mut Left) {
     let output = lent(&mut left.output);
     // SAFETY: as said above.
     left.answer = unsafe {
-        raw::peliranopi_issue_number(
+        sys::peliranopi_issue_number(
             left.input.as_ptr(),
             left.input.len(),
             output.as_mut_ptr(),
@@ -151,6 +151,6 @@ fn issue_number(left: &mut Left) {
 fn check_iban(left: &mut Left) {
     // SAFETY: as said above.
     left.answer = unsafe {
-        raw::peliranopi_check_iban(left.input.as_ptr(), left.input.len(), &mut left.place)
+        sys::peliranopi_check_iban(left.input.as_ptr(), left.input.len(), &mut left.place)
     };
 }

@@ -3,8 +3,10 @@
 
 use compare::draw::{self, Kind};
 use compare::{difference, library, promised, Call, Left};
+use peliranopi::Reason;
 use reference::generate::Rng;
 use reference::profile::LIMIT;
+use std::collections::{BTreeMap, BTreeSet};
 use std::process::exit;
 
 /// How many comparisons a run makes if nobody says otherwise. From here on every answer has to occur.
@@ -73,24 +75,28 @@ const SHARES: [Share; 8] = [
 /// How often each answer occurred, 0 being acceptance, and how many inputs were as long as a file may be.
 #[derive(Default)]
 struct Tally {
-    answers: [usize; 19],
+    answers: BTreeMap<u32, usize>,
     full: usize,
 }
 
 impl Tally {
+    fn accepted(&self) -> usize {
+        self.answers.get(&0).copied().unwrap_or(0)
+    }
+
     /// The answers among these refusals, and acceptance, that never occurred.
     fn missing(&self, refusals: &[u32]) -> Vec<u32> {
         let possible = [&[0], refusals].concat();
         possible
             .into_iter()
-            .filter(|answer| self.answers[*answer as usize] == 0)
+            .filter(|answer| !self.answers.contains_key(answer))
             .collect()
     }
 
     fn refusals(&self) -> String {
-        let occurred = (1..self.answers.len()).filter(|answer| self.answers[*answer] > 0);
+        let occurred = self.answers.range(1..);
         occurred
-            .map(|answer| format!(" {answer}:{}", self.answers[answer]))
+            .map(|(answer, count)| format!(" {answer}:{count}"))
             .collect()
     }
 }
@@ -107,7 +113,7 @@ fn main() {
         println!(
             "test: {count} {} compared: {} accepted, refusals{} (seed {seed})",
             share.name,
-            tally.answers[0],
+            tally.accepted(),
             tally.refusals()
         );
         if comparisons >= DEFAULT {
@@ -162,7 +168,7 @@ fn compare_all(share: &Share, count: usize, seed: u64) -> Tally {
             report(share, seed, index, &call, &part, [&library, &promised]);
             exit(1);
         }
-        tally.answers[promised.answer as usize] += 1;
+        *tally.answers.entry(promised.answer).or_default() += 1;
         tally.full += usize::from(call.input().len() == LIMIT);
     }
     tally
@@ -188,8 +194,16 @@ fn report(share: &Share, seed: u64, index: usize, call: &Call, part: &str, both:
     }
 }
 
-/// Wrong answers and changed bytes must be noticed, and answers that never occurred too: else no comparison means anything.
+/// Wrong answers and changed bytes must be noticed, and answers that never occurred too: else no comparison means anything. Each
+/// refusal is one that some call can give.
 fn check_itself(seed: u64) {
+    let named: BTreeSet<u32> = Reason::ALL.iter().map(|why| why.number()).collect();
+    let shares = SHARES.iter().flat_map(|share| share.refusals);
+    assert_eq!(
+        named,
+        shares.copied().collect(),
+        "no call of SHARES gives one of these"
+    );
     for share in &SHARES {
         let (call, before) = drawn(share.kind, seed, 0);
         let left = library::left(&call, before);

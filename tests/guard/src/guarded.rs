@@ -2,7 +2,7 @@
 
 use crate::call::{Answer, Call, BYTE, WORD};
 use crate::pages::{Lent, Room, Side};
-use peliranopi::raw;
+use peliranopi::sys;
 use reference::generate::{IssueCall, LineCall, PurposeCall, WriterCall};
 
 /// A room for each buffer of a call: six at most, the single numbers among them.
@@ -56,7 +56,7 @@ impl Desk {
         // SAFETY: each pointer comes with the length of its buffer or points to one number, all of
         // them in rooms of their own. The same holds for the calls below.
         let refusal = unsafe {
-            raw::peliranopi_judge(
+            sys::peliranopi_judge(
                 file.start,
                 file.length,
                 list.start,
@@ -78,7 +78,7 @@ impl Desk {
         let (fields, next, place) = (self.number(), self.number(), self.number());
         // SAFETY: as in `judge`.
         let refusal = unsafe {
-            raw::peliranopi_read_line(
+            sys::peliranopi_read_line(
                 file.start,
                 file.length,
                 offset,
@@ -98,7 +98,7 @@ impl Desk {
         let (start, length, place) = (self.number(), self.number(), self.number());
         // SAFETY: as in `judge`.
         let refusal = unsafe {
-            raw::peliranopi_find_field(
+            sys::peliranopi_find_field(
                 file.start,
                 file.length,
                 call.offset,
@@ -120,7 +120,7 @@ impl Desk {
         let (written, place) = (self.number(), self.number());
         // SAFETY: as in `judge`.
         let refusal = unsafe {
-            raw::peliranopi_write_line(
+            sys::peliranopi_write_line(
                 call.record,
                 text.start,
                 text.length,
@@ -145,7 +145,7 @@ impl Desk {
         let (written, place) = (self.number(), self.number());
         // SAFETY: as in `judge`.
         let refusal = unsafe {
-            raw::peliranopi_write_purpose(
+            sys::peliranopi_write_purpose(
                 file.start,
                 file.length,
                 call.line,
@@ -168,7 +168,7 @@ impl Desk {
         let (kind, place) = (self.lay(&[WORD]), self.number());
         // SAFETY: as in `judge`.
         let refusal = unsafe {
-            raw::peliranopi_check_number(symbols.start, symbols.length, kind.start, place.start)
+            sys::peliranopi_check_number(symbols.start, symbols.length, kind.start, place.start)
         };
         stayed(&symbols, bytes);
         let numbers = vec![kind.content()[0].into()];
@@ -181,7 +181,7 @@ impl Desk {
         let (written, place) = (self.number(), self.number());
         // SAFETY: as in `judge`.
         let refusal = unsafe {
-            raw::peliranopi_issue_number(
+            sys::peliranopi_issue_number(
                 body.start,
                 body.length,
                 output.start,
@@ -199,7 +199,7 @@ impl Desk {
         let place = self.number();
         // SAFETY: as in `judge`.
         let refusal =
-            unsafe { raw::peliranopi_check_iban(symbols.start, symbols.length, place.start) };
+            unsafe { sys::peliranopi_check_iban(symbols.start, symbols.length, place.start) };
         stayed(&symbols, bytes);
         answer("check_iban", refusal, place, Vec::new())
     }

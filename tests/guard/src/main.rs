@@ -15,6 +15,7 @@ use std::sync::atomic::{AtomicUsize, Ordering};
 use call::Call;
 use guarded::Desk;
 use pages::Side;
+use peliranopi::Reason;
 use process::{in_child, End};
 use reference::generate::Rng;
 
@@ -62,11 +63,13 @@ fn run(calls: &[Call], done: &AtomicUsize) {
     every_answer_is_among(&given);
 }
 
-/// A run without, say, one accepted file would show little: acceptance and each of the 18 refusals
-/// is among the answers, and each of the eight functions both accepts and refuses.
+/// A run without, say, one accepted file would show little: acceptance and each of the refusals is
+/// among the answers, and each of the eight functions both accepts and refuses.
 fn every_answer_is_among(given: &BTreeSet<(&str, u32)>) {
     let numbers: BTreeSet<u32> = given.iter().map(|(_, refusal)| *refusal).collect();
-    assert!(numbers.into_iter().eq(0..=18), "{given:?}");
+    let refusals = Reason::ALL.iter().map(|refusal| refusal.number());
+    let due: BTreeSet<u32> = refusals.chain([0]).collect();
+    assert_eq!(numbers, due, "tests/guard gets other answers: {given:?}");
     let both: BTreeSet<(&str, bool)> = given
         .iter()
         .map(|(function, refusal)| (*function, *refusal == 0))

@@ -5,7 +5,7 @@ use std::ptr;
 
 use crate::pages::{Lent, Room, Side};
 use crate::process::{be_silent, in_child, End, SEGMENTATION_FAULT};
-use peliranopi::raw;
+use peliranopi::sys;
 
 /// What is tried on a buffer of 14 digits.
 type Try = fn(Lent<u8>);
@@ -84,14 +84,14 @@ fn write(byte: *mut u8) {
 fn check(symbols: *const u8, length: usize) {
     let (mut kind, mut place) = (0, 0);
     // SAFETY: as for `read`, where the length is not that of the buffer.
-    unsafe { raw::peliranopi_check_number(symbols, length, &mut kind, &mut place) };
+    unsafe { sys::peliranopi_check_number(symbols, length, &mut kind, &mut place) };
 }
 
 fn issue(output: *mut u8, length: usize) {
     let (mut written, mut place) = (0, 0);
     // SAFETY: as for `read`, where the length is not that of the buffer.
     unsafe {
-        raw::peliranopi_issue_number(
+        sys::peliranopi_issue_number(
             BODY.as_ptr(),
             BODY.len(),
             output,

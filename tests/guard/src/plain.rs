@@ -1,7 +1,7 @@
 //! Answers a call by the safe functions, on plain buffers.
 
 use crate::call::{Answer, Call, BYTE, WORD};
-use peliranopi::Refused;
+use peliranopi::Refusal;
 
 /// The answer, with the numbers as the C header has them: 0 where the call refuses.
 pub fn answer(call: &Call) -> Answer {
@@ -34,7 +34,7 @@ fn lent(call: &Call) -> (Vec<u32>, Vec<u8>) {
 }
 
 /// The function's name and its numbers, or the refusal and how many numbers there are.
-type Named = (&'static str, Result<Vec<u64>, (Refused, usize)>);
+type Named = (&'static str, Result<Vec<u64>, (Refusal, usize)>);
 
 fn result(call: &Call, list: &mut [u32], output: &mut [u8]) -> Named {
     match call {
@@ -79,7 +79,7 @@ fn result(call: &Call, list: &mut [u32], output: &mut [u8]) -> Named {
     }
 }
 
-fn named<const N: usize>(function: &'static str, numbers: Result<[u64; N], Refused>) -> Named {
+fn named<const N: usize>(function: &'static str, numbers: Result<[u64; N], Refusal>) -> Named {
     let numbers = numbers.map(Vec::from).map_err(|refused| (refused, N));
     (function, numbers)
 }

@@ -1,7 +1,30 @@
-//! The functions of the static library as they are, declared beside c/peliranopi.h. Nothing checks these declarations against the
-//! library but the tests.
+//! The calls of Peliranopi's static library as they are: the functions of c/peliranopi.h, with its
+//! names and in its order. The crate `peliranopi` has safe functions over them, and names for the
+//! numbers.
+//!
+//! Each answers 0 where it accepts, else a refusal's number, and sets every number behind a pointer.
+//! The header says what a call leaves in what it was lent. A test of the crate `peliranopi` holds
+//! these declarations against the header.
+//!
+//! # Safety
+//!
+//! A call is safe if every pointer is aligned, not null (not even for length 0) and has as many
+//! elements behind it as its length says, or one where it has no length, and if what is lent for
+//! writing overlaps nothing else. Nothing is asked of the bytes, lengths and numbers themselves.
+//!
+//! ```
+//! let (iban, mut place) = (b"AT161904300234573201", 0);
+//! // SAFETY: the array's pointer comes with its length, and the place is one local number.
+//! let refusal =
+//!     unsafe { peliranopi_sys::peliranopi_check_iban(iban.as_ptr(), iban.len(), &mut place) };
+//! assert_eq!((refusal, place), (18, 2));
+//! ```
+
+#![no_std]
+#![deny(missing_docs)]
 
 extern "C" {
+    /// Judges a whole file.
     pub fn peliranopi_judge(
         file: *const u8,
         file_len: usize,
@@ -13,6 +36,7 @@ extern "C" {
         place: *mut usize,
     ) -> u32;
 
+    /// Judges the line that starts at the offset, alone.
     pub fn peliranopi_read_line(
         file: *const u8,
         file_len: usize,
@@ -23,6 +47,7 @@ extern "C" {
         place: *mut usize,
     ) -> u32;
 
+    /// Finds one field of the line that starts at the offset.
     pub fn peliranopi_find_field(
         file: *const u8,
         file_len: usize,
@@ -33,6 +58,7 @@ extern "C" {
         place: *mut usize,
     ) -> u32;
 
+    /// Writes one line.
     pub fn peliranopi_write_line(
         record: u32,
         text: *const u8,
@@ -46,6 +72,7 @@ extern "C" {
         place: *mut usize,
     ) -> u32;
 
+    /// Writes the payment purpose of a line of a file.
     pub fn peliranopi_write_purpose(
         file: *const u8,
         file_len: usize,
@@ -58,6 +85,7 @@ extern "C" {
         place: *mut usize,
     ) -> u32;
 
+    /// Checks a tracking number or a label code.
     pub fn peliranopi_check_number(
         symbols: *const u8,
         symbols_len: usize,
@@ -65,6 +93,7 @@ extern "C" {
         place: *mut usize,
     ) -> u32;
 
+    /// Issues the number that has this body.
     pub fn peliranopi_issue_number(
         body: *const u8,
         body_len: usize,
@@ -74,5 +103,6 @@ extern "C" {
         place: *mut usize,
     ) -> u32;
 
+    /// Checks an IBAN.
     pub fn peliranopi_check_iban(symbols: *const u8, symbols_len: usize, place: *mut usize) -> u32;
 }

@@ -1,0 +1,283 @@
+//! What stands in more than one place, held together: the refusals, the other constants of the C
+//! header, its functions and the version. A test fails with the name of the place that lacks a row.
+
+use std::fmt::Debug;
+
+use peliranopi::*;
+
+const README: &str = include_str!("../../README.md");
+const CHANGELOG: &str = include_str!("../../CHANGELOG.md");
+const HEADER: &str = include_str!("../../c/peliranopi.h");
+const PROVED: &str = include_str!("../../crates/refusal/src/lib.rt");
+const CRATE: &str = include_str!("../src/refusal.rs");
+const SYS: &str = include_str!("../sys/src/lib.rs");
+const SYS_MANIFEST: &str = include_str!("../sys/Cargo.toml");
+
+/// Requires that a place has these rows and no others, in their order.
+fn hold<T: PartialEq + Debug>(place: &str, rows: &[T], due: &[T]) {
+    let lacks: Vec<&T> = due.iter().filter(|row| !rows.contains(row)).collect();
+    let beyond: Vec<&T> = rows.iter().filter(|row| !due.contains(row)).collect();
+    assert!(
+        rows == due,
+        "{place} lacks {lacks:?}, has {beyond:?} which nobody else has, or has another order"
+    );
+}
+
+/// The text between two others, the first of which stands there once.
+fn between<'a>(text: &'a str, front: &str, back: &str) -> &'a str {
+    assert_eq!(
+        text.matches(front).count(),
+        1,
+        "`{front}` stands there once"
+    );
+    let behind = text.split(front).nth(1).unwrap();
+    behind.split(back).next().unwrap()
+}
+
+/// The words of a text with one space between them.
+fn spaced(text: &str) -> String {
+    text.split_whitespace().collect::<Vec<_>>().join(" ")
+}
+
+/// Number and name of each refusal in the code that is proved: the arms of `number`.
+fn proved() -> Vec<(u32, String)> {
+    let arms = PROVED.lines().filter_map(|line| {
+        let (name, number) = line.trim().strip_prefix("Reason::")?.split_once(" => ")?;
+        let number = number.strip_suffix(',')?.parse().ok()?;
+        Some((number, name.to_string()))
+    });
+    arms.collect()
+}
+
+#[test]
+fn the_proved_enum_and_its_numbers() {
+    let names: Vec<&str> = between(PROVED, "pub enum Reason {", "}")
+        .lines()
+        .filter_map(|line| line.trim().strip_suffix(','))
+        .collect();
+    let proved = proved();
+    assert!(!proved.is_empty(), "`number` has arms");
+    assert!(proved.is_sorted(), "the numbers rise");
+    let due: Vec<&str> = proved.iter().map(|(_, name)| name.as_str()).collect();
+    hold("the enum of crates/refusal/src/lib.rt", &names, &due);
+}
+
+#[test]
+fn the_refusals_of_the_crate_are_the_proved_ones() {
+    let rows: Vec<(u32, String)> = Reason::ALL
+        .iter()
+        .map(|refusal| (refusal.number(), format!("{refusal:?}")))
+        .collect();
+    hold("rust/src/refusal.rs", &rows, &proved());
+}
+
+/// A row of README.md's table.
+struct Row {
+    number: u32,
+    name: String,
+    when: String,
+    place: String,
+}
+
+fn table() -> Vec<Row> {
+    let head = "| No. | Name in the code | Given when | Place |\n|---|---|---|---|\n";
+    let rows = between(README, head, "\n\n").lines().map(|line| {
+        let cells: Vec<&str> = line.split('|').map(str::trim).collect();
+        Row {
+            number: cells[1].parse().unwrap(),
+            name: cells[2].trim_matches('`').to_string(),
+            when: cells[3].to_string(),
+            place: cells[4].to_string(),
+        }
+    });
+    rows.collect()
+}
+
+#[test]
+fn the_table_of_the_readme_has_the_proved_refusals() {
+    let rows: Vec<(u32, String)> = table()
+        .into_iter()
+        .map(|row| (row.number, row.name))
+        .collect();
+    hold("the table of README.md", &rows, &proved());
+}
+
+#[test]
+fn the_table_of_the_readme_has_the_words_of_the_crate() {
+    let rows = spaced(between(CRATE, "\nrefusals! {", "\n}"));
+    for row in table() {
+        let (number, name, when, place) = (row.number, row.name, row.when, row.place);
+        let due = format!("{number} {name}: {when:?}, {place:?};");
+        assert!(rows.contains(&due), "rust/src/refusal.rs lacks {due}");
+    }
+}
+
+/// A constant of the header: its name without the prefix, its number and the words beside it.
+type Constant = (String, usize, String);
+
+/// The constants of each enum of the header.
+fn constants() -> Vec<Vec<Constant>> {
+    let enums = HEADER.split("enum {").skip(1);
+    enums
+        .map(|rest| constants_in(rest.split("};").next().unwrap()))
+        .collect()
+}
+
+fn constants_in(block: &str) -> Vec<Constant> {
+    let block = spaced(block);
+    let constants = block.split("PELIRANOPI_").skip(1).map(|constant| {
+        let (name, rest) = constant
+            .split_once(" = ")
+            .expect("a constant has its number");
+        let digits = rest.split(|c: char| !c.is_ascii_digit()).next().unwrap();
+        let words = rest[digits.len()..].trim_matches([',', '/', '*', ' ']);
+        (name.to_string(), digits.parse().unwrap(), words.to_string())
+    });
+    constants.collect()
+}
+
+/// A name of the code as C's constants are written: `FileTooLong` as `FILE_TOO_LONG`.
+fn constant(name: &str) -> String {
+    let mut constant = String::new();
+    for letter in name.chars() {
+        if letter.is_uppercase() && !constant.is_empty() {
+            constant.push('_');
+        }
+        constant.push(letter.to_ascii_uppercase());
+    }
+    constant
+}
+
+/// Names of the code and their numbers as the header has them.
+fn in_c(names: impl Iterator<Item = (String, u32)>) -> Vec<(String, usize)> {
+    names
+        .map(|(name, number)| (constant(&name), number as usize))
+        .collect()
+}
+
+/// Names and numbers of the constants of one enum of the header.
+fn numbers(which: usize) -> Vec<(String, usize)> {
+    let constants = constants().swap_remove(which).into_iter();
+    constants.map(|(name, number, _)| (name, number)).collect()
+}
+
+#[test]
+fn the_c_header_has_the_proved_refusals() {
+    let refusals = proved().into_iter().map(|(number, name)| (name, number));
+    let due = [("Accepted".to_string(), 0)].into_iter().chain(refusals);
+    hold("c/peliranopi.h", &numbers(0), &in_c(due));
+}
+
+#[test]
+fn the_c_header_has_the_words_of_the_crate() {
+    let refusals = constants().swap_remove(0);
+    for (name, number, words) in &refusals[1..] {
+        let refusal = Reason::try_from(*number as u32);
+        let due = refusal.map(|refusal| refusal.to_string());
+        assert_eq!(due.as_ref(), Ok(words), "{name} in c/peliranopi.h");
+    }
+}
+
+#[test]
+fn the_c_header_has_the_records_the_kinds_and_the_limits() {
+    let records = Record::ALL
+        .iter()
+        .map(|record| (format!("{record:?}"), record.number()));
+    hold("c/peliranopi.h", &numbers(1), &in_c(records));
+    let kinds = Kind::ALL
+        .iter()
+        .map(|kind| (format!("{kind:?}"), kind.number()));
+    hold("c/peliranopi.h", &numbers(2), &in_c(kinds));
+    let limits = [
+        ("FILE_LEN_MAX", FILE_LEN_MAX),
+        ("LINES_MAX", LINES_MAX),
+        ("PURPOSE_LEN_MAX", PURPOSE_LEN_MAX),
+        ("TRACKING_LEN", TRACKING_LEN),
+        ("LABEL_LEN", LABEL_LEN),
+        ("IBAN_LEN_MIN", IBAN_LEN_MIN),
+        ("IBAN_LEN_MAX", IBAN_LEN_MAX),
+    ];
+    let limits = limits.map(|(name, limit)| (name.to_string(), limit));
+    hold("c/peliranopi.h", &numbers(3), &limits);
+    assert_eq!(
+        constants().len(),
+        4,
+        "an enum of the header that no test knows"
+    );
+}
+
+/// A function, and its parameters with their types as Rust has them.
+type Function = (String, Vec<(String, String)>);
+
+/// The functions of the header.
+fn functions_of_header() -> Vec<Function> {
+    let parts = HEADER.split("\nuint32_t ").skip(1);
+    let functions = parts.map(|part| {
+        let (name, rest) = part.split_once('(').unwrap();
+        let parameters = rest
+            .split(");")
+            .next()
+            .unwrap()
+            .split(',')
+            .map(|parameter| {
+                let parameter = parameter.trim();
+                let (kind, name) = parameter.split_at(parameter.rfind([' ', '*']).unwrap() + 1);
+                (name.to_string(), rust_type(kind.trim()))
+            });
+        (name.to_string(), parameters.collect())
+    });
+    functions.collect()
+}
+
+/// A type of C as Rust has it.
+fn rust_type(kind: &str) -> String {
+    match kind.strip_suffix(" *") {
+        Some(kind) => match kind.strip_prefix("const ") {
+            Some(kind) => format!("*const {}", rust_type(kind)),
+            None => format!("*mut {}", rust_type(kind)),
+        },
+        None if kind == "size_t" => "usize".to_string(),
+        None => kind.replace("uint", "u").replace("_t", ""),
+    }
+}
+
+/// The functions that peliranopi-sys declares.
+fn functions_of_sys() -> Vec<Function> {
+    let parts = SYS.split("    pub fn ").skip(1);
+    let functions = parts.map(|part| {
+        let (name, rest) = part.split_once('(').unwrap();
+        let (parameters, _) = rest.split_once(") -> u32;").unwrap();
+        let parameters = parameters.split(',').filter_map(|parameter| {
+            let (name, kind) = parameter.trim().split_once(": ")?;
+            Some((name.to_string(), kind.to_string()))
+        });
+        (name.to_string(), parameters.collect())
+    });
+    functions.collect()
+}
+
+#[test]
+fn the_declarations_for_rust_are_those_of_the_c_header() {
+    let header = functions_of_header();
+    assert!(!header.is_empty(), "the header has functions");
+    hold("rust/sys/src/lib.rs", &functions_of_sys(), &header);
+}
+
+#[test]
+fn the_version_is_one() {
+    let version = env!("CARGO_PKG_VERSION");
+    let parts: Vec<&str> = version.split('.').collect();
+    let macros = ["_MAJOR", "_MINOR", "_PATCH", ""].map(|part| {
+        let front = format!("#define PELIRANOPI_VERSION{part} ");
+        between(HEADER, &front, "\n").trim_matches('"')
+    });
+    assert_eq!(macros[..3], parts, "c/peliranopi.h");
+    assert_eq!(macros[3], version, "c/peliranopi.h");
+    let sys = between(SYS_MANIFEST, "\nversion = \"", "\"");
+    assert_eq!(sys, version, "rust/sys/Cargo.toml");
+    let heading = format!("\n## {version}");
+    assert!(
+        CHANGELOG.contains(&heading),
+        "CHANGELOG.md has no heading for {version}"
+    );
+}
