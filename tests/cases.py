@@ -1,6 +1,6 @@
 #!/usr/bin/env python3
-"""Writes the stored files of crates/cases with the answers that document 01 gives them, worked out from how each file is made:
-python3 tests/cases.py [FOLDER] (default crates/cases)"""
+"""Writes the stored files of crates/test_cases with the answers that document 01 gives them, worked out from how each file is made:
+python3 tests/cases.py [FOLDER] (default crates/test_cases)"""
 import os
 import sys
 
@@ -253,4 +253,4 @@ def main(folder):
 
 
 if __name__ == "__main__":
-    main(sys.argv[1] if len(sys.argv) > 1 else "crates/cases")
+    main(sys.argv[1] if len(sys.argv) > 1 else "crates/test_cases")

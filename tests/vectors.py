@@ -1,6 +1,6 @@
 #!/usr/bin/env python3
-"""Answers the vectors of crates/vectors/stdin by an implementation of its own, written from ISO/IEC 7064 and document 01, for
-comparison with what the proved program prints: python3 tests/vectors.py < crates/vectors/stdin"""
+"""Answers the vectors of crates/test_vectors/stdin by an implementation of its own, written from ISO/IEC 7064 and document 01, for
+comparison with what the proved program prints: python3 tests/vectors.py < crates/test_vectors/stdin"""
 import string
 import sys
 

@@ -3,8 +3,8 @@
 use peliranopi::*;
 
 /// The folders of the test programs that have them.
-const CASES: &str = concat!(env!("CARGO_MANIFEST_DIR"), "/../crates/cases");
-const VECTORS: &str = concat!(env!("CARGO_MANIFEST_DIR"), "/../crates/vectors");
+const CASES: &str = concat!(env!("CARGO_MANIFEST_DIR"), "/../crates/test_cases");
+const VECTORS: &str = concat!(env!("CARGO_MANIFEST_DIR"), "/../crates/test_vectors");
 
 fn rows(folder: &str, name: &str) -> Vec<String> {
     let text = std::fs::read_to_string(format!("{folder}/{name}")).unwrap();

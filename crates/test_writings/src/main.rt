@@ -1,0 +1,101 @@
+// Writes lines: each line of the input is a record number, a fill, a room for output, how many field ends, the ends, each with a
+// space behind it, and the text. Each gives the answer and the whole output, which was all points before.
+ghost use Prim.Native.Nat.{_≤_};
+ghost use lib.ListN.{length};
+use refusal::Refusal;
+use writer::WriteAnswer;
+
+fn main() {
+    let mut buffer = io::large_buffer();
+    let n = io::read_full(0, &mut buffer);
+    run(&buffer[..n]);
+}
+
+fn run(s: &[u8]) {
+    let mut start: usize = 0;
+    while start < s.len() {
+        let end = test_input::line_end(s, start);
+        if end <= start {
+            return;
+        }
+        one_call(&s[start..end]);
+        start = end + 1;
+    }
+}
+
+struct Call {
+    number: u32,
+    fill: usize,
+    room: usize,
+}
+
+fn one_call(line: &[u8]) {
+    let number = test_input::number(line, 0);
+    let fill = test_input::number(line, number.next);
+    let room = test_input::number(line, fill.next);
+    let count = test_input::number(line, room.next);
+    let call = Call {
+        number: (number.value % 1000) as u32,
+        fill: fill.value,
+        room: room.value % 5001,
+    };
+    let mut ends = [0usize; 64];
+    with_ends(call, line, count.next, &mut ends, count.value % 65);
+}
+
+// The call whose ends, so many, and text stand in the line from here on.
+fn with_ends(call: Call, line: &[u8], start: usize, ends: &mut [usize], many: usize)
+    requires { ⌜ many ≤ length (now ends) ⌝ }
+{
+    let at = read_ends(line, start, ends, many);
+    let room = call.room;
+    let mut out = [b'.'; 5000];
+    if 5000 < room {
+        return;
+    }
+    write(call, &line[at..], &ends[0..many], &mut out[0..room]);
+}
+
+// Reads so many ends from here on; answers where the text starts behind them.
+fn read_ends(line: &[u8], start: usize, ends: &mut [usize], many: usize) -> usize
+    requires { ⌜ many ≤ length (now ends) ⌝ }
+    ensures { λ r. ⌜ r ≤ length (now (line .entry)) ⌝ }
+{
+    let mut at = start;
+    let mut i: usize = 0;
+    while i < many {
+        let end = test_input::number(line, at);
+        ends[i] = end.value;
+        at = end.next;
+        i += 1;
+    }
+    if line.len() < at {
+        return line.len();
+    }
+    at
+}
+
+fn write(call: Call, text: &[u8], ends: &[usize], out: &mut [u8]) {
+    let answer = writer::write_line(call.number, text, ends, out, call.fill);
+    match answer {
+        WriteAnswer::Written(n) => say_written(n),
+        WriteAnswer::Refused(refusal) => say_no(refusal),
+    }
+    io::write_all(1, out);
+    io::write_all(1, b"\n");
+}
+
+fn say_written(n: usize) {
+    io::write_all(1, b"written ");
+    io::print_decimal(1, n as u64);
+    io::write_all(1, b" ");
+}
+
+fn say_no(refusal: Refusal) {
+    let why = refusal.why;
+    io::write_all(1, b"no ");
+    io::print_decimal(1, refusal::number(why) as u64);
+    io::write_all(1, b" ");
+    io::print_decimal(1, refusal.place as u64);
+    io::write_all(1, b" ");
+}
