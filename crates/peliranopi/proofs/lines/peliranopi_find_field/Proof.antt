@@ -6,9 +6,14 @@ use borrow.Author.Needs.{needs}
 use Rattle.peliranopi.proofs.lines.peliranopi_find_field.Statement.{statement}
 use Rattle.peliranopi.proofs.lines.peliranopi_find_field.Tie as tie
 
+returns : tie.Need-returns
+returns c = search (needs, told-number fieldVerdict, told-place fieldVerdict, told startIn, told lengthIn)
+
+returns-2 : tie.Need-returns-2
+returns-2 c = search (needs, told-number fieldVerdict, told-place fieldVerdict, told startIn, told lengthIn)
+
 pub peliranopi-find-field-spec : {M : Type 1} → statement M
 peliranopi-find-field-spec =
     tie.close
     (tie.spec
-    (λ c κs. search needs) (λ c. search needs) (λ c κs. search needs) (λ c. search needs) (λ c κs. search needs) (λ c. search (needs, told-number fieldVerdict, told-place fieldVerdict, told startIn, told lengthIn))
-    (λ c. search (needs, told-number fieldVerdict, told-place fieldVerdict, told startIn, told lengthIn)))
+    (λ c κs. search needs) (λ c. search needs) (λ c κs. search needs) (λ c. search needs) (λ c κs. search needs) returns returns-2)

@@ -6,9 +6,15 @@ use borrow.Author.Needs.{needs}
 use Rattle.peliranopi.proofs.lines.peliranopi_read_line.Statement.{statement}
 use Rattle.peliranopi.proofs.lines.peliranopi_read_line.Tie as tie
 
+returns : tie.Need-returns
+returns c = search (needs, told-number lineVerdict, told-place lineVerdict, told recordIn, told countIn, told nextIn)
+
+returns-2 : tie.Need-returns-2
+returns-2 c = search (needs, told-number lineVerdict, told-place lineVerdict, told recordIn, told countIn, told nextIn)
+
 pub peliranopi-read-line-spec : {M : Type 1} → statement M
 peliranopi-read-line-spec =
     tie.close
     (tie.spec
     (λ c κs. search needs) (λ c. search needs) (λ c κs. search needs) (λ c κs. search needs) (λ c. search needs) (λ c κs. search needs)
-    (λ c. search (needs, told-number lineVerdict, told-place lineVerdict, told recordIn, told countIn, told nextIn)) (λ c. search (needs, told-number lineVerdict, told-place lineVerdict, told recordIn, told countIn, told nextIn)))
+    returns returns-2)

@@ -6,9 +6,15 @@ use borrow.Author.Needs.{needs}
 use Rattle.peliranopi.proofs.numbers.peliranopi_check_number.Statement.{statement}
 use Rattle.peliranopi.proofs.numbers.peliranopi_check_number.Tie as tie
 
+returns : tie.Need-returns
+returns c = search (needs, told-number checkVerdict, told-place checkVerdict, told kindIn)
+
+returns-2 : tie.Need-returns-2
+returns-2 c = search (needs, told-number checkVerdict, told-place checkVerdict, told kindIn)
+
 pub peliranopi-check-number-spec : {M : Type 1} → statement M
 peliranopi-check-number-spec =
     tie.close
     (tie.spec
     (λ c κs. search needs) (λ c. search needs) (λ c κs. search needs) (λ c κs. search needs) (λ c. search needs) (λ c κs. search needs)
-    (λ c. search (needs, told-number checkVerdict, told-place checkVerdict, told kindIn)) (λ c. search (needs, told-number checkVerdict, told-place checkVerdict, told kindIn)))
+    returns returns-2)

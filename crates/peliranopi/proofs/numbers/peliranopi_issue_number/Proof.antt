@@ -6,9 +6,15 @@ use borrow.Author.Needs.{needs}
 use Rattle.peliranopi.proofs.numbers.peliranopi_issue_number.Statement.{statement}
 use Rattle.peliranopi.proofs.numbers.peliranopi_issue_number.Tie as tie
 
+returns : tie.Need-returns
+returns c = search (needs, told-number issueVerdict, told-place issueVerdict, told issuedIn, number-left)
+
+returns-2 : tie.Need-returns-2
+returns-2 c = search (needs, told-number issueVerdict, told-place issueVerdict, told issuedIn, number-left)
+
 pub peliranopi-issue-number-spec : {M : Type 1} → statement M
 peliranopi-issue-number-spec =
     tie.close
     (tie.spec
-    (λ c κs. search needs) (λ c. search needs) (λ c κs. search needs) (λ c. search needs) (λ c κs. search needs) (λ c. search (needs, told-number issueVerdict, told-place issueVerdict, told issuedIn, number-left))
-    (λ c. search (needs, told-number issueVerdict, told-place issueVerdict, told issuedIn, number-left)) (λ c. search (needs, told-number issueVerdict, told-place issueVerdict, told issuedIn, number-left)) (λ c. search (needs, told-number issueVerdict, told-place issueVerdict, told issuedIn, number-left)))
+    (λ c κs. search needs) (λ c. search needs) (λ c κs. search needs) (λ c. search needs) (λ c κs. search needs) (λ c. search needs) returns
+    (λ c. search needs) returns-2)
