@@ -4,9 +4,9 @@ ghost use Prim.Native.Nat.{_≤_};
 ghost use lib.ListN.{length};
 ghost use Rattle.text.specs.Choice.{if_then_else_};
 ghost use Rattle.forms.specs.Amount.{cents, decimal, leadingZero, amount};
-use super::decimal::number;
-use super::shape::all_digits;
-use super::shape::is_digits;
+use crate::decimal::number;
+use crate::shape::all_digits;
+use crate::shape::is_digits;
 
 // Whether s is an amount.
 pub fn is_amount(s: &[u8]) -> bool

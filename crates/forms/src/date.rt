@@ -3,7 +3,7 @@ ghost use mathlib.Core.Path.{_≡_};
 ghost use lib.ListN.{length};
 ghost use Rattle.text.specs.Choice.{if_then_else_};
 ghost use Rattle.forms.specs.Date.{standsFor, like, leap, daysIn, calendar, goodDay, goodTime, dateTime};
-use super::decimal::number;
+use crate::decimal::number;
 
 // Whether s is a date-time.
 pub fn is_date_time(s: &[u8]) -> bool

@@ -1,4 +1,4 @@
--- `forms::amount::cents_of` meets its contract.
+-- `amount::cents_of` meets its contract.
 use Rattle.text.proofs.Choices.{test-held, not-takes-then, not-takes-else}
 use Rattle.forms.proofs.Amounts.{amount-decimal, decimal-least, decimal-most}
 use borrow.Author.Needs.{needs}

@@ -1,4 +1,4 @@
--- `forms::amount::is_amount` meets its contract.
+-- `amount::is_amount` meets its contract.
 use Rattle.text.proofs.Choices.{test-held, test-fails, test-holds, test-refuses, test-spares, le-told}
 use Rattle.forms.specs.Amount.{amount}
 use Rattle.forms.proofs.Amounts.{decimal-least, decimal-most}

@@ -1,4 +1,4 @@
--- `forms::amount::is_decimal` meets its contract.
+-- `amount::is_decimal` meets its contract.
 use Rattle.forms.proofs.Amounts.{too-short, too-long, whole-bad, point-bad, behind-decides}
 use borrow.Author.Needs.{needs}
 use Rattle.forms.proofs.amount.is_decimal.Statement.{statement}

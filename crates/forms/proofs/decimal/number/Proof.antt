@@ -1,4 +1,4 @@
--- `forms::decimal::number` meets its contract: the bytes still to come, behind n, write the whole.
+-- `decimal::number` meets its contract: the bytes still to come, behind n, write the whole.
 use Prim.Native.Nat.{_≤_, _-_}
 use mathlib.Core.Path.{_≡_}
 use lib.ListN.{length, drop}

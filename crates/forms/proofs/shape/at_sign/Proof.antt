@@ -1,4 +1,4 @@
--- `forms::shape::at_sign` meets its contract.
+-- `shape::at_sign` meets its contract.
 use Rattle.text.proofs.Choices.{eq-takes-then, eq-takes-else}
 use borrow.Author.Needs.{needs}
 use Rattle.forms.proofs.shape.at_sign.Statement.{statement}

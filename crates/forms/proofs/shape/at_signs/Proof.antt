@@ -1,4 +1,4 @@
--- `forms::shape::at_signs` meets its contract: those passed and those still to come are all.
+-- `shape::at_signs` meets its contract: those passed and those still to come are all.
 use Prim.Native.Nat.{_≤_, _+_, _-_}
 use mathlib.Core.Path.{_≡_}
 use lib.ListN.{length, drop}
