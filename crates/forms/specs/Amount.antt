@@ -5,6 +5,7 @@ use mathlib.Core.List.{List}
 use lib.Dec.{leb, eqb}
 use lib.ListN.{length, take, drop, getD}
 use Rattle.text.specs.Decimal.{number}
+use Rattle.text.specs.Quoted.{byte}
 use Rattle.forms.specs.Shape.{allDigits, digits}
 
 -- what stands before the point, and the two bytes behind it
@@ -22,11 +23,11 @@ cents s = 100 * number (whole s) + number (hundredths s)
 unfoldable pub decimal : List ℕ → Bool
 decimal s =
     leb 1 (length (whole s)) &&
-    (leb (length (whole s)) 6 && (allDigits (whole s) && (eqb (getD s (length s - 3) 0) 46 && digits 2 (hundredths s))))
+    (leb (length (whole s)) 6 && (allDigits (whole s) && (eqb (getD s (length s - 3) 0) (byte ".") && digits 2 (hundredths s))))
 
 -- "leading zero before another digit"
 unfoldable pub leadingZero : List ℕ → Bool
-leadingZero s = leb 2 (length (whole s)) && eqb (getD s 0 0) 48
+leadingZero s = leb 2 (length (whole s)) && eqb (getD s 0 0) (byte "0")
 
 -- "at least 0.01"
 unfoldable pub amount : List ℕ → Bool

@@ -45,7 +45,7 @@ fn is_decimal(s: &[u8]) -> bool
     if !all_digits(&s[0..point]) {
         return false;
     }
-    if s[point] != 46 {
+    if s[point] != b'.' {
         return false;
     }
     is_digits(&s[point + 1..], 2)
@@ -58,7 +58,7 @@ fn has_leading_zero(s: &[u8]) -> bool
     if s.len() < 5 {
         return false;
     }
-    s[0] == 48
+    s[0] == b'0'
 }
 
 // The cents where the lengths are known to be right.

@@ -39,7 +39,7 @@ fn is_like(pattern: &[u8], s: &[u8]) -> bool
 fn stands_for(p: u8, b: u8) -> bool
     ensures { λ r. ⌜ r ≡ standsFor p b ⌝ }
 {
-    if p == 48 {
+    if p == b'0' {
         return text::is_digit(b);
     }
     b == p

@@ -113,10 +113,10 @@ pub fn is_mail(s: &[u8]) -> bool
     if at_signs(s) != 1 {
         return false;
     }
-    if s[0] == 64 {
+    if s[0] == b'@' {
         return false;
     }
-    s[s.len() - 1] != 64
+    s[s.len() - 1] != b'@'
 }
 
 // How many of the bytes are `@`.
@@ -136,7 +136,7 @@ fn at_signs(s: &[u8]) -> usize
 fn at_sign(b: u8) -> usize
     ensures { λ r. ⌜ (r ≡ (if atSign b then 1 else 0)) × (r ≤ 1) ⌝ }
 {
-    if b == 64 {
+    if b == b'@' {
         return 1;
     }
     0

@@ -11,20 +11,20 @@ ghost use Rattle.text.specs.Placed.{placed, written};
 pub fn is_digit(b: u8) -> bool
     ensures { λ r. ⌜ r ≡ digit b ⌝ }
 {
-    if b < 48 {
+    if b < b'0' {
         return false;
     }
-    b <= 57
+    b <= b'9'
 }
 
 // Whether a byte is one of A to Z.
 pub fn is_capital(b: u8) -> bool
     ensures { λ r. ⌜ r ≡ capital b ⌝ }
 {
-    if b < 65 {
+    if b < b'A' {
         return false;
     }
-    b <= 90
+    b <= b'Z'
 }
 
 // Whether a byte is a capital or a digit.
@@ -37,14 +37,14 @@ pub fn is_symbol(b: u8) -> bool
     is_capital(b)
 }
 
-// Whether a byte may stand in a file's text.
+// Whether a byte may stand in a file's text: 32 to 126 (space to `~`), and 160 to 255.
 pub fn is_text_byte(b: u8) -> bool
     ensures { λ r. ⌜ r ≡ textByte b ⌝ }
 {
-    if b < 32 {
+    if b < b' ' {
         return false;
     }
-    if b <= 126 {
+    if b <= b'~' {
         return true;
     }
     160 <= b
@@ -67,10 +67,10 @@ pub fn is_purpose_byte(b: u8) -> bool
 fn is_small(b: u8) -> bool
     ensures { λ r. ⌜ r ≡ small b ⌝ }
 {
-    if b < 97 {
+    if b < b'a' {
         return false;
     }
-    b <= 122
+    b <= b'z'
 }
 
 // Whether b is one of these bytes.
