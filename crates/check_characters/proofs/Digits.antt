@@ -10,7 +10,7 @@ use lib.ListN.{length, take, drop, set, getD, drop-of-length-le, length-set, len
 use lib.Seq.{take-suc-set, drop-cons, take-all}
 use Rattle.text.specs.Byte.{capital}
 use Rattle.check_characters.specs.Symbol.{valueOf}
-use Rattle.check_characters.specs.Iban.{digitsOf, spread, decimalFrom, decimal, ibanNumber}
+use Rattle.check_characters.specs.Iban.{digitsOf, spread, decimalFrom, ibanNumber}
 
 module _ (b : ℕ) (t : Bool) (et : t ≡ capital b) where
   digits-two : t ≡ true → digitsOf b ≡ valueOf b / 10 ∷ valueOf b % 10 ∷ []
@@ -74,8 +74,8 @@ module _ (s : List ℕ) (r i z : ℕ) where
 
 -- the account part and then the first four, spread into one array
 pub of-whole : (s account whole : List ℕ) (r : ℕ) → account ≡ spread (take (length s - 4) (drop 4 s)) →
-    whole ≡ account ++ spread (take 4 s) → r ≡ decimal whole % 97 → r ≡ ibanNumber s % 97
+    whole ≡ account ++ spread (take 4 s) → r ≡ decimalFrom 0 whole % 97 → r ≡ ibanNumber s % 97
 of-whole s account whole r ea ew er =
     let tail : take (length s - 4) (drop 4 s) ≡ drop 4 s = take-all (length s - 4) (drop 4 s) (simp length-drop (omega arith)) in
-    er ∙ ap (λ (w : List ℕ). decimal w % 97) (ew ∙ ap (λ (w : List ℕ). w ++ spread (take 4 s)) (ea ∙ ap spread tail)
+    er ∙ ap (λ (w : List ℕ). decimalFrom 0 w % 97) (ew ∙ ap (λ (w : List ℕ). w ++ spread (take 4 s)) (ea ∙ ap spread tail)
     ∙ sym (spread-append (drop 4 s) (take 4 s)))

@@ -6,6 +6,7 @@ use lib.Dec.{eqb, ltb, leb}
 use lib.ListN.{length, getD, take, drop}
 use Rattle.text.specs.Choice.{if_then_else_}
 use Rattle.text.specs.Byte.{digit, capital, symbol}
+use Rattle.text.specs.Decimal.{numberFrom}
 use Rattle.text.specs.Scan.{firstFailing}
 use Rattle.refusal.specs.declared.Reason.the-variants.{WrongLength, WrongSymbol, WrongCheck}
 use Rattle.refusal.specs.Table.{because, verdictOf, Verdict}
@@ -29,20 +30,16 @@ abbrev pub spread : List ℕ → List ℕ
 spread [] = []
 spread (b ∷ s) = digitsOf b ++ spread s
 
--- the number that digits write, behind the number a
+-- the number that digits write behind digits that write a, each worth itself
 abbrev pub decimalFrom : ℕ → List ℕ → ℕ
-decimalFrom a [] = a
-decimalFrom a (d ∷ s) = decimalFrom (10 * a + d) s
-
-abbrev pub decimal : List ℕ → ℕ
-decimal s = decimalFrom 0 s
+decimalFrom a s = numberFrom (λ d. d) a s
 
 -- "The first four move to the end"
 abbrev pub moved : List ℕ → List ℕ
 moved s = drop 4 s ++ take 4 s
 
 abbrev pub ibanNumber : List ℕ → ℕ
-ibanNumber s = decimal (spread (moved s))
+ibanNumber s = decimalFrom 0 (spread (moved s))
 
 -- the check digits as a number
 abbrev pub checkDigits : List ℕ → ℕ

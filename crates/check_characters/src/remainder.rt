@@ -3,7 +3,7 @@ ghost use mathlib.Core.Path.{_≡_};
 ghost use Prim.Native.Nat.{_+_, _*_, _%_, _<_, _≤_};
 ghost use mathlib.Core.List.{_++_};
 ghost use lib.ListN.{length, take};
-ghost use Rattle.check_characters.specs.Iban.{digitsOf, spread, decimal, ibanNumber};
+ghost use Rattle.check_characters.specs.Iban.{digitsOf, spread, decimalFrom, ibanNumber};
 use crate::symbol;
 
 // The remainder by 97 of an IBAN's number.
@@ -56,7 +56,7 @@ fn put_digits(out: &mut [u8], at: usize, b: u8) -> usize
 
 // The remainder by 97 of the number that digits write.
 fn of_digits(digits: &[u8]) -> u32
-    ensures { λ r. ⌜ r ≡ decimal (now (digits .entry)) % 97 ⌝ }
+    ensures { λ r. ⌜ r ≡ decimalFrom 0 (now (digits .entry)) % 97 ⌝ }
 {
     let mut r: u32 = 0;
     let mut i: usize = 0;

@@ -22,7 +22,7 @@ use Rattle.text.proofs.Bytes.{digit-range, capital-range, capital-low}
 use Rattle.text.proofs.Scans.{none-fails, all-pass}
 use Rattle.text.proofs.Finite.{every-at, tells, told-apart}
 use Rattle.check_characters.specs.Symbol.{valueOf}
-use Rattle.check_characters.specs.Iban.{allowed, wrongSymbol, digitsOf, spread, decimalFrom, decimal, moved, ibanNumber, ibanVerdict}
+use Rattle.check_characters.specs.Iban.{allowed, wrongSymbol, digitsOf, spread, decimalFrom, moved, ibanNumber, ibanVerdict}
 use Rattle.check_characters.specs.Iban.{checkDigits, barred, soundOf, checked}
 use Rattle.check_characters.specs.declared.iban.IbanAnswer.the-variants.{Accepted, Refused}
 use Rattle.check_characters.proofs.Symbols.{value-le, value-digit, value-capital}
@@ -227,9 +227,9 @@ power-tells n z v w l lv lw h =
 
 -- the number whose first digit is b and whose last is a
 ends-number : (a b : ℕ) (m : List ℕ) → digit a ≡ true → digit b ≡ true →
-    decimal (spread ((b ∷ m) ++ (a ∷ []))) ≡ 10 * (valueOf b * 10 ^ length (spread m) + decimal (spread m)) + valueOf a
+    decimalFrom 0 (spread ((b ∷ m) ++ (a ∷ []))) ≡ 10 * (valueOf b * 10 ^ length (spread m) + decimalFrom 0 (spread m)) + valueOf a
 ends-number a b m da db =
-    ap decimal (spread-append (b ∷ m) (a ∷ []))
+    ap (decimalFrom 0) (spread-append (b ∷ m) (a ∷ []))
     ∙ decimal-append 0 (spread (b ∷ m)) (spread (a ∷ []))
     ∙ ap (λ (r : ℕ). decimalFrom r (spread (a ∷ []))) (decimal-append 0 (digitsOf b) (spread m)
     ∙ ap (λ (r : ℕ). decimalFrom r (spread m)) (ten 0 b db) ∙ decimal-linear (10 * 0 + valueOf b) (spread m))
@@ -250,11 +250,11 @@ fourth-and-fifth x y z a b q k ga gb = ⊎-elim (λ d. digits (d .0) (d .1)) (λ
 
     digits : digit a ≡ true → digit b ≡ true → a ≡ b
     digits da db =
-        let ea = ap (λ (l : List ℕ). decimal (spread l)) (sym (append-assoc (b ∷ q) (x ∷ y ∷ z ∷ []) (a ∷ []))) ∙ ends-number a b m da db in
-        let eb = ap (λ (l : List ℕ). decimal (spread l)) (sym (append-assoc (a ∷ q) (x ∷ y ∷ z ∷ []) (b ∷ []))) ∙ ends-number b a m db da in
+        let ea = ap (λ (l : List ℕ). decimalFrom 0 (spread l)) (sym (append-assoc (b ∷ q) (x ∷ y ∷ z ∷ []) (a ∷ []))) ∙ ends-number a b m da db in
+        let eb = ap (λ (l : List ℕ). decimalFrom 0 (spread l)) (sym (append-assoc (a ∷ q) (x ∷ y ∷ z ∷ []) (b ∷ []))) ∙ ends-number b a m db da in
         alike a b (inl (da, db)) .one
         (sym
-        (power-tells (length (spread m)) (decimal (spread m)) (valueOf b) (valueOf a)
+        (power-tells (length (spread m)) (decimalFrom 0 (spread m)) (valueOf b) (valueOf a)
         (omega (arith, spread-long m, length-append q (x ∷ y ∷ z ∷ []), ga .short)) (digit-below b db) (digit-below a da)
         (ap (λ (n : ℕ). n % 97) (sym ea) ∙ ga .one ∙ sym (gb .one) ∙ ap (λ (n : ℕ). n % 97) eb)))
 
