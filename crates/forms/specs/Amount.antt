@@ -20,8 +20,8 @@ unfoldable pub cents : List ℕ → ℕ
 cents s = 100 * number (whole s) + number (hundredths s)
 
 -- "1 to 6 digits, a point, two digits"
-unfoldable pub decimal : List ℕ → Bool
-decimal s =
+unfoldable pub pointed : List ℕ → Bool
+pointed s =
     leb 1 (length (whole s)) &&
     (leb (length (whole s)) 6 && (allDigits (whole s) && (eqb (getD s (length s - 3) 0) (byte ".") && digits 2 (hundredths s))))
 
@@ -31,4 +31,4 @@ leadingZero s = leb 2 (length (whole s)) && eqb (getD s 0 0) (byte "0")
 
 -- "at least 0.01"
 unfoldable pub amount : List ℕ → Bool
-amount s = decimal s && (not (leadingZero s) && leb 1 (cents s))
+amount s = pointed s && (not (leadingZero s) && leb 1 (cents s))

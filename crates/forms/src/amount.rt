@@ -3,7 +3,7 @@ ghost use mathlib.Core.Path.{_≡_};
 ghost use Prim.Native.Nat.{_≤_};
 ghost use lib.ListN.{length};
 ghost use Rattle.text.specs.Choice.{if_then_else_};
-ghost use Rattle.forms.specs.Amount.{cents, decimal, leadingZero, amount};
+ghost use Rattle.forms.specs.Amount.{cents, pointed, leadingZero, amount};
 use crate::decimal::number;
 use crate::shape::all_digits;
 use crate::shape::is_digits;
@@ -12,7 +12,7 @@ use crate::shape::is_digits;
 pub fn is_amount(s: &[u8]) -> bool
     ensures { λ r. ⌜ r ≡ amount (now (s .entry)) ⌝ }
 {
-    if !is_decimal(s) {
+    if !is_pointed(s) {
         return false;
     }
     if has_leading_zero(s) {
@@ -32,8 +32,8 @@ pub fn cents_of(s: &[u8]) -> u64
 }
 
 // Whether s is 1 to 6 digits, a point and two digits.
-fn is_decimal(s: &[u8]) -> bool
-    ensures { λ r. ⌜ r ≡ decimal (now (s .entry)) ⌝ }
+fn is_pointed(s: &[u8]) -> bool
+    ensures { λ r. ⌜ r ≡ pointed (now (s .entry)) ⌝ }
 {
     if s.len() < 4 {
         return false;

@@ -10,19 +10,19 @@ use Rattle.check_characters.proofs.remainder.of_spread.Tie as tie
 ruleset laws = (needs, of-whole)
 
 spread-into-requires : tie.Need-spread-into-requires
-spread-into-requires c κs = let s = c .before .before .before .before .args .s .now in
+spread-into-requires c κs = let s = c .before .before .before .before .args .symbols .now in
     omega (arith, length-take 4 s, length-take (length s - 4) (drop 4 s), length-drop 4 s)
 
 slice-aggregate-spread-into : tie.Need-slice-aggregate-spread-into
 slice-aggregate-spread-into c = simp length-take (omega arith)
 
 spread-into-requires-2 : tie.Need-spread-into-requires-2
-spread-into-requires-2 c κs = let s = c .before .before .before .before .before .before .before .before .before .args .s .now in
+spread-into-requires-2 c κs = let s = c .before .before .before .before .before .before .before .before .before .args .symbols .now in
     omega (arith, length-take 4 s, length-take (length s - 4) (drop 4 s), length-drop 4 s, c .before .before .before .before .spread-into)
 
 slice-reshare-prefix-of-digits : tie.Need-slice-reshare-prefix-of-digits
 slice-reshare-prefix-of-digits c = let s =
-    c .before .before .before .before .before .before .before .before .before .before .before .before .args .s .now in
+    c .before .before .before .before .before .before .before .before .before .before .before .before .args .symbols .now in
     omega (
       arith,
       length-take 4 s,
@@ -34,7 +34,7 @@ slice-reshare-prefix-of-digits c = let s =
 
 slice-aggregate-of-digits : tie.Need-slice-aggregate-of-digits
 slice-aggregate-of-digits c = let s =
-    c .before .before .before .before .before .before .before .before .before .before .before .before .before .args .s .now in
+    c .before .before .before .before .before .before .before .before .before .before .before .before .before .args .symbols .now in
     simp length-take (omega (
       arith,
       length-take 4 s,
