@@ -1,4 +1,7 @@
--- IBANs by ISO 13616 (document 01, 'Check characters'): the number that one stands for, and what checking one answers.
+-- IBANs, account numbers by ISO 13616 (document 01, 'Check characters'): the number that one stands for, and what checking one answers.
+--
+-- AT611904300234573201 stands for 1904300234573201102961: the account, then `A` as 10, `T` as 29, and 61. Its remainder by 97 is 1, and
+-- it passes. AT161904300234573201 stands for 1904300234573201102916, which leaves 53: it is refused by 18 at 2 (`example-iban`).
 use Prim.Native.Nat.{ℕ, _+_, _*_, _/_, _%_}
 use mathlib.Core.Bool.{Bool, not, _&&_, _||_}
 use mathlib.Core.List.{List, [], _∷_, _++_}

@@ -1,4 +1,13 @@
--- DPD numbers (document 01, 'Check characters'): what checking and issuing one answer.
+-- DPD numbers (document 01, 'Check characters'): what checking and issuing one answer. The carrier lays down what stands where in
+-- them (document 001); the last symbol is a check character by ISO/IEC 7064, MOD 37,36.
+--
+-- The label code 0002800099800000200371550566 is 7 symbols, 14 digits, 3 digits of service, 3 of country and a check:
+--
+--     0002800 09980000020037 155 056 6
+--
+-- The carry of all but the check is 31 (`example-label`), and 31 + 6 leaves 1 modulo 36: it passes. With the check 7 it is refused by
+-- 18 at 27, with a small letter by 17 at that letter, and without its check by 16 at 0. src/number.rt has the carries of a tracking
+-- number, symbol by symbol (`example-tracking`).
 use Prim.Native.Nat.{ℕ, _+_, _-_}
 use mathlib.Core.Path.{_≡_}
 use mathlib.Core.Bool.{Bool, false}

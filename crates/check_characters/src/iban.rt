@@ -1,4 +1,12 @@
-// IBANs: the check by ISO 13616.
+// IBANs, account numbers by ISO 13616: one checked by ISO/IEC 7064, MOD 97-10.
+//
+// AT611904300234573201 is the country `AT`, the check digits 61 and the account. The first four move to the end, and letters become two
+// digits, A 10 and T 29:
+//
+//     1904300234573201 AT61    becomes    1904300234573201 1029 61
+//
+// The remainder by 97 goes digit by digit, from r to (10 * r + digit) % 97. Behind 1904300 it is 93, behind 2345732 it is 65, behind
+// 0110296 it is 0, and behind the last digit 1, so that the IBAN passes. With the check digits 16 it is 53 in the end.
 ghost use mathlib.Core.Path.{_≡_};
 ghost use Prim.Native.Nat.{_≤_};
 ghost use lib.ListN.{length};

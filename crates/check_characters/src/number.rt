@@ -1,8 +1,19 @@
-// DPD numbers: a tracking number or a label code checked, and one issued from its body.
+// DPD numbers: a tracking number or a label code checked, and one issued from its body. The carrier lays down what stands where in
+// them; the last symbol is a check character by ISO/IEC 7064, MOD 37,36.
+//
+// The tracking number 09980000020041F has 14 digits and the check `F`. The carry starts at 36. A symbol's value is added to it, the
+// sum reduced modulo 36 with 0 read as 36, doubled, and reduced modulo 37:
+//
+//     symbol       0   9   9   8   0   0   0   0   0   2   0   0   4   1
+//     carry   36  35  16  13   5  10  20   3   6  12  28  19   1  10  22
+//
+// First 36 + 0 leaves 0, read as 36; twice that is 72, which leaves 35. Then 35 + 9 leaves 8, and twice that is 16. At the end the
+// check's value makes 22 + value leave 1 modulo 36: it is 15, the value of `F`.
 ghost use mathlib.Core.Path.{_≡_};
 ghost use Prim.Native.Nat.{_+_, _<_, _≤_};
 ghost use lib.ListN.{length};
-ghost use Rattle.check_characters.specs.Number.{lengthOf, allowedInNumber, wrongInNumber, checkedAs, checkedNumber, issueAs, issuedTo, Issues};
+ghost use Rattle.check_characters.specs.Number.{lengthOf, allowedInNumber, wrongInNumber, checkedAs, checkedNumber};
+ghost use Rattle.check_characters.specs.Number.{issueAs, issuedTo, Issues};
 use crate::carry;
 use crate::symbol;
 use refusal::Reason;

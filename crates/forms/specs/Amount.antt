@@ -1,4 +1,7 @@
 -- Document 01, 'The file': "Amount: 1 to 6 digits, a point, two digits; no leading zero before another digit; at least 0.01."
+--
+-- In 12.50 the digits before the point are 12 and those behind it 50, and its cents are 100 * 12 + 50 = 1250. The least amount is 0.01
+-- and the largest 999999.99. 0.00 has the digits and the point but no cent, and 01.00 has a leading zero (`example-amounts`, `example-none`).
 use Prim.Native.Nat.{ℕ, _+_, _-_, _*_}
 use mathlib.Core.Bool.{Bool, _&&_, not}
 use mathlib.Core.List.{List}

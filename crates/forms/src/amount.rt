@@ -1,4 +1,10 @@
-// An amount: its form, and its cents.
+// An amount of money, as field 3 of a 060 line has it: its form, and its cents. Document 01 lays the form down.
+//
+//     12.50        100 * 12 + 50 = 1250 cents
+//     0.01         1 cent, the least
+//     999999.99    99999999 cents, the most
+//     0.00         no amount: it has the digits and the point, but no cent
+//     01.00        no amount: a zero stands before another digit
 ghost use mathlib.Core.Path.{_≡_};
 ghost use Prim.Native.Nat.{_≤_};
 ghost use lib.ListN.{length};
