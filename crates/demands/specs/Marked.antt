@@ -7,8 +7,8 @@ use Rattle.refusal.specs.Table.{Verdict}
 use Rattle.text.specs.Quoted.{bytes}
 use Rattle.forms.specs.Amount.{amount}
 use Rattle.forms.specs.Date.{dateTime}
-use Rattle.check_characters.specs.Number.{checkVerdict, checked as checkedNumber}
-use Rattle.check_characters.specs.Iban.{ibanVerdict, checked as checkedIban}
+use Rattle.check_characters.specs.Number.{checkVerdict, checkedNumber}
+use Rattle.check_characters.specs.Iban.{ibanVerdict, checkedIban}
 
 -- a text and what the paper says of it: the verdict on a DPD number or an IBAN, whether an amount or a date-time holds
 pub data Case : Type 0 where
