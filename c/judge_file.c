@@ -1,5 +1,5 @@
-/* Judges a pre-advice file from C: judge_file FILE. Prints `ok LINES PARCELS CENTS` or `no NUMBER PLACE`, as ./judge does; a file
- * that cannot be read is told on standard error, with the exit status 2. */
+/* Judges a pre-advice file from C: judge_file FILE. Prints `ok LINES PARCELS CENTS` and exits with 0, or `no NUMBER PLACE` and with 1,
+ * as ./judge does; a file that cannot be read is told on standard error, with the exit status 2. */
 #include "peliranopi.h"
 
 #include <inttypes.h>
@@ -40,5 +40,9 @@ int main(int argc, char **argv)
     else
         printf("no %" PRIu32 " %zu\n", refusal, place);
     /* An answer that could not be written must not pass for one. */
-    return fflush(stdout) == 0 ? 0 : 2;
+    if (fflush(stdout) != 0) {
+        perror("standard output");
+        return 2;
+    }
+    return refusal == PELIRANOPI_ACCEPTED ? 0 : 1;
 }

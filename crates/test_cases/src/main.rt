@@ -4,6 +4,7 @@ ghost use Prim.Native.Nat.{_<_, _≤_};
 use file::FileAnswer;
 use file::Totals;
 use refusal::Refusal;
+use streams::Input;
 
 fn main() {
     let n = os::arg_count();
@@ -24,36 +25,39 @@ fn one_case(words_at: usize, name_at: usize) {
     let words = number(&count[..digits]);
     let mut name = io::buffer();
     let long = os::arg(name_at, &mut name);
-    io::write_all(1, &name[..long]);
     let fd = os::open_read(&name[..long]);
     if fd < 0 {
-        io::write_all(1, b" is missing\n");
+        os::fail(&name[..long]);
         return;
     }
-    run(fd, words);
+    run(fd, &name[..long], words);
     libc::close(fd);
 }
 
-fn run(fd: i32, words: usize)
+fn run(fd: i32, name: &[u8], words: usize)
     requires { ⌜ words ≤ 4096 ⌝ }
 {
     let mut buffer = io::large_buffer();
-    let n = io::read_full(fd, &mut buffer);
     let mut list = [4294967295u32; 4096];
-    judge(&buffer[..n], &mut list[0..words]);
+    let input = streams::read_input(fd, &mut buffer);
+    match input {
+        Input::Whole(n) => judge(name, &buffer[..n], &mut list[0..words]),
+        Input::Failed => os::fail(name),
+    }
 }
 
-fn judge(s: &[u8], list: &mut [u32]) {
-    io::write_all(1, b" ");
-    io::print_decimal(1, list.len() as u64);
+fn judge(name: &[u8], s: &[u8], list: &mut [u32]) {
+    streams::say(name);
+    streams::say(b" ");
+    streams::say_decimal(list.len() as u64);
     let answer = file::judge(s, list);
     match answer {
         FileAnswer::Accepted(totals) => say_ok(totals),
         FileAnswer::Refused(refusal) => say_no(refusal),
     }
-    io::write_all(1, b" list ");
-    io::print_decimal(1, sum(list));
-    io::write_all(1, b"\n");
+    streams::say(b" list ");
+    streams::say_decimal(sum(list));
+    streams::say(b"\n");
 }
 
 fn sum(list: &[u32]) -> u64 {
@@ -92,18 +96,18 @@ fn value(b: u8) -> usize
 }
 
 fn say_ok(totals: Totals) {
-    io::write_all(1, b" ok ");
-    io::print_decimal(1, totals.lines as u64);
-    io::write_all(1, b" ");
-    io::print_decimal(1, totals.parcels as u64);
-    io::write_all(1, b" ");
-    io::print_decimal(1, totals.cents);
+    streams::say(b" ok ");
+    streams::say_decimal(totals.lines as u64);
+    streams::say(b" ");
+    streams::say_decimal(totals.parcels as u64);
+    streams::say(b" ");
+    streams::say_decimal(totals.cents);
 }
 
 fn say_no(refusal: Refusal) {
     let why = refusal.why;
-    io::write_all(1, b" no ");
-    io::print_decimal(1, refusal::number(why) as u64);
-    io::write_all(1, b" ");
-    io::print_decimal(1, refusal.place as u64);
+    streams::say(b" no ");
+    streams::say_decimal(refusal::number(why) as u64);
+    streams::say(b" ");
+    streams::say_decimal(refusal.place as u64);
 }

@@ -5,11 +5,15 @@ ghost use Prim.Native.Nat.{_≤_};
 ghost use lib.ListN.{length};
 use purpose::PurposeAnswer;
 use refusal::Refusal;
+use streams::Input;
 
 fn main() {
     let mut buffer = io::large_buffer();
-    let n = io::read_full(0, &mut buffer);
-    run(&buffer[..n]);
+    let input = streams::read_input(libc::STDIN_FILENO, &mut buffer);
+    match input {
+        Input::Whole(n) => run(&buffer[..n]),
+        Input::Failed => os::fail(b"standard input"),
+    }
 }
 
 fn run(s: &[u8]) {
@@ -48,18 +52,18 @@ fn run_case(case: &[u8]) {
     let mut list = [7u32; 20];
     let answer = purpose::write_purpose(&case[9..], number, &mut list[..words], &mut out[..room]);
     say(answer);
-    io::write_all(1, b" |");
-    io::write_all(1, &out);
-    io::write_all(1, b"|");
+    streams::say(b" |");
+    streams::say(&out);
+    streams::say(b"|");
     say_list(&list);
-    io::write_all(1, b"\n");
+    streams::say(b"\n");
 }
 
 fn say(answer: PurposeAnswer) {
     match answer {
         PurposeAnswer::Written(n) => {
-            io::write_all(1, b"ok ");
-            io::print_decimal(1, n as u64);
+            streams::say(b"ok ");
+            streams::say_decimal(n as u64);
         }
         PurposeAnswer::Refused(refusal) => say_no(refusal),
     }
@@ -67,10 +71,10 @@ fn say(answer: PurposeAnswer) {
 
 fn say_no(refusal: Refusal) {
     let why = refusal.why;
-    io::write_all(1, b"no ");
-    io::print_decimal(1, refusal::number(why) as u64);
-    io::write_all(1, b" ");
-    io::print_decimal(1, refusal.place as u64);
+    streams::say(b"no ");
+    streams::say_decimal(refusal::number(why) as u64);
+    streams::say(b" ");
+    streams::say_decimal(refusal.place as u64);
 }
 
 fn say_list(list: &[u32]) {
@@ -82,8 +86,8 @@ fn say_list(list: &[u32]) {
 }
 
 fn say_word(word: u32) {
-    io::write_all(1, b" ");
-    io::print_decimal(1, word as u64);
+    streams::say(b" ");
+    streams::say_decimal(word as u64);
 }
 
 fn two_digits(a: u8, b: u8) -> usize {

@@ -5,11 +5,15 @@ use check_characters::IssueAnswer;
 use check_characters::Kind;
 use check_characters::NumberAnswer;
 use refusal::Refusal;
+use streams::Input;
 
 fn main() {
     let mut buffer = io::large_buffer();
-    let n = io::read_full(0, &mut buffer);
-    run(&buffer[..n]);
+    let input = streams::read_input(libc::STDIN_FILENO, &mut buffer);
+    match input {
+        Input::Whole(n) => run(&buffer[..n]),
+        Input::Failed => os::fail(b"standard input"),
+    }
 }
 
 fn run(s: &[u8]) {
@@ -26,12 +30,12 @@ fn run(s: &[u8]) {
 
 fn say(line: &[u8]) {
     if line.len() < 2 {
-        io::write_all(1, b"?\n");
+        streams::say(b"?\n");
         return;
     }
     let what = line[0];
     let text = &line[2..];
-    io::write_all(1, text);
+    streams::say(text);
     match what {
         b'N' => say_number(text),
         b'B' => say_issued(text),
@@ -42,16 +46,16 @@ fn say(line: &[u8]) {
 }
 
 fn say_unknown() {
-    io::write_all(1, b" ?\n");
+    streams::say(b" ?\n");
 }
 
 fn say_no(refusal: Refusal) {
     let why = refusal.why;
-    io::write_all(1, b" no ");
-    io::print_decimal(1, refusal::number(why) as u64);
-    io::write_all(1, b" ");
-    io::print_decimal(1, refusal.place as u64);
-    io::write_all(1, b"\n");
+    streams::say(b" no ");
+    streams::say_decimal(refusal::number(why) as u64);
+    streams::say(b" ");
+    streams::say_decimal(refusal.place as u64);
+    streams::say(b"\n");
 }
 
 fn say_number(s: &[u8]) {
@@ -65,10 +69,10 @@ fn say_number(s: &[u8]) {
 fn say_kind(kind: Kind) {
     match kind {
         Kind::Tracking => {
-            io::write_all(1, b" tracking number\n");
+            streams::say(b" tracking number\n");
         }
         Kind::Label => {
-            io::write_all(1, b" label code\n");
+            streams::say(b" label code\n");
         }
     }
 }
@@ -78,9 +82,9 @@ fn say_issued(body: &[u8]) {
     let answer = check_characters::issue_number(body, &mut out);
     match answer {
         IssueAnswer::Issued(_) => {
-            io::write_all(1, b" ");
-            io::write_all(1, &out);
-            io::write_all(1, b"\n");
+            streams::say(b" ");
+            streams::say(&out);
+            streams::say(b"\n");
         }
         IssueAnswer::Refused(refusal) => say_no(refusal),
     }
@@ -88,16 +92,16 @@ fn say_issued(body: &[u8]) {
 
 fn say_check(s: &[u8]) {
     let check = check_characters::check_of(s);
-    io::write_all(1, b" ");
-    io::write_all(1, &[check]);
-    io::write_all(1, b"\n");
+    streams::say(b" ");
+    streams::say(&[check]);
+    streams::say(b"\n");
 }
 
 fn say_iban(s: &[u8]) {
     let answer = check_characters::check_iban(s);
     match answer {
         IbanAnswer::Accepted => {
-            io::write_all(1, b" IBAN\n");
+            streams::say(b" IBAN\n");
         }
         IbanAnswer::Refused(refusal) => say_no(refusal),
     }

@@ -3,12 +3,16 @@
 ghost use Prim.Native.Nat.{_≤_};
 ghost use lib.ListN.{length};
 use refusal::Refusal;
+use streams::Input;
 use writer::WriteAnswer;
 
 fn main() {
     let mut buffer = io::large_buffer();
-    let n = io::read_full(0, &mut buffer);
-    run(&buffer[..n]);
+    let input = streams::read_input(libc::STDIN_FILENO, &mut buffer);
+    match input {
+        Input::Whole(n) => run(&buffer[..n]),
+        Input::Failed => os::fail(b"standard input"),
+    }
 }
 
 fn run(s: &[u8]) {
@@ -81,21 +85,21 @@ fn write(call: Call, text: &[u8], ends: &[usize], out: &mut [u8]) {
         WriteAnswer::Written(n) => say_written(n),
         WriteAnswer::Refused(refusal) => say_no(refusal),
     }
-    io::write_all(1, out);
-    io::write_all(1, b"\n");
+    streams::say(out);
+    streams::say(b"\n");
 }
 
 fn say_written(n: usize) {
-    io::write_all(1, b"written ");
-    io::print_decimal(1, n as u64);
-    io::write_all(1, b" ");
+    streams::say(b"written ");
+    streams::say_decimal(n as u64);
+    streams::say(b" ");
 }
 
 fn say_no(refusal: Refusal) {
     let why = refusal.why;
-    io::write_all(1, b"no ");
-    io::print_decimal(1, refusal::number(why) as u64);
-    io::write_all(1, b" ");
-    io::print_decimal(1, refusal.place as u64);
-    io::write_all(1, b" ");
+    streams::say(b"no ");
+    streams::say_decimal(refusal::number(why) as u64);
+    streams::say(b" ");
+    streams::say_decimal(refusal.place as u64);
+    streams::say(b" ");
 }

@@ -1,0 +1,23 @@
+-- What fits into a buffer lies at its front; an input that is whole fits.
+use Prim.Native.Nat.{ℕ, _≤_}
+use mathlib.Core.Path.{_≡_, sym}
+use mathlib.Core.List.{List}
+use lib.ListN.{length, take}
+use lib.Seq.{length-take-le}
+use Rattle.io.specs.Counts.{Counts}
+use Rattle.streams.specs.declared.Input.{Input}
+use Rattle.streams.specs.Reads.{Held}
+
+pub whole : (n : ℕ) (buffer : List ℕ) → n ≤ length buffer → Counts n buffer
+whole n buffer fits = (fits, sym (length-take-le n buffer fits))
+
+-- what a program asks for to lend the input on
+module _ (input : Input) (n : ℕ) (buffer : List ℕ) (is : input ≡ Input.Whole n) (held : Held input buffer) where
+  counted : Counts n buffer
+  counted = rw is at held
+
+  pub input-fits : n ≤ length buffer
+  input-fits = counted .0
+
+  pub input-long : n ≡ length (take n buffer)
+  input-long = counted .1
