@@ -28,7 +28,8 @@ fn of_spread(symbols: &[u8], digits: &mut [u8]) -> u32
 // The digits of a run of symbols, written from the place at on. Answers where they end.
 fn spread_into(digits: &mut [u8], at: usize, symbols: &[u8]) -> usize
     requires { ⌜ at + 2 * length (now symbols) ≤ length (now digits) ⌝ }
-    ensures { λ r. ⌜ (take r (now (digits .exit)) ≡ take at (now (digits .entry)) ++ spread (now (symbols .entry))) × (r ≤ at + 2 * length (now (symbols .entry))) ⌝ }
+    ensures { λ r. ⌜ (take r (now (digits .exit)) ≡ take at (now (digits .entry)) ++ spread (now (symbols .entry)))
+        × (r ≤ at + 2 * length (now (symbols .entry))) ⌝ }
 {
     let mut end = at;
     let mut i: usize = 0;

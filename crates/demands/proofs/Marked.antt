@@ -32,7 +32,55 @@ unfolding valueOf step passes shapeOf allowedInNumber checkedAs checkedNumber di
     version bic mail purposeText featureCodes isFeature codeOf needOf named mayFollow mayCome mayEnd isCash profile widthInTable widthOf
     isRequired hasForm tested isFilled serves isServed lacks endsWell textAnswer afterWalk ofKind ofNamed ofText lineAnswer isTyped cashIn
     cashOf sameParcel repeats hasWord onLine stepAnswer judged isCashLine fromShipment forFeature sourceOf
-marked-hold = (refl, (refl, (refl, (refl, (refl, (refl, (refl, (refl, (refl, (refl, (refl, (refl, (refl, (refl, (refl, (refl, (refl, (refl, (refl, (refl, (refl, tt)))))))))))))))))))))
+marked-hold = (
+  refl,
+  (
+    refl,
+    (
+      refl,
+      (
+        refl,
+        (
+          refl,
+          (
+            refl,
+            (
+              refl,
+              (
+                refl,
+                (
+                  refl,
+                  (
+                    refl,
+                    (
+                      refl,
+                      (
+                        refl,
+                        (
+                          refl,
+                          (
+                            refl,
+                            (
+                              refl,
+                              (
+                                refl,
+                                (refl, (refl, (refl, (refl, (refl, tt))))),
+                              ),
+                            ),
+                          ),
+                        ),
+                      ),
+                    ),
+                  ),
+                ),
+              ),
+            ),
+          ),
+        ),
+      ),
+    ),
+  ),
+)
 
 -- the example is an allowed file: the rules contradict nobody
 pub a-file-is-allowed : (ls : List FileLine) × AllowedFile example ls
