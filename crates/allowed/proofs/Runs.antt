@@ -104,7 +104,8 @@ module _ (s : List ℕ) (m : ℕ) (small : length s ≤ fileLimit) (totals : Tot
             Accepted (record { lines = state .lines; parcels = state .parcels; cents = state .cents });
         starts = starts;
       })
-      (record { answer = Refused (because FileEnds (length s)); starts = [] }) result (λ q. (no-pass fileVerdict refl refl) (ap (λ (j : Judged). j .answer) q)) e in
+      (record { answer = Refused (because FileEnds (length s)); starts = [] }) result (λ q. (no-pass fileVerdict refl refl)
+      (ap (λ (j : Judged). j .answer) q)) e in
       record {
         lines = [];
         allowed = (drop-of-length-le s {i = state .at} h, a .0);

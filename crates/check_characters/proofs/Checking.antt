@@ -8,12 +8,12 @@ use Rattle.refusal.specs.declared.Reason.the-variants.{WrongLength, WrongSymbol
 use Rattle.refusal.specs.Table.{because}
 use Rattle.check_characters.specs.Symbol.{valueOf}
 use Rattle.check_characters.specs.Mod37.{carry, passes}
-use Rattle.check_characters.specs.Number.{wrongSymbol, checkedAs, checked}
+use Rattle.check_characters.specs.Number.{wrongInNumber, checkedAs, checkedNumber}
 use Rattle.check_characters.specs.declared.number.Kind.{Kind}
 use Rattle.check_characters.specs.declared.number.Kind.the-variants.{Tracking, Label}
 use Rattle.check_characters.specs.declared.number.NumberAnswer.the-variants.{Accepted, Refused}
 
-module _ (k : Kind) (s : List ℕ) (wrong : ℕ) (ew : wrong ≡ wrongSymbol k s) where
+module _ (k : Kind) (s : List ℕ) (wrong : ℕ) (ew : wrong ≡ wrongInNumber k s) where
   pub checked-wrong : wrong < length s → Refused (because WrongSymbol wrong) ≡ checkedAs k s
   unfolding checkedAs
   checked-wrong h = simp (← ew, lt-ltb wrong (length s))
@@ -28,14 +28,14 @@ module _ (k : Kind) (s : List ℕ) (wrong : ℕ) (ew : wrong ≡ wrongSymbol k s
     checked-fails e = simp (← ew, ← ec, ← ev, le-ltb wrong (length s), ne-eqb ((c + v) % 36) 1)
 
 module _ (s : List ℕ) where
-  pub checked-tracking : length s ≡ 15 → checked s ≡ checkedAs Tracking s
-  unfolding checked
+  pub checked-tracking : length s ≡ 15 → checkedNumber s ≡ checkedAs Tracking s
+  unfolding checkedNumber
   checked-tracking e = simp (eq-eqb (length s) 15)
 
-  pub checked-label : (length s ≡ 15 → ⊥) → length s ≡ 28 → checked s ≡ checkedAs Label s
-  unfolding checked
+  pub checked-label : (length s ≡ 15 → ⊥) → length s ≡ 28 → checkedNumber s ≡ checkedAs Label s
+  unfolding checkedNumber
   checked-label n e = simp (ne-eqb (length s) 15, eq-eqb (length s) 28)
 
-  pub checked-length : (length s ≡ 15 → ⊥) → (length s ≡ 28 → ⊥) → checked s ≡ Refused (because WrongLength 0)
-  unfolding checked
+  pub checked-length : (length s ≡ 15 → ⊥) → (length s ≡ 28 → ⊥) → checkedNumber s ≡ Refused (because WrongLength 0)
+  unfolding checkedNumber
   checked-length n m = simp (ne-eqb (length s) 15, ne-eqb (length s) 28)

@@ -6,11 +6,11 @@ use mathlib.Core.List.{List, [], _∷_, _++_, append-assoc, append-nil}
 use native.Mathlib.Omega.{arith}
 use native.Mathlib.Nat.{mod-eq-of-lt, div-add-mod, add-mul-mod-self-left}
 use native.Mathlib.Numerals.{add-one, add-two}
-use lib.ListN.{length, take, drop, set, getD, drop-of-length-le, length-set, length-drop}
+use lib.ListN.{length, take, drop, set, getD, drop-of-length-le, length-set, length-take, length-drop}
 use lib.Seq.{take-suc-set, drop-cons, take-all}
 use Rattle.text.specs.Byte.{capital}
 use Rattle.check_characters.specs.Symbol.{valueOf}
-use Rattle.check_characters.specs.Iban.{digitsOf, spread, decimalFrom, decimal, ibanNumber}
+use Rattle.check_characters.specs.Iban.{digitsOf, spread, decimalFrom, ibanNumber}
 
 module _ (b : ℕ) (t : Bool) (et : t ≡ capital b) where
   digits-two : t ≡ true → digitsOf b ≡ valueOf b / 10 ∷ valueOf b % 10 ∷ []
@@ -72,10 +72,30 @@ module _ (s : List ℕ) (r i z : ℕ) where
   pub remainder-ends : r < 97 → length s ≤ i → decimalFrom r (drop i s) % 97 ≡ z → r ≡ z
   remainder-ends l h f = sym (rw (drop-of-length-le s) (mod-eq-of-lt l)) ∙ f
 
+-- room for two digits a symbol: those of the account part, and those of the first four behind them
+module _ (s digits : List ℕ) (four : 4 ≤ length s) (room : 2 * length s ≤ length digits) where
+  tail-long : length (take (length s - 4) (drop 4 s)) ≡ length s - 4
+  tail-long = simp (length-take, length-drop) (omega arith)
+
+  pub account-room : 0 + 2 * length (take (length s - 4) (drop 4 s)) ≤ length digits
+  account-room = omega (arith, tail-long)
+
+  module _ (account : ℕ) (most : account ≤ 0 + 2 * length (take (length s - 4) (drop 4 s))) (put : List ℕ)
+      (kept : length put ≡ length digits) where
+    pub first-room : account + 2 * length (take 4 s) ≤ length put
+    first-room = omega (arith, tail-long, length-take 4 s)
+
+    module _ (whole : ℕ) (filled : List ℕ) (end : whole ≤ account + 2 * length (take 4 s)) (same : length filled ≡ length put) where
+      pub whole-room : whole ≤ length filled
+      whole-room = omega (arith, tail-long, length-take 4 s)
+
+      pub whole-long : whole ≡ length (take whole filled)
+      whole-long = simp length-take (omega (arith, whole-room))
+
 -- the account part and then the first four, spread into one array
 pub of-whole : (s account whole : List ℕ) (r : ℕ) → account ≡ spread (take (length s - 4) (drop 4 s)) →
-    whole ≡ account ++ spread (take 4 s) → r ≡ decimal whole % 97 → r ≡ ibanNumber s % 97
+    whole ≡ account ++ spread (take 4 s) → r ≡ decimalFrom 0 whole % 97 → r ≡ ibanNumber s % 97
 of-whole s account whole r ea ew er =
     let tail : take (length s - 4) (drop 4 s) ≡ drop 4 s = take-all (length s - 4) (drop 4 s) (simp length-drop (omega arith)) in
-    er ∙ ap (λ (w : List ℕ). decimal w % 97) (ew ∙ ap (λ (w : List ℕ). w ++ spread (take 4 s)) (ea ∙ ap spread tail)
+    er ∙ ap (λ (w : List ℕ). decimalFrom 0 w % 97) (ew ∙ ap (λ (w : List ℕ). w ++ spread (take 4 s)) (ea ∙ ap spread tail)
     ∙ sym (spread-append (drop 4 s) (take 4 s)))

@@ -12,12 +12,12 @@ use Rattle.refusal.specs.declared.Reason.the-variants.{OutputTooShort, WrongLen
 use Rattle.refusal.specs.Table.{because}
 use Rattle.text.specs.Placed.{placed}
 use Rattle.check_characters.specs.Mod37.{checkOf}
-use Rattle.check_characters.specs.Number.{lengthOf, wrongSymbol, issueAs, issueAnswer, issuedTo}
+use Rattle.check_characters.specs.Number.{lengthOf, wrongInNumber, issueAs, issueAnswer, issuedTo}
 use Rattle.check_characters.specs.declared.number.Kind.{Kind}
 use Rattle.check_characters.specs.declared.number.Kind.the-variants.{Tracking, Label}
 use Rattle.check_characters.specs.declared.number.IssueAnswer.the-variants.{Issued, Refused}
 
-module _ (k : Kind) (body : List ℕ) (room wrong : ℕ) (ew : wrong ≡ wrongSymbol k body) where
+module _ (k : Kind) (body : List ℕ) (room wrong : ℕ) (ew : wrong ≡ wrongInNumber k body) where
   pub issue-wrong : wrong < length body → Refused (because WrongSymbol wrong) ≡ issueAs k body room
   unfolding issueAs
   issue-wrong h = simp (← ew, lt-ltb wrong (length body))

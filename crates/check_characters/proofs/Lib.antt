@@ -5,3 +5,4 @@ pub mod Checking
 pub mod Issuing
 pub mod Digits
 pub mod Ibans
+pub mod Example

@@ -19,10 +19,10 @@ module _ (b : ℕ) (t : Bool) (et : t ≡ digit b) where
   value-digit e = simp (← et, e)
 
   module _ (u : Bool) (eu : u ≡ capital b) (other : t ≡ false) where
-    pub capital-floor : u ≡ true → 55 ≤ b
-    capital-floor e = omega (arith, capital-range b (sym eu ∙ e))
+    pub capital-floor : u ≡ true → 65 ≤ b
+    capital-floor e = capital-range b (sym eu ∙ e) .0
 
-    pub value-capital : u ≡ true → b - 55 ≡ valueOf b
+    pub value-capital : u ≡ true → b - 65 + 10 ≡ valueOf b
     unfolding valueOf
     value-capital e = simp (← et, other, ← eu, e)
 
@@ -44,6 +44,6 @@ pub low-symbol : (v : ℕ) → v < 10 → symbolOf v ≡ 48 + v
 unfolding symbolOf
 low-symbol v h = simp (lt-ltb v 10)
 
-pub high-symbol : (v : ℕ) → 10 ≤ v → symbolOf v ≡ 55 + v
+pub high-symbol : (v : ℕ) → 10 ≤ v → symbolOf v ≡ 65 + (v - 10)
 unfolding symbolOf
 high-symbol v h = simp (le-ltb v 10)

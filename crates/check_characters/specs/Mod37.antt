@@ -21,7 +21,7 @@ carryFrom carry (b ∷ s) = carryFrom (step carry (valueOf b)) s
 
 -- "the carry starts at 36"
 abbrev pub carry : List ℕ → ℕ
-carry s = carryFrom 36 s
+carry symbols = carryFrom 36 symbols
 
 -- "carry plus its value leave 1 modulo 36"
 abbrev pub closes : ℕ → ℕ → Bool
@@ -29,7 +29,7 @@ closes carry value = eqb ((carry + value) % 36) 1
 
 -- a number passes: its last symbol is the check character of those in front of it
 unfoldable pub passes : List ℕ → Bool
-passes s = closes (carry (take (length s - 1) s)) (valueOf (getD s (length s - 1) 0))
+passes symbols = closes (carry (take (length symbols - 1) symbols)) (valueOf (getD symbols (length symbols - 1) 0))
 
 -- the first value from v on that passes a test, of n values
 abbrev pub firstValue : (ℕ → Bool) → ℕ → ℕ → ℕ
@@ -38,4 +38,4 @@ firstValue test v (suc n) = if test v then v else firstValue test (suc v) n
 
 -- "The check character makes carry plus its value leave 1 modulo 36."
 unfoldable pub checkOf : List ℕ → ℕ
-checkOf s = symbolOf (firstValue (closes (carry s)) 0 36)
+checkOf symbols = symbolOf (firstValue (closes (carry symbols)) 0 36)

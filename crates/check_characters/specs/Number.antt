@@ -1,4 +1,13 @@
--- DPD numbers (document 01, 'Check characters'): what checking and issuing one answer.
+-- DPD numbers (document 01, 'Check characters'): what checking and issuing one answer. The carrier lays down what stands where in
+-- them (document 001); the last symbol is a check character by ISO/IEC 7064, MOD 37,36.
+--
+-- The label code 0002800099800000200371550566 is 7 symbols, 14 digits, 3 digits of service, 3 of country and a check:
+--
+--     0002800 09980000020037 155 056 6
+--
+-- The carry of all but the check is 31 (`example-label`), and 31 + 6 leaves 1 modulo 36: it passes. With the check 7 it is refused by
+-- 18 at 27, with a small letter by 17 at that letter, and without its check by 16 at 0. src/number.rt has the carries of a tracking
+-- number, symbol by symbol (`example-tracking`).
 use Prim.Native.Nat.{ℕ, _+_, _-_}
 use mathlib.Core.Path.{_≡_}
 use mathlib.Core.Bool.{Bool, false}
@@ -30,30 +39,30 @@ lengthOf Tracking = 15
 lengthOf Label = 28
 
 -- whether a byte may stand at the place i of a number
-unfoldable pub allowed : Kind → ℕ → ℕ → Bool
-allowed kind i b = getD (shapeOf kind) i (λ _. false) b
+unfoldable pub allowedInNumber : Kind → ℕ → ℕ → Bool
+allowedInNumber kind i b = getD (shapeOf kind) i (λ _. false) b
 
 -- the place of the first symbol that is not allowed where it stands
-abbrev pub wrongSymbol : Kind → List ℕ → ℕ
-wrongSymbol kind s = firstFailing (allowed kind) 0 s
+abbrev pub wrongInNumber : Kind → List ℕ → ℕ
+wrongInNumber kind symbols = firstFailing (allowedInNumber kind) 0 symbols
 
 -- "Checking a number or an IBAN refuses in the order 16, 17, 18."
 unfoldable pub checkedAs : Kind → List ℕ → NumberAnswer
-checkedAs kind s =
-    if ltb (wrongSymbol kind s) (length s) then Refused (because WrongSymbol (wrongSymbol kind s))
-    else if passes s then Accepted kind
-    else Refused (because WrongCheck (length s - 1))
+checkedAs kind symbols =
+    if ltb (wrongInNumber kind symbols) (length symbols) then Refused (because WrongSymbol (wrongInNumber kind symbols))
+    else if passes symbols then Accepted kind
+    else Refused (because WrongCheck (length symbols - 1))
 
-unfoldable pub checked : List ℕ → NumberAnswer
-checked s =
-    if eqb (length s) (lengthOf Tracking) then checkedAs Tracking s
-    else if eqb (length s) (lengthOf Label) then checkedAs Label s
+unfoldable pub checkedNumber : List ℕ → NumberAnswer
+checkedNumber symbols =
+    if eqb (length symbols) (lengthOf Tracking) then checkedAs Tracking symbols
+    else if eqb (length symbols) (lengthOf Label) then checkedAs Label symbols
     else Refused (because WrongLength 0)
 
 -- "Issuing takes 14 or 27 symbols: 16, 17, then 13", with so many bytes of output
 unfoldable pub issueAs : Kind → List ℕ → ℕ → IssueAnswer
 issueAs kind body room =
-    if ltb (wrongSymbol kind body) (length body) then Refused (because WrongSymbol (wrongSymbol kind body))
+    if ltb (wrongInNumber kind body) (length body) then Refused (because WrongSymbol (wrongInNumber kind body))
     else if ltb room (lengthOf kind) then Refused (because OutputTooShort 0)
     else Issued (lengthOf kind)
 
@@ -65,12 +74,12 @@ issueAnswer body room =
 
 -- "it writes body and check at the output's start and nothing else, and a refusal writes nothing"
 unfoldable pub issuedTo : IssueAnswer → List ℕ → List ℕ → List ℕ
-issuedTo (Issued n) body out = body ++ checkOf body ∷ drop n out
-issuedTo (Refused refusal) body out = out
+issuedTo (Issued n) body output = body ++ checkOf body ∷ drop n output
+issuedTo (Refused refusal) body output = output
 
 -- the answer and the output that issuing allows
 abbrev pub Issues : List ℕ → List ℕ → IssueAnswer → List ℕ → Type 0
-Issues body out answer after = (answer ≡ issueAnswer body (length out)) × (after ≡ issuedTo answer body out)
+Issues body output answer after = (answer ≡ issueAnswer body (length output)) × (after ≡ issuedTo answer body output)
 
 -- the paper's number and place for each answer
 abbrev pub checkVerdict : NumberAnswer → Verdict

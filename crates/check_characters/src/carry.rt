@@ -17,13 +17,13 @@ fn next(carry: u8, value: u8) -> u8
 }
 
 // The carry after a run of symbols.
-pub fn carry_after(s: &[u8]) -> u8
-    ensures { λ r. ⌜ r ≡ carry (now (s .entry)) ⌝ }
+pub fn carry_after(symbols: &[u8]) -> u8
+    ensures { λ r. ⌜ r ≡ carry (now (symbols .entry)) ⌝ }
 {
     let mut carry: u8 = 36;
     let mut i: usize = 0;
-    while i < s.len() {
-        let v = symbol::value(s[i]);
+    while i < symbols.len() {
+        let v = symbol::value(symbols[i]);
         carry = next(carry, v);
         i += 1;
     }
@@ -31,9 +31,9 @@ pub fn carry_after(s: &[u8]) -> u8
 }
 
 // The check character of a run of symbols.
-pub fn check_of(s: &[u8]) -> u8
-    ensures { λ r. ⌜ r ≡ checkOf (now (s .entry)) ⌝ }
+pub fn check_of(symbols: &[u8]) -> u8
+    ensures { λ r. ⌜ r ≡ checkOf (now (symbols .entry)) ⌝ }
 {
-    let carry = carry_after(s);
+    let carry = carry_after(symbols);
     symbol::symbol_of((37 - carry) % 36)
 }

@@ -1,8 +1,16 @@
-// IBANs: the check by ISO 13616.
+// IBANs, account numbers by ISO 13616: one checked by ISO/IEC 7064, MOD 97-10.
+//
+// AT611904300234573201 is the country `AT`, the check digits 61 and the account. The first four move to the end, and letters become two
+// digits, A 10 and T 29:
+//
+//     1904300234573201 AT61    becomes    1904300234573201 1029 61
+//
+// The remainder by 97 goes digit by digit, from r to (10 * r + digit) % 97. Behind 1904300 it is 93, behind 2345732 it is 65, behind
+// 0110296 it is 0, and behind the last digit 1, so that the IBAN passes. With the check digits 16 it is 53 in the end.
 ghost use mathlib.Core.Path.{_≡_};
 ghost use Prim.Native.Nat.{_≤_};
 ghost use lib.ListN.{length};
-ghost use Rattle.check_characters.specs.Iban.{allowed, wrongSymbol, barred, soundOf, checked};
+ghost use Rattle.check_characters.specs.Iban.{allowedInIban, wrongInIban, barred, soundOf, checkedIban};
 use crate::remainder;
 use crate::symbol;
 use refusal::Reason;
@@ -14,10 +22,10 @@ pub enum IbanAnswer {
 }
 
 // Checks an IBAN.
-pub fn check_iban(s: &[u8]) -> IbanAnswer
-    ensures { λ r. ⌜ r ≡ checked (now (s .entry)) ⌝ }
+pub fn check_iban(symbols: &[u8]) -> IbanAnswer
+    ensures { λ r. ⌜ r ≡ checkedIban (now (symbols .entry)) ⌝ }
 {
-    let n = s.len();
+    let n = symbols.len();
     if n < 15 {
         return IbanAnswer::Refused(Refusal {
             why: Reason::WrongLength,
@@ -30,14 +38,14 @@ pub fn check_iban(s: &[u8]) -> IbanAnswer
             place: 0,
         });
     }
-    let wrong = wrong_symbol(s);
+    let wrong = wrong_symbol(symbols);
     if wrong < n {
         return IbanAnswer::Refused(Refusal {
             why: Reason::WrongSymbol,
             place: wrong,
         });
     }
-    if is_sound(s) {
+    if is_sound(symbols) {
         return IbanAnswer::Accepted;
     }
     IbanAnswer::Refused(Refusal {
@@ -47,16 +55,16 @@ pub fn check_iban(s: &[u8]) -> IbanAnswer
 }
 
 // Whether the check digits may stand in an IBAN and the remainder by 97 is 1.
-fn is_sound(s: &[u8]) -> bool
-    requires { ⌜ (4 ≤ length (now s)) × (length (now s) ≤ 34) ⌝ }
-    ensures { λ r. ⌜ r ≡ soundOf (now (s .entry)) ⌝ }
+fn is_sound(symbols: &[u8]) -> bool
+    requires { ⌜ (4 ≤ length (now symbols)) × (length (now symbols) ≤ 34) ⌝ }
+    ensures { λ r. ⌜ r ≡ soundOf (now (symbols .entry)) ⌝ }
 {
-    let tens = symbol::value(s[2]) as u32;
-    let ones = symbol::value(s[3]) as u32;
+    let tens = symbol::value(symbols[2]) as u32;
+    let ones = symbol::value(symbols[3]) as u32;
     if is_barred(10 * tens + ones) {
         return false;
     }
-    remainder::of_iban(s) == 1
+    remainder::of_iban(symbols) == 1
 }
 
 // Whether these check digits never stand in an IBAN, though the remainder by 97 may be 1.
@@ -73,12 +81,12 @@ fn is_barred(digits: u32) -> bool
 }
 
 // The place of the first symbol that is not allowed where it stands, or the end.
-fn wrong_symbol(s: &[u8]) -> usize
-    ensures { λ r. ⌜ r ≡ wrongSymbol (now (s .entry)) ⌝ }
+fn wrong_symbol(symbols: &[u8]) -> usize
+    ensures { λ r. ⌜ r ≡ wrongInIban (now (symbols .entry)) ⌝ }
 {
     let mut i: usize = 0;
-    while i < s.len() {
-        if !is_allowed(i, s[i]) {
+    while i < symbols.len() {
+        if !is_allowed(i, symbols[i]) {
             return i;
         }
         i += 1;
@@ -88,7 +96,7 @@ fn wrong_symbol(s: &[u8]) -> usize
 
 // Whether the byte b may stand at the place i.
 fn is_allowed(i: usize, b: u8) -> bool
-    ensures { λ r. ⌜ r ≡ allowed i b ⌝ }
+    ensures { λ r. ⌜ r ≡ allowedInIban i b ⌝ }
 {
     if i < 2 {
         return text::is_capital(b);

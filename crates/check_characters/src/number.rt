@@ -1,8 +1,19 @@
-// DPD numbers: a tracking number or a label code checked, and one issued from its body.
+// DPD numbers: a tracking number or a label code checked, and one issued from its body. The carrier lays down what stands where in
+// them; the last symbol is a check character by ISO/IEC 7064, MOD 37,36.
+//
+// The tracking number 09980000020041F has 14 digits and the check `F`. The carry starts at 36. A symbol's value is added to it, the
+// sum reduced modulo 36 with 0 read as 36, doubled, and reduced modulo 37:
+//
+//     symbol       0   9   9   8   0   0   0   0   0   2   0   0   4   1
+//     carry   36  35  16  13   5  10  20   3   6  12  28  19   1  10  22
+//
+// First 36 + 0 leaves 0, read as 36; twice that is 72, which leaves 35. Then 35 + 9 leaves 8, and twice that is 16. At the end the
+// check's value makes 22 + value leave 1 modulo 36: it is 15, the value of `F`.
 ghost use mathlib.Core.Path.{_≡_};
 ghost use Prim.Native.Nat.{_+_, _<_, _≤_};
 ghost use lib.ListN.{length};
-ghost use Rattle.check_characters.specs.Number.{lengthOf, allowed, wrongSymbol, checkedAs, checked, issueAs, issuedTo, Issues};
+ghost use Rattle.check_characters.specs.Number.{lengthOf, allowedInNumber, wrongInNumber, checkedAs, checkedNumber};
+ghost use Rattle.check_characters.specs.Number.{issueAs, issuedTo, Issues};
 use crate::carry;
 use crate::symbol;
 use refusal::Reason;
@@ -25,15 +36,15 @@ pub enum IssueAnswer {
 }
 
 // Checks a tracking number or a label code; the length tells which.
-pub fn check_number(s: &[u8]) -> NumberAnswer
-    ensures { λ r. ⌜ r ≡ checked (now (s .entry)) ⌝ }
+pub fn check_number(symbols: &[u8]) -> NumberAnswer
+    ensures { λ r. ⌜ r ≡ checkedNumber (now (symbols .entry)) ⌝ }
 {
-    let n = s.len();
+    let n = symbols.len();
     if n == 15 {
-        return check_as(Kind::Tracking, s);
+        return check_as(Kind::Tracking, symbols);
     }
     if n == 28 {
-        return check_as(Kind::Label, s);
+        return check_as(Kind::Label, symbols);
     }
     NumberAnswer::Refused(Refusal {
         why: Reason::WrongLength,
@@ -42,15 +53,15 @@ pub fn check_number(s: &[u8]) -> NumberAnswer
 }
 
 // Issues the number that has this body: body and check are written at the output's start.
-pub fn issue_number(body: &[u8], out: &mut [u8]) -> IssueAnswer
-    ensures { λ r. ⌜ Issues (now (body .entry)) (now (out .entry)) r (now (out .exit)) ⌝ }
+pub fn issue_number(body: &[u8], output: &mut [u8]) -> IssueAnswer
+    ensures { λ r. ⌜ Issues (now (body .entry)) (now (output .entry)) r (now (output .exit)) ⌝ }
 {
     let n = body.len();
     if n == 14 {
-        return issue_as(Kind::Tracking, body, out);
+        return issue_as(Kind::Tracking, body, output);
     }
     if n == 27 {
-        return issue_as(Kind::Label, body, out);
+        return issue_as(Kind::Label, body, output);
     }
     IssueAnswer::Refused(Refusal {
         why: Reason::WrongLength,
@@ -59,12 +70,12 @@ pub fn issue_number(body: &[u8], out: &mut [u8]) -> IssueAnswer
 }
 
 // Checks a number that has the length of its kind.
-fn check_as(kind: Kind, s: &[u8]) -> NumberAnswer
-    requires { ⌜ length (now s) ≡ lengthOf kind ⌝ }
-    ensures { λ r. ⌜ r ≡ checkedAs kind (now (s .entry)) ⌝ }
+fn check_as(kind: Kind, symbols: &[u8]) -> NumberAnswer
+    requires { ⌜ length (now symbols) ≡ lengthOf kind ⌝ }
+    ensures { λ r. ⌜ r ≡ checkedAs kind (now (symbols .entry)) ⌝ }
 {
-    let n = s.len();
-    let wrong = wrong_symbol(kind, s);
+    let n = symbols.len();
+    let wrong = wrong_symbol(kind, symbols);
     if wrong < n {
         return NumberAnswer::Refused(Refusal {
             why: Reason::WrongSymbol,
@@ -72,8 +83,8 @@ fn check_as(kind: Kind, s: &[u8]) -> NumberAnswer
         });
     }
     let last = n - 1;
-    let carry = carry::carry_after(&s[..last]);
-    let check = symbol::value(s[last]);
+    let carry = carry::carry_after(&symbols[..last]);
+    let check = symbol::value(symbols[last]);
     if (carry + check) % 36 == 1 {
         return NumberAnswer::Accepted(kind);
     }
@@ -84,10 +95,10 @@ fn check_as(kind: Kind, s: &[u8]) -> NumberAnswer
 }
 
 // Issues a number from a body that is one symbol shorter than its kind.
-fn issue_as(kind: Kind, body: &[u8], out: &mut [u8]) -> IssueAnswer
+fn issue_as(kind: Kind, body: &[u8], output: &mut [u8]) -> IssueAnswer
     requires { ⌜ length (now body) + 1 ≡ lengthOf kind ⌝ }
-    ensures { λ r. ⌜ (r ≡ issueAs kind (now (body .entry)) (length (now (out .entry))))
-        × (now (out .exit) ≡ issuedTo r (now (body .entry)) (now (out .entry))) ⌝ }
+    ensures { λ r. ⌜ (r ≡ issueAs kind (now (body .entry)) (length (now (output .entry))))
+        × (now (output .exit) ≡ issuedTo r (now (body .entry)) (now (output .entry))) ⌝ }
 {
     let n = body.len();
     let whole = n + 1;
@@ -98,26 +109,26 @@ fn issue_as(kind: Kind, body: &[u8], out: &mut [u8]) -> IssueAnswer
             place: wrong,
         });
     }
-    if out.len() < whole {
+    if output.len() < whole {
         return IssueAnswer::Refused(Refusal {
             why: Reason::OutputTooShort,
             place: 0,
         });
     }
     let check = carry::check_of(body);
-    text::place(out, 0, body);
-    out[n] = check;
+    text::place(output, 0, body);
+    output[n] = check;
     IssueAnswer::Issued(whole)
 }
 
 // The place of the first symbol that is not allowed where it stands, or the end.
-fn wrong_symbol(kind: Kind, s: &[u8]) -> usize
-    requires { ⌜ length (now s) ≤ lengthOf kind ⌝ }
-    ensures { λ r. ⌜ r ≡ wrongSymbol kind (now (s .entry)) ⌝ }
+fn wrong_symbol(kind: Kind, symbols: &[u8]) -> usize
+    requires { ⌜ length (now symbols) ≤ lengthOf kind ⌝ }
+    ensures { λ r. ⌜ r ≡ wrongInNumber kind (now (symbols .entry)) ⌝ }
 {
     let mut i: usize = 0;
-    while i < s.len() {
-        if !is_allowed(kind, i, s[i]) {
+    while i < symbols.len() {
+        if !is_allowed(kind, i, symbols[i]) {
             return i;
         }
         i += 1;
@@ -128,7 +139,7 @@ fn wrong_symbol(kind: Kind, s: &[u8]) -> usize
 // Whether the byte b may stand at the place i of a number.
 fn is_allowed(kind: Kind, i: usize, b: u8) -> bool
     requires { ⌜ i < lengthOf kind ⌝ }
-    ensures { λ r. ⌜ r ≡ allowed kind i b ⌝ }
+    ensures { λ r. ⌜ r ≡ allowedInNumber kind i b ⌝ }
 {
     match kind {
         Kind::Tracking => {

@@ -3,60 +3,61 @@ ghost use mathlib.Core.Path.{_≡_};
 ghost use Prim.Native.Nat.{_+_, _*_, _%_, _<_, _≤_};
 ghost use mathlib.Core.List.{_++_};
 ghost use lib.ListN.{length, take};
-ghost use Rattle.check_characters.specs.Iban.{digitsOf, spread, decimal, ibanNumber};
+ghost use Rattle.check_characters.specs.Iban.{digitsOf, spread, decimalFrom, ibanNumber};
 use crate::symbol;
 
 // The remainder by 97 of an IBAN's number.
-pub fn of_iban(s: &[u8]) -> u32
-    requires { ⌜ (4 ≤ length (now s)) × (length (now s) ≤ 34) ⌝ }
-    ensures { λ r. ⌜ r ≡ ibanNumber (now (s .entry)) % 97 ⌝ }
+pub fn of_iban(symbols: &[u8]) -> u32
+    requires { ⌜ (4 ≤ length (now symbols)) × (length (now symbols) ≤ 34) ⌝ }
+    ensures { λ r. ⌜ r ≡ ibanNumber (now (symbols .entry)) % 97 ⌝ }
 {
     let mut digits = [0u8; 68];
-    of_spread(s, &mut digits)
+    of_spread(symbols, &mut digits)
 }
 
 // The same, with room for the digits lent: the account part is spread first, then the first four.
-fn of_spread(s: &[u8], digits: &mut [u8]) -> u32
-    requires { ⌜ (4 ≤ length (now s)) × (2 * length (now s) ≤ length (now digits)) ⌝ }
-    ensures { λ r. ⌜ r ≡ ibanNumber (now (s .entry)) % 97 ⌝ }
+fn of_spread(symbols: &[u8], digits: &mut [u8]) -> u32
+    requires { ⌜ (4 ≤ length (now symbols)) × (2 * length (now symbols) ≤ length (now digits)) ⌝ }
+    ensures { λ r. ⌜ r ≡ ibanNumber (now (symbols .entry)) % 97 ⌝ }
 {
-    let account = spread_into(digits, 0, &s[4..]);
-    let whole = spread_into(digits, account, &s[..4]);
+    let account = spread_into(digits, 0, &symbols[4..]);
+    let whole = spread_into(digits, account, &symbols[..4]);
     of_digits(&digits[..whole])
 }
 
 // The digits of a run of symbols, written from the place at on. Answers where they end.
-fn spread_into(out: &mut [u8], at: usize, s: &[u8]) -> usize
-    requires { ⌜ at + 2 * length (now s) ≤ length (now out) ⌝ }
-    ensures { λ r. ⌜ (take r (now (out .exit)) ≡ take at (now (out .entry)) ++ spread (now (s .entry))) × (r ≤ at + 2 * length (now (s .entry))) ⌝ }
+fn spread_into(digits: &mut [u8], at: usize, symbols: &[u8]) -> usize
+    requires { ⌜ at + 2 * length (now symbols) ≤ length (now digits) ⌝ }
+    ensures { λ r. ⌜ (take r (now (digits .exit)) ≡ take at (now (digits .entry)) ++ spread (now (symbols .entry)))
+        × (r ≤ at + 2 * length (now (symbols .entry))) ⌝ }
 {
     let mut end = at;
     let mut i: usize = 0;
-    while i < s.len() {
-        end = put_digits(out, end, s[i]);
+    while i < symbols.len() {
+        end = put_digits(digits, end, symbols[i]);
         i += 1;
     }
     end
 }
 
 // The digits of a symbol, written from the place at on. Answers where they end.
-fn put_digits(out: &mut [u8], at: usize, b: u8) -> usize
-    requires { ⌜ at + 2 ≤ length (now out) ⌝ }
-    ensures { λ r. ⌜ (take r (now (out .exit)) ≡ take at (now (out .entry)) ++ digitsOf b) × (r ≤ at + 2) ⌝ }
+fn put_digits(digits: &mut [u8], at: usize, b: u8) -> usize
+    requires { ⌜ at + 2 ≤ length (now digits) ⌝ }
+    ensures { λ r. ⌜ (take r (now (digits .exit)) ≡ take at (now (digits .entry)) ++ digitsOf b) × (r ≤ at + 2) ⌝ }
 {
     let v = symbol::value(b);
     if text::is_capital(b) {
-        out[at] = v / 10;
-        out[at + 1] = v % 10;
+        digits[at] = v / 10;
+        digits[at + 1] = v % 10;
         return at + 2;
     }
-    out[at] = v;
+    digits[at] = v;
     at + 1
 }
 
 // The remainder by 97 of the number that digits write.
 fn of_digits(digits: &[u8]) -> u32
-    ensures { λ r. ⌜ r ≡ decimal (now (digits .entry)) % 97 ⌝ }
+    ensures { λ r. ⌜ r ≡ decimalFrom 0 (now (digits .entry)) % 97 ⌝ }
 {
     let mut r: u32 = 0;
     let mut i: usize = 0;

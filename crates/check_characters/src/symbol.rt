@@ -8,10 +8,10 @@ pub fn value(b: u8) -> u8
     ensures { λ r. ⌜ r ≡ valueOf b ⌝ }
 {
     if text::is_digit(b) {
-        return b - 48;
+        return b - b'0';
     }
     if text::is_capital(b) {
-        return b - 55;
+        return b - b'A' + 10;
     }
     0
 }
@@ -22,7 +22,7 @@ pub fn symbol_of(v: u8) -> u8
     ensures { λ r. ⌜ r ≡ symbolOf v ⌝ }
 {
     if v < 10 {
-        return 48 + v;
+        return b'0' + v;
     }
-    55 + v
+    b'A' + (v - 10)
 }

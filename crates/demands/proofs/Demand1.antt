@@ -7,8 +7,8 @@ use mathlib.Core.Path.{_≡_, sym, ap, _∙_}
 use mathlib.Core.List.{List}
 use lib.ListN.{length, replicate}
 use Rattle.text.specs.Placed.{placed}
-use Rattle.check_characters.specs.Number.{issueAnswer, issuedTo, Issues, checked as checkedNumber}
-use Rattle.check_characters.specs.Iban.{checked as checkedIban}
+use Rattle.check_characters.specs.Number.{issueAnswer, issuedTo, Issues, checkedNumber}
+use Rattle.check_characters.specs.Iban.{checkedIban}
 use Rattle.check_characters.specs.declared.number.NumberAnswer.{NumberAnswer}
 use Rattle.check_characters.specs.declared.number.IssueAnswer.{IssueAnswer}
 use Rattle.check_characters.specs.declared.iban.IbanAnswer.{IbanAnswer}

@@ -6,8 +6,8 @@ use mathlib.Core.Path.{_≡_, refl, sym, ap, _∙_}
 use mathlib.Core.List.{List, _++_}
 use mathlib.Core.Logic.{_↔_}
 use lib.ListN.{length, take, drop}
-use Rattle.check_characters.specs.Number.{Issues, checked as checkedNumber}
-use Rattle.check_characters.specs.Iban.{checked as checkedIban}
+use Rattle.check_characters.specs.Number.{Issues, checkedNumber}
+use Rattle.check_characters.specs.Iban.{checkedIban}
 use Rattle.check_characters.specs.declared.number.Kind.{Kind}
 use Rattle.check_characters.specs.declared.number.NumberAnswer.the-variants.{Accepted}
 use Rattle.check_characters.specs.declared.number.IssueAnswer.{IssueAnswer}

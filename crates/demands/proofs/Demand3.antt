@@ -6,8 +6,8 @@ use mathlib.Core.Logic.{_↔_}
 use lib.ListN.{length, getD, take}
 use Rattle.check_characters.specs.Symbol.{valueOf}
 use Rattle.check_characters.specs.Mod37.{carry}
-use Rattle.check_characters.specs.Number.{allowed, checked as checkedNumber}
-use Rattle.check_characters.specs.Iban.{checked as checkedIban}
+use Rattle.check_characters.specs.Number.{allowedInNumber, checkedNumber}
+use Rattle.check_characters.specs.Iban.{checkedIban}
 use Rattle.check_characters.specs.declared.number.Kind.{Kind}
 use Rattle.check_characters.specs.declared.number.NumberAnswer.the-variants.{Accepted}
 use Rattle.check_characters.specs.declared.iban.IbanAnswer.the-variants.{Accepted as AcceptedIban}
@@ -36,7 +36,7 @@ iban-swap s i h k es et = swap-iban s i h k (iban-exactly s .0 es) (iban-exactly
 -- "Swapping two unlike neighbours in an accepted DPD number, where the shape still holds, passes exactly when one value follows
 -- the other (0 follows 35) and the carry before them plus the followed value is 18, modulo 36."
 pub number-swap : (k : Kind) (s : List ℕ) (i : ℕ) → i + 1 < length s → (getD s i 0 ≡ getD s (i + 1) 0 → ⊥) →
-    checkedNumber s ≡ Accepted k → Shaped (allowed k) (swapped i s)
+    checkedNumber s ≡ Accepted k → Shaped (allowedInNumber k) (swapped i s)
     → (checkedNumber (swapped i s) ≡ Accepted k) ↔ OneFollows (carry (take i s)) (valueOf (getD s i 0)) (valueOf (getD s (i + 1) 0))
 number-swap k s i h n e shaped =
     let sound = swap-number k s i h n (number-exactly k s .0 e) shaped in

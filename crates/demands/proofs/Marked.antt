@@ -1,17 +1,37 @@
--- The marked cases of document 01 hold, all of them.
-use mathlib.Core.Path.{refl}
+-- The marked cases of document 01 hold, all of them. So the promises are not empty: a file is allowed.
+use Prim.Native.Nat.{ℕ}
+use mathlib.Core.Path.{_≡_, refl}
+use mathlib.Core.List.{List, [], _∷_}
 use Rattle.check_characters.specs.Symbol.{valueOf}
 use Rattle.check_characters.specs.Mod37.{step, passes}
-use Rattle.check_characters.specs.Number.{shapeOf, checkedAs, allowed as allowedInNumber, checked as checkedNumber}
-use Rattle.check_characters.specs.Iban.{digitsOf, barred, soundOf, allowed as allowedInIban, checked as checkedIban}
-use Rattle.forms.specs.Shape.{allDigits, digits}
-use Rattle.forms.specs.Amount.{cents, decimal, leadingZero, amount}
+use Rattle.check_characters.specs.Number.{shapeOf, checkedAs, allowedInNumber, checkedNumber}
+use Rattle.check_characters.specs.Iban.{digitsOf, barred, soundOf, allowedInIban, checkedIban}
+use Rattle.forms.specs.Shape.{allDigits, digits, identcode, capitals, customer, version, bic, mail, purposeText}
+use Rattle.forms.specs.Amount.{cents, pointed, leadingZero, amount}
 use Rattle.forms.specs.Date.{standsFor, like, leap, daysIn, calendar, goodDay, goodTime, dateTime}
-use Rattle.demands.specs.Marked.{AllHold, marked}
+use Rattle.forms.specs.Feature.{featureCodes, isFeature, codeOf, needOf}
+use Rattle.fields.specs.Record.{named, mayFollow, mayCome, mayEnd}
+use Rattle.fields.specs.Form.{isCash}
+use Rattle.fields.specs.Profile.{profile, widthInTable, widthOf, isRequired, hasForm}
+use Rattle.fields.specs.Field.{tested}
+use Rattle.line.specs.Need.{isFilled, serves, isServed, lacks}
+use Rattle.line.specs.Line.{endsWell, textAnswer, afterWalk, ofKind, ofNamed, ofText, lineAnswer}
+use Rattle.line.specs.At.{isTyped}
+use Rattle.file.specs.Cash.{cashIn, cashOf}
+use Rattle.file.specs.Identcode.{sameParcel, repeats}
+use Rattle.file.specs.Step.{hasWord, onLine, stepAnswer}
+use Rattle.file.specs.File.{judged}
+use Rattle.purpose.specs.Source.{isCashLine, fromShipment, forFeature, sourceOf}
+use Rattle.allowed.specs.Allowed.{FileLine, AllowedFile}
+use Rattle.allowed.proofs.Files.{accepted-allowed}
+use Rattle.demands.specs.Marked.{example, lent, AllHold, marked}
 
 pub marked-hold : AllHold marked
 unfolding valueOf step passes shapeOf allowedInNumber checkedAs checkedNumber digitsOf barred soundOf allowedInIban checkedIban amount
-    decimal leadingZero cents digits allDigits dateTime like standsFor goodDay goodTime calendar daysIn leap
+    pointed leadingZero cents digits allDigits dateTime like standsFor goodDay goodTime calendar daysIn leap identcode capitals customer
+    version bic mail purposeText featureCodes isFeature codeOf needOf named mayFollow mayCome mayEnd isCash profile widthInTable widthOf
+    isRequired hasForm tested isFilled serves isServed lacks endsWell textAnswer afterWalk ofKind ofNamed ofText lineAnswer isTyped cashIn
+    cashOf sameParcel repeats hasWord onLine stepAnswer judged isCashLine fromShipment forFeature sourceOf
 marked-hold = (
   refl,
   (
@@ -28,7 +48,31 @@ marked-hold = (
               refl,
               (
                 refl,
-                (refl, (refl, (refl, (refl, (refl, (refl, (refl, (refl, tt)))))))),
+                (
+                  refl,
+                  (
+                    refl,
+                    (
+                      refl,
+                      (
+                        refl,
+                        (
+                          refl,
+                          (
+                            refl,
+                            (
+                              refl,
+                              (
+                                refl,
+                                (refl, (refl, (refl, (refl, (refl, tt))))),
+                              ),
+                            ),
+                          ),
+                        ),
+                      ),
+                    ),
+                  ),
+                ),
               ),
             ),
           ),
@@ -37,3 +81,10 @@ marked-hold = (
     ),
   ),
 )
+
+-- the example is an allowed file: the rules contradict nobody
+pub a-file-is-allowed : (ls : List FileLine) × AllowedFile example ls
+a-file-is-allowed =
+    let g = accepted-allowed example lent (record { lines = 6; parcels = 1; cents = 1250 }) (0 ∷ 74 ∷ 116 ∷ 178 ∷ 208 ∷ 216 ∷ [])
+    (marked-hold .1 .1 .1 .1 .1 .1 .1 .1 .1 .1 .1 .1 .1 .1 .1 .1 .0) in
+    (g .lines, g .allowed)

@@ -9,7 +9,7 @@ use Rattle.check_characters.specs.declared.iban.IbanAnswer.{IbanAnswer}
 use Rattle.check_characters.specs.declared.iban.IbanAnswer.the-variants.{Accepted, Refused}
 use Rattle.fields.specs.Form.{accepted, isIban}
 
-module _ (f : List ℕ) (a : IbanAnswer) (ea : a ≡ iban.checked f) where
+module _ (f : List ℕ) (a : IbanAnswer) (ea : a ≡ iban.checkedIban f) where
   pub iban-good : a ≡ Accepted → true ≡ isIban f
   iban-good e = ap accepted (sym e ∙ ea)
 

@@ -13,7 +13,8 @@ use Rattle.text.specs.Choice.{if_then_else_}
 use Rattle.text.proofs.Numbers.{eq-or-ne}
 use Rattle.text.proofs.Choices.{and-left, and-right}
 use Rattle.fields.specs.Record.{rowOf, recordAt, oneOf}
-use Rattle.fields.specs.Profile.{Asked, anything, only, But, always, instead, narrowed, widthOf, Row, names, rowIn, noField, profile, meets, widthInTable, isRequired, hasForm}
+use Rattle.fields.specs.Profile.{Asked, anything, only, But, always, instead, narrowed, widthOf, Row, names, rowIn, noField}
+use Rattle.fields.specs.Profile.{profile, meets, widthInTable, isRequired, hasForm}
 use Rattle.fields.specs.declared.record.Record.{Record}
 use Rattle.fields.specs.declared.record.Record.the-variants.{Header, Sender, Shipment, Parcel, Product, Feature}
 use Rattle.fields.proofs.Records.{at-row}
@@ -146,7 +147,8 @@ pub form-as : (kind case : Record) (n : ℕ) (beside f : List ℕ) (t : Bool) �
 form-as kind case n beside f t e g = rw e g
 
 -- a record of which only the first field is a duty
-first-duty : (kind : Record) (n : ℕ) → true ≡ isRequired (profile kind) 1 → ((n ≡ 1 → ⊥) → false ≡ isRequired (profile kind) n) → eqb n 1 ≡ isRequired (profile kind) n
+first-duty : (kind : Record) (n : ℕ) → true ≡ isRequired (profile kind) 1 → ((n ≡ 1 → ⊥) → false ≡ isRequired (profile kind) n) →
+    eqb n 1 ≡ isRequired (profile kind) n
 first-duty kind n here other = ⊎-elim
     (λ (e : n ≡ 1). rw (eq-eqb n 1 e, e) here)
     (λ h. rw (ne-eqb n 1 h) (other h))

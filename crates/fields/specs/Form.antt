@@ -37,7 +37,7 @@ accepted Accepted = true
 accepted (Refused refusal) = false
 
 abbrev pub isIban : List ℕ → Bool
-isIban f = accepted (iban.checked f)
+isIban f = accepted (iban.checkedIban f)
 
 -- "Field 39 is the carrier's own and must be empty"
 abbrev pub nothing : List ℕ → Bool

@@ -33,11 +33,11 @@ fn header_form(number: usize, beside: &[u8], field: &[u8]) -> bool
     ensures { λ r. ⌜ r ≡ hasForm (profile Record.Header) number (now (beside .entry)) (now (field .entry)) ⌝ }
 {
     match number {
-        1 => forms::shape::is_customer(field),
-        3 => forms::date::is_date_time(field),
-        4 => forms::date::is_date_time(field),
-        5 => forms::shape::is_digits(field, 4),
-        6 => forms::shape::is_version(field),
+        1 => forms::is_customer(field),
+        3 => forms::is_date_time(field),
+        4 => forms::is_date_time(field),
+        5 => forms::is_digits(field, 4),
+        6 => forms::is_version(field),
         _ => true,
     }
 }
@@ -46,7 +46,7 @@ fn sender_form(number: usize, beside: &[u8], field: &[u8]) -> bool
     ensures { λ r. ⌜ r ≡ hasForm (profile Record.Sender) number (now (beside .entry)) (now (field .entry)) ⌝ }
 {
     match number {
-        5 => forms::shape::is_capitals(field, 2),
+        5 => forms::is_capitals(field, 2),
         6 => is_post_code(beside, field),
         _ => true,
     }
@@ -56,11 +56,11 @@ fn shipment_form(number: usize, beside: &[u8], field: &[u8]) -> bool
     ensures { λ r. ⌜ r ≡ hasForm (profile Record.Shipment) number (now (beside .entry)) (now (field .entry)) ⌝ }
 {
     match number {
-        1 => forms::shape::all_digits(field),
-        2 => forms::shape::all_digits(field),
-        7 => forms::shape::is_capitals(field, 2),
+        1 => forms::all_digits(field),
+        2 => forms::all_digits(field),
+        7 => forms::is_capitals(field, 2),
         8 => is_post_code(beside, field),
-        20 => forms::shape::is_capitals(field, 2),
+        20 => forms::is_capitals(field, 2),
         21 => is_post_code(beside, field),
         39 => false,
         _ => true,
@@ -71,7 +71,7 @@ fn parcel_form(number: usize, beside: &[u8], field: &[u8]) -> bool
     ensures { λ r. ⌜ r ≡ hasForm (profile Record.Parcel) number (now (beside .entry)) (now (field .entry)) ⌝ }
 {
     match number {
-        1 => forms::shape::is_identcode(field),
+        1 => forms::is_identcode(field),
         _ => true,
     }
 }
@@ -80,14 +80,14 @@ fn feature_form(number: usize, beside: &[u8], field: &[u8]) -> bool
     ensures { λ r. ⌜ r ≡ hasForm (profile Record.Feature) number (now (beside .entry)) (now (field .entry)) ⌝ }
 {
     match number {
-        1 => forms::feature::is_feature(field),
+        1 => forms::is_feature(field),
         2 => is_reference(beside, field),
-        3 => forms::amount::is_amount(field),
-        4 => forms::shape::is_capitals(field, 3),
+        3 => forms::is_amount(field),
+        4 => forms::is_capitals(field, 3),
         6 => is_iban(field),
-        7 => forms::shape::is_bic(field),
-        8 => forms::shape::is_purpose(field),
-        9 => forms::shape::is_mail(field),
+        7 => forms::is_bic(field),
+        8 => forms::is_purpose(field),
+        9 => forms::is_mail(field),
         _ => true,
     }
 }
@@ -97,7 +97,7 @@ fn is_post_code(country: &[u8], field: &[u8]) -> bool
     ensures { λ r. ⌜ r ≡ postCode (now (country .entry)) (now (field .entry)) ⌝ }
 {
     if text::equal(country, b"AT") {
-        return forms::shape::is_digits(field, 4);
+        return forms::is_digits(field, 4);
     }
     true
 }
@@ -107,7 +107,7 @@ fn is_reference(code: &[u8], field: &[u8]) -> bool
     ensures { λ r. ⌜ r ≡ reference (now (code .entry)) (now (field .entry)) ⌝ }
 {
     if is_cash(code) {
-        return forms::shape::is_purpose(field);
+        return forms::is_purpose(field);
     }
     true
 }

@@ -49,7 +49,8 @@ module _ (s starts : List ℕ) (parcels : ℕ) (tree : List ℕ) (g : Sown s sta
             ∙ or-false (onEarlier s starts z) ∙ g .tells z dz;
       })
 
-  parcel-sown : 4681 ≤ length tree → parcels ≤ 2340 → at ≤ fileLimit → identcode (identcodeAt s at) ≡ true → take 3 (drop at s) ≡ typeOf Parcel → isThere s tree parcels at ≡ false →
+  parcel-sown : 4681 ≤ length tree → parcels ≤ 2340 → at ≤ fileLimit → identcode (identcodeAt s at) ≡ true → take 3 (drop at s) ≡ typeOf Parcel →
+      isThere s tree parcels at ≡ false →
       Sown s (starts ++ (at ∷ [])) (parcels + 1) (grown s tree parcels at)
   parcel-sown long few small d type e =
       let room = room-there tree parcels at (omega arith) (omega arith) (omega arith) in
@@ -60,7 +61,8 @@ module _ (s starts : List ℕ) (parcels : ℕ) (tree : List ℕ) (g : Sown s sta
             ∙ ap (λ (t : Bool). isThere s tree parcels z || t) (parcel-code s at z Parcel type refl) ∙ sym (more .tells z dz);
       }
 
-  pub sown-line : (kind : Record) → 4681 ≤ length tree → parcels ≤ 2340 → at ≤ fileLimit → (kind ≡ Parcel → identcode (identcodeAt s at) ≡ true) → take 3 (drop at s) ≡ typeOf kind →
+  pub sown-line : (kind : Record) → 4681 ≤ length tree → parcels ≤ 2340 → at ≤ fileLimit → (kind ≡ Parcel → identcode (identcodeAt s at) ≡ true) →
+      take 3 (drop at s) ≡ typeOf kind →
       isThereFor kind s tree parcels at ≡ false → Sown s (starts ++ (at ∷ [])) (parcels + parcelsIn kind) (grownFor kind s tree parcels at)
   unfolding isThereFor grownFor
   sown-line Header long few small d type e = other-sown Header type refl

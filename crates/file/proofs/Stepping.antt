@@ -40,7 +40,8 @@ module _ (s : List ℕ) (words : ℕ) (starts : List ℕ) (state : State) (a : L
   unfolding onLine
   line-stops refusal e = stepped (Stopped refusal) (rw e)
 
-  module _ (line : Line) (el : a ≡ Accepted line) (codes : List ℕ) (g : Sown s starts (state .parcels) codes) (t : Bool) (et : t ≡ isThereFor (line .kind) s codes (state .parcels) (state .at)) where
+  module _ (line : Line) (el : a ≡ Accepted line) (codes : List ℕ) (g : Sown s starts (state .parcels) codes) (t : Bool)
+      (et : t ≡ isThereFor (line .kind) s codes (state .parcels) (state .at)) where
     er : t ≡ repeats (line .kind) s starts (state .at)
     er =
         et ∙ sown-tells s starts (state .parcels) codes g (state .at) (line .kind)
@@ -64,7 +65,8 @@ module _ (s : List ℕ) (words : ℕ) (starts : List ℕ) (state : State) (a : L
         line-next h next en = stepped (Next next) (rw (el, ← er, fresh, ← eu, h, en))
 
       -- the tree behind the line
-      pub line-sown : 4681 ≤ length codes → state .parcels ≤ 2340 → state .at ≤ fileLimit → (after : List ℕ) → after ≡ grownFor (line .kind) s codes (state .parcels) (state .at) →
+      pub line-sown : 4681 ≤ length codes → state .parcels ≤ 2340 → state .at ≤ fileLimit → (after : List ℕ) → after ≡ grownFor (line .kind)
+          s codes (state .parcels) (state .at) →
           (now : State) → now ≡ behind s state line → (next : State) → Next now ≡ Next next →
           Sown s (starts ++ (state .at ∷ [])) (next .parcels) after
       line-sown long few small after ef now en next e =

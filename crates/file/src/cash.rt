@@ -29,5 +29,5 @@ fn cash_in(line: &[u8]) -> u64
     if !text::equal(field_in(line, 4), b"EUR") {
         return 0;
     }
-    forms::amount::cents_of(field_in(line, 3))
+    forms::cents_of(field_in(line, 3))
 }

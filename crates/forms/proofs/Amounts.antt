@@ -12,7 +12,7 @@ use Rattle.text.specs.Decimal.{number}
 use Rattle.text.proofs.Decimals.{number-few}
 use Rattle.text.proofs.Choices.{and-left, and-right}
 use Rattle.forms.specs.Shape.{allDigits, digits}
-use Rattle.forms.specs.Amount.{whole, hundredths, cents, decimal, leadingZero, amount}
+use Rattle.forms.specs.Amount.{whole, hundredths, cents, pointed, leadingZero, amount}
 use Rattle.forms.proofs.Shapes.{digits-parts}
 
 module _ (s : List ℕ) where
@@ -29,30 +29,30 @@ module _ (s : List ℕ) where
       let l : length (drop (length s - 2) s) ≤ length s - (length s - 2) = simp length-drop (omega arith) in
       rw e (take-all (length s - (length s - 2)) (drop (length s - 2) s) l)
 
-  pub too-short : length s < 4 → false ≡ decimal s
-  unfolding decimal
+  pub too-short : length s < 4 → false ≡ pointed s
+  unfolding pointed
   too-short h = simp (whole-long, lt-leb 1 (length s - 3) (omega arith))
 
-  pub too-long : 9 < length s → false ≡ decimal s
-  unfolding decimal
+  pub too-long : 9 < length s → false ≡ pointed s
+  unfolding pointed
   too-long h = simp (whole-long, lt-leb (length s - 3) 6 (omega arith), and-false)
 
   module _ (l : 4 ≤ length s) (h : length s ≤ 9) (t : Bool) (e₀ : t ≡ allDigits (take (length s - 3 - 0) (drop 0 s))) where
     e : t ≡ allDigits (whole s)
     e = e₀ ∙ ap allDigits front
 
-    pub whole-bad : not t ≡ true → false ≡ decimal s
-    unfolding decimal
+    pub whole-bad : not t ≡ true → false ≡ pointed s
+    unfolding pointed
     whole-bad q = simp (whole-long, ← e, not-true t q, and-false)
 
-    pub point-bad : not t ≡ false → (getD s (length s - 3) 0 ≡ 46 → ⊥) → false ≡ decimal s
-    unfolding decimal
+    pub point-bad : not t ≡ false → (getD s (length s - 3) 0 ≡ 46 → ⊥) → false ≡ pointed s
+    unfolding pointed
     point-bad q n = simp (whole-long, ← e, not-false t q, ne-eqb (getD s (length s - 3) 0) 46 n, and-false)
 
     pub behind-decides :
         (u : Bool) → not t ≡ false → getD s (length s - 3) 0 ≡ 46 →
-        u ≡ digits 2 (take (length s - (length s - 3 + 1)) (drop (length s - 3 + 1) s)) → u ≡ decimal s
-    unfolding decimal
+        u ≡ digits 2 (take (length s - (length s - 3 + 1)) (drop (length s - 3 + 1) s)) → u ≡ pointed s
+    unfolding pointed
     behind-decides u q p f =
         let g : u ≡ digits 2 (hundredths s) = f ∙ ap (digits 2) (behind l) in
         let least = le-leb 1 (length s - 3) (omega arith) in
@@ -74,10 +74,10 @@ module _ (s : List ℕ) where
   unfolding cents
   cents-sum w d l ew ed = rw (ew, ed, front, behind l)
 
-  -- what a decimal number is, taken apart
-  pub decimal-parts : decimal s ≡ true → (4 ≤ length s) × (length s ≤ 9) × (allDigits (whole s) ≡ true) × (digits 2 (hundredths s) ≡ true)
-  unfolding decimal
-  decimal-parts e =
+  -- what a pointed number is, taken apart
+  pub pointed-parts : pointed s ≡ true → (4 ≤ length s) × (length s ≤ 9) × (allDigits (whole s) ≡ true) × (digits 2 (hundredths s) ≡ true)
+  unfolding pointed
+  pointed-parts e =
       let n = length (whole s) in
       let p = eqb (getD s (length s - 3) 0) 46 && digits 2 (hundredths s) in
       let d = allDigits (whole s) && p in
@@ -92,20 +92,20 @@ module _ (s : List ℕ) where
         and-right (eqb (getD s (length s - 3) 0) 46) (digits 2 (hundredths s)) e₃,
       )
 
-  pub decimal-least : decimal s ≡ true → 4 ≤ length s
-  decimal-least e = decimal-parts e .0
+  pub pointed-least : pointed s ≡ true → 4 ≤ length s
+  pointed-least e = pointed-parts e .0
 
-  pub decimal-most : decimal s ≡ true → length s ≤ 9
-  decimal-most e = decimal-parts e .1
+  pub pointed-most : pointed s ≡ true → length s ≤ 9
+  pointed-most e = pointed-parts e .1
 
-  pub amount-decimal : amount s ≡ true → decimal s ≡ true
+  pub amount-pointed : amount s ≡ true → pointed s ≡ true
   unfolding amount
-  amount-decimal e = and-left (decimal s) (not (leadingZero s) && leb 1 (cents s)) e
+  amount-pointed e = and-left (pointed s) (not (leadingZero s) && leb 1 (cents s)) e
 
   pub cents-most : amount s ≡ true → cents s ≤ 99999999
   unfolding cents allDigits
   cents-most e =
-      let p = decimal-parts (amount-decimal e) in
+      let p = pointed-parts (amount-pointed e) in
       let q = digits-parts 2 (hundredths s) (p .3) in
       let w = number-few (whole s) 6 (p .2) (omega (arith, whole-long, p .1)) in
       let d = number-few (hundredths s) 2 (q .1) (omega (arith, q .0)) in

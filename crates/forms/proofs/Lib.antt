@@ -3,3 +3,4 @@ pub mod Decimals
 pub mod Amounts
 pub mod Dates
 pub mod Features
+pub mod Example

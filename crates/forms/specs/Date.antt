@@ -7,12 +7,12 @@ use lib.ListN.{take, drop}
 use Rattle.text.specs.Byte.{digit}
 use Rattle.text.specs.Choice.{if_then_else_}
 use Rattle.text.specs.Decimal.{number}
-use Rattle.text.specs.Quoted.{bytes}
+use Rattle.text.specs.Quoted.{byte, bytes}
 use Rattle.text.specs.Scan.{among, paired}
 
 -- a byte of a pattern: 0 stands for any digit, every other byte for itself
 unfoldable pub standsFor : ℕ → ℕ → Bool
-standsFor p b = if eqb p 48 then digit b else eqb b p
+standsFor p b = if eqb p (byte "0") then digit b else eqb b p
 
 -- s follows the pattern
 unfoldable pub like : List ℕ → List ℕ → Bool

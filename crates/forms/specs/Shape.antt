@@ -5,7 +5,7 @@ use mathlib.Core.List.{List}
 use lib.Dec.{eqb}
 use lib.ListN.{length, take, getD}
 use Rattle.text.specs.Byte.{digit, capital, symbol, purposeByte}
-use Rattle.text.specs.Quoted.{bytes}
+use Rattle.text.specs.Quoted.{byte, bytes}
 use Rattle.text.specs.Scan.{all, count, same}
 
 -- "Fields 1 and 2, if filled, are digits."
@@ -38,7 +38,7 @@ bic s = (eqb (length s) 8 || eqb (length s) 11) && all symbol s
 
 -- the byte `@`
 abbrev pub atSign : ℕ → Bool
-atSign b = eqb b 64
+atSign b = eqb b (byte "@")
 
 -- "with exactly one `@`, neither first nor last"
 unfoldable pub mail : List ℕ → Bool

@@ -3,7 +3,7 @@ ghost use mathlib.Core.Path.{_≡_};
 ghost use lib.ListN.{length};
 ghost use Rattle.text.specs.Choice.{if_then_else_};
 ghost use Rattle.forms.specs.Date.{standsFor, like, leap, daysIn, calendar, goodDay, goodTime, dateTime};
-use super::decimal::number;
+use crate::decimal::number;
 
 // Whether s is a date-time.
 pub fn is_date_time(s: &[u8]) -> bool
@@ -39,7 +39,7 @@ fn is_like(pattern: &[u8], s: &[u8]) -> bool
 fn stands_for(p: u8, b: u8) -> bool
     ensures { λ r. ⌜ r ≡ standsFor p b ⌝ }
 {
-    if p == 48 {
+    if p == b'0' {
         return text::is_digit(b);
     }
     b == p

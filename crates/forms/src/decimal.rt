@@ -1,8 +1,8 @@
 // The number that a few digits write.
 ghost use mathlib.Core.Path.{_≡_};
-ghost use Prim.Native.Nat.{_-_, _≤_};
+ghost use Prim.Native.Nat.{_≤_};
 ghost use lib.ListN.{length};
-ghost use Rattle.text.specs.Decimal.{number};
+ghost use Rattle.text.specs.Decimal.{worth, number};
 
 // At most six digits, so that the number fits.
 pub fn number(s: &[u8]) -> u32
@@ -20,10 +20,10 @@ pub fn number(s: &[u8]) -> u32
 
 // What a digit is worth. The forms are tested elsewhere, so any byte may come.
 fn value(b: u8) -> u32
-    ensures { λ r. ⌜ (r ≡ b - 48) × (r ≤ 207) ⌝ }
+    ensures { λ r. ⌜ (r ≡ worth b) × (r ≤ 207) ⌝ }
 {
-    if b < 48 {
+    if b < b'0' {
         return 0;
     }
-    (b - 48) as u32
+    (b - b'0') as u32
 }

@@ -4,8 +4,8 @@ ghost use Prim.Native.Nat.{_<_};
 ghost use lib.ListN.{getD};
 ghost use Rattle.text.specs.Scan.{among};
 ghost use Rattle.forms.specs.Feature.{featureCodes, isFeature, codeOf, needOf};
-use super::decimal::number;
-use super::shape::is_digits;
+use crate::decimal::number;
+use crate::shape::is_digits;
 
 // Fields of a 060 line that a feature needs filled.
 pub enum Need {

@@ -1,24 +1,14 @@
 // Forms that look at bytes one by one: digits, an identcode, capitals, the customer number, the version, a BIC, an e-mail address
 // and a payment purpose.
 ghost use mathlib.Core.Path.{_≡_};
-ghost use Prim.Native.Nat.{_≤_};
-ghost use Rattle.text.specs.Byte.{capital, symbol};
-ghost use Rattle.text.specs.Choice.{if_then_else_};
-ghost use Rattle.text.specs.Scan.{all, count};
-ghost use Rattle.forms.specs.Shape.{allDigits, digits, identcode, capitals, customer, version, bic, atSign, mail, purposeText};
+ghost use Rattle.forms.specs.Shape.{allDigits, digits, identcode, capitals, customer, version, bic, mail, purposeText};
+use text::Class;
 
 // Whether every byte is a digit.
 pub fn all_digits(s: &[u8]) -> bool
     ensures { λ r. ⌜ r ≡ allDigits (now (s .entry)) ⌝ }
 {
-    let mut i: usize = 0;
-    while i < s.len() {
-        if !text::is_digit(s[i]) {
-            return false;
-        }
-        i += 1;
-    }
-    true
+    text::all_in(Class::Digit, s)
 }
 
 // Whether s is n digits.
@@ -45,21 +35,7 @@ pub fn is_capitals(s: &[u8], n: usize) -> bool
     if s.len() != n {
         return false;
     }
-    all_capitals(s)
-}
-
-// Whether every byte is a capital.
-fn all_capitals(s: &[u8]) -> bool
-    ensures { λ r. ⌜ r ≡ all capital (now (s .entry)) ⌝ }
-{
-    let mut i: usize = 0;
-    while i < s.len() {
-        if !text::is_capital(s[i]) {
-            return false;
-        }
-        i += 1;
-    }
-    true
+    text::all_in(Class::Capital, s)
 }
 
 // Whether s is a customer number.
@@ -84,74 +60,30 @@ pub fn is_bic(s: &[u8]) -> bool
     ensures { λ r. ⌜ r ≡ bic (now (s .entry)) ⌝ }
 {
     if s.len() == 8 {
-        return all_symbols(s);
+        return text::all_in(Class::Symbol, s);
     }
     if s.len() == 11 {
-        return all_symbols(s);
+        return text::all_in(Class::Symbol, s);
     }
     false
-}
-
-// Whether every byte is a capital or a digit.
-fn all_symbols(s: &[u8]) -> bool
-    ensures { λ r. ⌜ r ≡ all symbol (now (s .entry)) ⌝ }
-{
-    let mut i: usize = 0;
-    while i < s.len() {
-        if !text::is_symbol(s[i]) {
-            return false;
-        }
-        i += 1;
-    }
-    true
 }
 
 // Whether s is an e-mail address.
 pub fn is_mail(s: &[u8]) -> bool
     ensures { λ r. ⌜ r ≡ mail (now (s .entry)) ⌝ }
 {
-    if at_signs(s) != 1 {
+    if text::count_of(b'@', s) != 1 {
         return false;
     }
-    if s[0] == 64 {
+    if s[0] == b'@' {
         return false;
     }
-    s[s.len() - 1] != 64
-}
-
-// How many of the bytes are `@`.
-fn at_signs(s: &[u8]) -> usize
-    ensures { λ r. ⌜ r ≡ count atSign (now (s .entry)) ⌝ }
-{
-    let mut n: usize = 0;
-    let mut i: usize = 0;
-    while i < s.len() {
-        n += at_sign(s[i]);
-        i += 1;
-    }
-    n
-}
-
-// 1 for `@`, 0 for any other byte.
-fn at_sign(b: u8) -> usize
-    ensures { λ r. ⌜ (r ≡ (if atSign b then 1 else 0)) × (r ≤ 1) ⌝ }
-{
-    if b == 64 {
-        return 1;
-    }
-    0
+    s[s.len() - 1] != b'@'
 }
 
 // Whether s may stand in a payment purpose.
 pub fn is_purpose(s: &[u8]) -> bool
     ensures { λ r. ⌜ r ≡ purposeText (now (s .entry)) ⌝ }
 {
-    let mut i: usize = 0;
-    while i < s.len() {
-        if !text::is_purpose_byte(s[i]) {
-            return false;
-        }
-        i += 1;
-    }
-    true
+    text::all_in(Class::Purpose, s)
 }

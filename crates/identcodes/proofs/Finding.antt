@@ -13,12 +13,7 @@ use Rattle.identcodes.specs.Tree.{identcodeAt, wordsOf, slotFrom, unlike
 use Rattle.identcodes.specs.Tree.{treeAfter}
 use Rattle.identcodes.proofs.Answers.{room-parts}
 
--- past the end of a row
-pub read-past : (l : List ℕ) (i : ℕ) → length l ≤ i → 0 ≡ getD l i 0
-read-past [] i h = refl
-read-past (x ∷ l) zero h = absurd (omega arith)
-read-past (x ∷ l) (suc i) h = read-past l i (omega arith)
-
+-- past the end of a row nothing is stored
 pub store-past : (l : List ℕ) (i v : ℕ) → length l ≤ i → l ≡ set l i v
 store-past l i v h = sym (set-out l i v h)
 

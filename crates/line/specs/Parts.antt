@@ -6,10 +6,11 @@ use mathlib.Core.List.{List, [], _∷_}
 use lib.Dec.{eqb}
 use lib.ListN.{length, drop, getD}
 use Rattle.text.specs.Choice.{if_then_else_}
+use Rattle.text.specs.Quoted.{byte}
 use Rattle.text.specs.Scan.{firstFailing}
 
 abbrev pub semicolon : ℕ → Bool
-semicolon b = eqb b 59
+semicolon b = eqb b (byte ";")
 
 -- a byte in front of the first of these parts
 abbrev pub intoFirst : ℕ → List (List ℕ) → List (List ℕ)

@@ -4,7 +4,7 @@ ghost use Rattle.line.specs.Parts.{split};
 ghost use Rattle.line.specs.Need.{isFilled, serves, isServed, lacks};
 use crate::part::field_in;
 use fields::Record;
-use forms::feature::Need;
+use forms::Need;
 
 // Whether a line lacks a field that its feature needs.
 pub fn lacks_field(kind: Record, line: &[u8]) -> bool
@@ -24,7 +24,7 @@ pub fn lacks_field(kind: Record, line: &[u8]) -> bool
 fn is_served(line: &[u8]) -> bool
     ensures { λ r. ⌜ r ≡ isServed (split (now (line .entry))) ⌝ }
 {
-    let need = forms::feature::need_of(forms::feature::code_of(field_in(line, 1)));
+    let need = forms::need_of(forms::code_of(field_in(line, 1)));
     match need {
         Need::CashAccount => has_account(line),
         Need::Cash => has_cash(line),

@@ -2,7 +2,6 @@
 ghost use mathlib.Core.Path.{_≡_};
 ghost use Prim.Native.Nat.{_≤_};
 ghost use lib.ListN.{length};
-ghost use Rattle.text.specs.Choice.{if_then_else_};
 ghost use Rattle.text.specs.Scan.{count};
 ghost use Rattle.line.specs.Parts.{semicolon, inField, fieldEnd};
 ghost use Rattle.line.specs.Line.{lineEnd, endsWell, textAt, textAnswer};
@@ -101,27 +100,11 @@ pub fn field_end(line: &[u8], start: usize) -> usize
 pub fn field_count(line: &[u8]) -> usize
     ensures { λ r. ⌜ r ≡ count semicolon (now (line .entry)) ⌝ }
 {
-    let mut n: usize = 0;
-    let mut i: usize = 0;
-    while i < line.len() {
-        n += one_for(line[i]);
-        i += 1;
-    }
-    n
+    text::count_of(b';', line)
 }
 
 fn is_in_field(b: u8) -> bool
     ensures { λ r. ⌜ r ≡ inField b ⌝ }
 {
     b != b';'
-}
-
-// 1 for a semicolon, 0 for any other byte.
-fn one_for(b: u8) -> usize
-    ensures { λ r. ⌜ (r ≡ (if semicolon b then 1 else 0)) × (r ≤ 1) ⌝ }
-{
-    if b == b';' {
-        return 1;
-    }
-    0
 }

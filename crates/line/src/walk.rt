@@ -20,7 +20,8 @@ pub enum Walk {
 // of it.
 pub fn walk_fields(kind: Record, line: &[u8], offset: usize, name: usize) -> Walk
     requires { ⌜ (name ≡ length (nameOf (now line))) × (offset + length (now line) ≤ fileLimit) ⌝ }
-    ensures { λ r. ⌜ r ≡ walk (profile kind) 1 (offset + length (nameOf (now (line .entry))) + 1) (nameOf (now (line .entry))) (fieldsOf (now (line .entry))) ⌝ }
+    ensures { λ r. ⌜ r ≡ walk (profile kind) 1 (offset + length (nameOf (now (line .entry))) + 1)
+        (nameOf (now (line .entry))) (fieldsOf (now (line .entry))) ⌝ }
 {
     let mut number: usize = 1;
     let mut beside: usize = 0;

@@ -4,8 +4,8 @@ use mathlib.Core.Path.{_≡_}
 use mathlib.Core.List.{List}
 use lib.ListN.{length}
 use Rattle.refusal.specs.Table.{Verdict}
-use Rattle.check_characters.specs.Number.{issueAnswer, issuedTo, checkVerdict, issueVerdict, checked as checkedNumber}
-use Rattle.check_characters.specs.Iban.{ibanVerdict, checked as checkedIban}
+use Rattle.check_characters.specs.Number.{issueAnswer, issuedTo, checkVerdict, issueVerdict, checkedNumber}
+use Rattle.check_characters.specs.Iban.{ibanVerdict, checkedIban}
 use Rattle.fields.specs.Profile.{profile}
 use Rattle.line.specs.Line.{lineAnswer, lineVerdict, alone}
 use Rattle.line.specs.Find.{fieldAnswer, fieldVerdict}

@@ -22,8 +22,8 @@ use Rattle.text.proofs.Bytes.{digit-range, capital-range, capital-low}
 use Rattle.text.proofs.Scans.{none-fails, all-pass}
 use Rattle.text.proofs.Finite.{every-at, tells, told-apart}
 use Rattle.check_characters.specs.Symbol.{valueOf}
-use Rattle.check_characters.specs.Iban.{allowed, wrongSymbol, digitsOf, spread, decimalFrom, decimal, moved, ibanNumber, ibanVerdict}
-use Rattle.check_characters.specs.Iban.{checkDigits, barred, soundOf, checked}
+use Rattle.check_characters.specs.Iban.{allowedInIban, wrongInIban, digitsOf, spread, decimalFrom, moved, ibanNumber, ibanVerdict}
+use Rattle.check_characters.specs.Iban.{checkDigits, barred, soundOf, checkedIban}
 use Rattle.check_characters.specs.declared.iban.IbanAnswer.the-variants.{Accepted, Refused}
 use Rattle.check_characters.proofs.Symbols.{value-le, value-digit, value-capital}
 use Rattle.check_characters.proofs.Digits.{mod-scale, spread-append}
@@ -33,31 +33,31 @@ use Rattle.slips.proofs.Places.{in-pieces, agree-there, pair-at, swap-a
 use Rattle.slips.proofs.Remainders.{decimal-append, weight, weighed, after, remainderFrom, remainder-spread}
 use Rattle.slips.proofs.Remainders.{remainder-append, weight-tells, cancel, tell-remainders, tell-order, tell-value}
 
-pub accepted-sound : (s : List ℕ) → checked s ≡ Accepted → SoundIban s
-unfolding checked soundOf
+pub accepted-sound : (s : List ℕ) → checkedIban s ≡ Accepted → SoundIban s
+unfolding checkedIban soundOf
 accepted-sound s e =
     let inside = leb 15 (length s) && leb (length s) 34 in
-    let wrong = ltb (wrongSymbol s) (length s) in
+    let wrong = ltb (wrongInIban s) (length s) in
     let tail = if soundOf s then Accepted else Refused (because WrongCheck 2) in
-    let a = came-else (not inside) (Refused (because WrongLength 0)) (if wrong then Refused (because WrongSymbol (wrongSymbol s)) else tail) Accepted (no-pass ibanVerdict refl refl) e in
-    let b = came-else wrong (Refused (because WrongSymbol (wrongSymbol s))) tail Accepted (no-pass ibanVerdict refl refl) (a .1) in
+    let a = came-else (not inside) (Refused (because WrongLength 0)) (if wrong then Refused (because WrongSymbol (wrongInIban s)) else tail) Accepted (no-pass ibanVerdict refl refl) e in
+    let b = came-else wrong (Refused (because WrongSymbol (wrongInIban s))) tail Accepted (no-pass ibanVerdict refl refl) (a .1) in
     let c = came-then (soundOf s) Accepted (Refused (because WrongCheck 2)) Accepted (no-pass ibanVerdict refl refl) (b .1) in
     let long = not-false inside (a .0) in
     record {
       long = leb-true 15 (length s) (and-left (leb 15 (length s)) (leb (length s) 34) long);
       short = leb-true (length s) 34 (and-right (leb 15 (length s)) (leb (length s) 34) long);
-      shaped = λ i l. rw zero-add at (none-fails allowed 0 s (omega (arith, ltb-false (wrongSymbol s) (length s) (b .0))) i l);
+      shaped = λ i l. rw zero-add at (none-fails allowedInIban 0 s (omega (arith, ltb-false (wrongInIban s) (length s) (b .0))) i l);
       unbarred = not-true (barred (checkDigits s)) (and-left (not (barred (checkDigits s))) (eqb (ibanNumber s % 97) 1) (c .0));
       one = eqb-true (ibanNumber s % 97) 1 (and-right (not (barred (checkDigits s))) (eqb (ibanNumber s % 97) 1) (c .0));
     }
 
-pub sound-accepted : (s : List ℕ) → SoundIban s → checked s ≡ Accepted
-unfolding checked soundOf
+pub sound-accepted : (s : List ℕ) → SoundIban s → checkedIban s ≡ Accepted
+unfolding checkedIban soundOf
 sound-accepted s g =
     simp (
       le-leb 15 (length s) (g .long),
       le-leb (length s) 34 (g .short),
-      le-ltb (wrongSymbol s) (length s) (omega (arith, all-pass allowed 0 s (λ j l. rw zero-add (g .shaped j l)))),
+      le-ltb (wrongInIban s) (length s) (omega (arith, all-pass allowedInIban 0 s (λ j l. rw zero-add (g .shaped j l)))),
       g .unbarred,
       eq-eqb (ibanNumber s % 97) 1 (g .one),
     )
@@ -227,9 +227,9 @@ power-tells n z v w l lv lw h =
 
 -- the number whose first digit is b and whose last is a
 ends-number : (a b : ℕ) (m : List ℕ) → digit a ≡ true → digit b ≡ true →
-    decimal (spread ((b ∷ m) ++ (a ∷ []))) ≡ 10 * (valueOf b * 10 ^ length (spread m) + decimal (spread m)) + valueOf a
+    decimalFrom 0 (spread ((b ∷ m) ++ (a ∷ []))) ≡ 10 * (valueOf b * 10 ^ length (spread m) + decimalFrom 0 (spread m)) + valueOf a
 ends-number a b m da db =
-    ap decimal (spread-append (b ∷ m) (a ∷ []))
+    ap (decimalFrom 0) (spread-append (b ∷ m) (a ∷ []))
     ∙ decimal-append 0 (spread (b ∷ m)) (spread (a ∷ []))
     ∙ ap (λ (r : ℕ). decimalFrom r (spread (a ∷ []))) (decimal-append 0 (digitsOf b) (spread m)
     ∙ ap (λ (r : ℕ). decimalFrom r (spread m)) (ten 0 b db) ∙ decimal-linear (10 * 0 + valueOf b) (spread m))
@@ -242,7 +242,7 @@ ends-number a b m da db =
 
 fourth-and-fifth : (x y z a b : ℕ) (q : List ℕ) → OneClass a b → SoundIban (x ∷ y ∷ z ∷ a ∷ b ∷ q) → SoundIban (x ∷ y ∷ z ∷ b ∷ a ∷ q) →
     a ≡ b
-unfolding allowed
+unfolding allowedInIban
 fourth-and-fifth x y z a b q k ga gb = ⊎-elim (λ d. digits (d .0) (d .1)) (λ c. clash (ga .shaped 3 (omega arith)) (no-digit a (c .0))) k
   where
     m : List ℕ
@@ -250,11 +250,11 @@ fourth-and-fifth x y z a b q k ga gb = ⊎-elim (λ d. digits (d .0) (d .1)) (λ
 
     digits : digit a ≡ true → digit b ≡ true → a ≡ b
     digits da db =
-        let ea = ap (λ (l : List ℕ). decimal (spread l)) (sym (append-assoc (b ∷ q) (x ∷ y ∷ z ∷ []) (a ∷ []))) ∙ ends-number a b m da db in
-        let eb = ap (λ (l : List ℕ). decimal (spread l)) (sym (append-assoc (a ∷ q) (x ∷ y ∷ z ∷ []) (b ∷ []))) ∙ ends-number b a m db da in
+        let ea = ap (λ (l : List ℕ). decimalFrom 0 (spread l)) (sym (append-assoc (b ∷ q) (x ∷ y ∷ z ∷ []) (a ∷ []))) ∙ ends-number a b m da db in
+        let eb = ap (λ (l : List ℕ). decimalFrom 0 (spread l)) (sym (append-assoc (a ∷ q) (x ∷ y ∷ z ∷ []) (b ∷ []))) ∙ ends-number b a m db da in
         alike a b (inl (da, db)) .one
         (sym
-        (power-tells (length (spread m)) (decimal (spread m)) (valueOf b) (valueOf a)
+        (power-tells (length (spread m)) (decimalFrom 0 (spread m)) (valueOf b) (valueOf a)
         (omega (arith, spread-long m, length-append q (x ∷ y ∷ z ∷ []), ga .short)) (digit-below b db) (digit-below a da)
         (ap (λ (n : ℕ). n % 97) (sym ea) ∙ ga .one ∙ sym (gb .one) ∙ ap (λ (n : ℕ). n % 97) eb)))
 

@@ -20,7 +20,7 @@ use Rattle.text.proofs.Numbers.{le-or-lt}
 use Rattle.text.proofs.Finite.{every-at}
 use Rattle.check_characters.specs.Symbol.{valueOf, symbolOf}
 use Rattle.check_characters.specs.Mod37.{carry, checkOf}
-use Rattle.check_characters.specs.Number.{lengthOf, allowed, wrongSymbol, issueAs, issueAnswer, issuedTo, Issues, issueVerdict}
+use Rattle.check_characters.specs.Number.{lengthOf, allowedInNumber, wrongInNumber, issueAs, issueAnswer, issuedTo, Issues, issueVerdict}
 use Rattle.check_characters.specs.declared.number.Kind.{Kind}
 use Rattle.check_characters.specs.declared.number.Kind.the-variants.{Tracking, Label}
 use Rattle.check_characters.specs.declared.number.IssueAnswer.{IssueAnswer}
@@ -34,16 +34,16 @@ use Rattle.slips.proofs.Numbers.{all-and-last, shaped-of, of-shaped, tw
 -- what an issued answer tells of the body
 pub record Body (k : Kind) (body : List ℕ) (n : ℕ) : Type 0 where
   pub long : length body + 1 ≡ lengthOf k
-  pub shaped : Shaped (allowed k) body
+  pub shaped : Shaped (allowedInNumber k) body
   pub whole : n ≡ lengthOf k
 
 body-as : (k : Kind) (body : List ℕ) (room n : ℕ) → length body + 1 ≡ lengthOf k → issueAs k body room ≡ Issued n → Body k body n
 unfolding issueAs
 body-as k body room n long e =
-    let w = came-else (ltb (wrongSymbol k body) (length body)) (Refused (because WrongSymbol (wrongSymbol k body)))
+    let w = came-else (ltb (wrongInNumber k body) (length body)) (Refused (because WrongSymbol (wrongInNumber k body)))
     (if ltb room (lengthOf k) then Refused (because OutputTooShort 0) else Issued (lengthOf k)) (Issued n) (no-pass issueVerdict refl refl) e in
     let r = came-else (ltb room (lengthOf k)) (Refused (because OutputTooShort 0)) (Issued (lengthOf k)) (Issued n) (no-pass issueVerdict refl refl) (w .1) in
-    record { long = long; shaped = shaped-of k body (ltb-false (wrongSymbol k body) (length body) (w .0)); whole = cc }
+    record { long = long; shaped = shaped-of k body (ltb-false (wrongInNumber k body) (length body) (w .0)); whole = cc }
 
 body-of : (body : List ℕ) (room n : ℕ) → issueAnswer body room ≡ Issued n → (k : Kind) × Body k body n
 unfolding issueAnswer
@@ -79,11 +79,11 @@ module _ (body : List ℕ) where
   check-closes = let r = carry-of body in let v = ap valueOf check-is ∙ symbol-value ((37 - carry body) % 36) (omega arith) in
       rw v (omega (arith, r .low, r .high))
 
-check-stands : (k : Kind) (i b : ℕ) → i + 1 ≡ lengthOf k → symbol b ≡ true → allowed k i b ≡ true
+check-stands : (k : Kind) (i b : ℕ) → i + 1 ≡ lengthOf k → symbol b ≡ true → allowedInNumber k i b ≡ true
 check-stands Tracking i b e s = sym (tracking-check Tracking i b (symbol b) refl (omega arith) (omega arith) refl) ∙ s
 check-stands Label i b e s = sym (label-check Label i b (symbol b) refl (omega arith) (omega arith) refl) ∙ s
 
-with-check : (k : Kind) (body : List ℕ) → length body + 1 ≡ lengthOf k → Shaped (allowed k) body →
+with-check : (k : Kind) (body : List ℕ) → length body + 1 ≡ lengthOf k → Shaped (allowedInNumber k) body →
     SoundNumber k (body ++ (checkOf body ∷ []))
 with-check k body long shaped =
     record {
@@ -97,7 +97,7 @@ with-check k body long shaped =
     whole-long : length (body ++ (checkOf body ∷ [])) ≡ length body + 1
     whole-long = length-append body (checkOf body ∷ [])
 
-    at-end : (i : ℕ) → i ≡ length body → allowed k i (getD (body ++ (checkOf body ∷ [])) i 0) ≡ true
+    at-end : (i : ℕ) → i ≡ length body → allowedInNumber k i (getD (body ++ (checkOf body ∷ [])) i 0) ≡ true
     at-end i e = rw (getD-at body (checkOf body) [] 0 i (sym e)) (check-stands k i (checkOf body) (rw e long) (check-symbol body))
 
 -- what is issued is sound
@@ -112,7 +112,7 @@ issued-sound body out after n h =
     (b .0, rw front w)
 
 -- a sound number is what its body issues
-front-shaped : (k : Kind) (s : List ℕ) (m : ℕ) → Shaped (allowed k) s → Shaped (allowed k) (take m s)
+front-shaped : (k : Kind) (s : List ℕ) (m : ℕ) → Shaped (allowedInNumber k) s → Shaped (allowedInNumber k) (take m s)
 front-shaped k s m shaped i l =
     let r = length-take m s in
     rw (getD-take m s i 0 (omega arith)) (shaped i (omega arith))
@@ -133,14 +133,14 @@ sound-issued k s out after answer g room h = (answered, rw answered at (h .1) �
     whole : length (bodyOf s) + 1 ≡ length s
     whole = omega (arith, length-take (length s - 1) s, some)
 
-    shaped : Shaped (allowed k) (bodyOf s)
+    shaped : Shaped (allowedInNumber k) (bodyOf s)
     shaped = front-shaped k s (length s - 1) (g .shaped)
 
     answered : answer ≡ Issued (length s)
     answered =
         h .0
         ∙ issues-as k (bodyOf s) (length out) (whole ∙ g .long)
-        ∙ sym (issue-fits k (bodyOf s) (length out) (wrongSymbol k (bodyOf s)) refl (of-shaped k (bodyOf s) shaped) (whole
+        ∙ sym (issue-fits k (bodyOf s) (length out) (wrongInNumber k (bodyOf s)) refl (of-shaped k (bodyOf s) shaped) (whole
         ∙ g .long) (omega (arith, whole)))
         ∙ ap Issued whole
 

@@ -22,7 +22,7 @@ use Rattle.text.proofs.Bytes.{digit-range, capital-range}
 use Rattle.text.proofs.Scans.{none-fails, all-pass}
 use Rattle.check_characters.specs.Symbol.{valueOf}
 use Rattle.check_characters.specs.Mod37.{step, carryFrom, carry, passes}
-use Rattle.check_characters.specs.Number.{lengthOf, allowed, wrongSymbol, checkedAs, checked, checkVerdict}
+use Rattle.check_characters.specs.Number.{lengthOf, allowedInNumber, wrongInNumber, checkedAs, checkedNumber, checkVerdict}
 use Rattle.check_characters.specs.declared.number.Kind.{Kind}
 use Rattle.check_characters.specs.declared.number.Kind.the-variants.{Tracking, Label}
 use Rattle.check_characters.specs.declared.number.NumberAnswer.the-variants.{Accepted, Refused}
@@ -35,11 +35,11 @@ use Rattle.slips.specs.Exactly.{Shaped, SoundNumber}
 use Rattle.slips.proofs.Places.{in-pieces, agree-there, pair-at}
 use Rattle.slips.proofs.Steps.{step-sum, step-value, step-back, swap-follows, follows-swap}
 
-pub shaped-of : (k : Kind) (s : List ℕ) → length s ≤ wrongSymbol k s → Shaped (allowed k) s
-shaped-of k s h i l = rw zero-add at (none-fails (allowed k) 0 s (omega arith) i l)
+pub shaped-of : (k : Kind) (s : List ℕ) → length s ≤ wrongInNumber k s → Shaped (allowedInNumber k) s
+shaped-of k s h i l = rw zero-add at (none-fails (allowedInNumber k) 0 s (omega arith) i l)
 
-pub of-shaped : (k : Kind) (s : List ℕ) → Shaped (allowed k) s → length s ≤ wrongSymbol k s
-of-shaped k s p = omega (arith, all-pass (allowed k) 0 s (λ j l. rw zero-add (p j l)))
+pub of-shaped : (k : Kind) (s : List ℕ) → Shaped (allowedInNumber k) s → length s ≤ wrongInNumber k s
+of-shaped k s p = omega (arith, all-pass (allowedInNumber k) 0 s (λ j l. rw zero-add (p j l)))
 
 pub two-of-one : (c v : ℕ) → (c + v) % 36 ≡ 1 → step c v ≡ 2
 two-of-one c v e = step-more c v (λ z. omega arith) ∙ rw e
@@ -51,15 +51,15 @@ one-of-two c v e = step-sum c v 36 1 e
 sound-as : (j k : Kind) (s : List ℕ) → length s ≡ lengthOf j → checkedAs j s ≡ Accepted k → SoundNumber k s
 unfolding checkedAs
 sound-as j k s n e =
-    let w = came-else (ltb (wrongSymbol j s) (length s)) (Refused (because WrongSymbol (wrongSymbol j s)))
+    let w = came-else (ltb (wrongInNumber j s) (length s)) (Refused (because WrongSymbol (wrongInNumber j s)))
     (if passes s then Accepted j else Refused (because WrongCheck (length s - 1))) (Accepted k) (no-pass checkVerdict refl refl) e in
     let p = came-then (passes s) (Accepted j) (Refused (because WrongCheck (length s - 1))) (Accepted k) (no-pass checkVerdict refl refl) (w .1) in
     let q : j ≡ k = cc in
-    let g : SoundNumber j s = record { long = n; shaped = shaped-of j s (ltb-false (wrongSymbol j s) (length s) (w .0)); closed = p .0 } in
+    let g : SoundNumber j s = record { long = n; shaped = shaped-of j s (ltb-false (wrongInNumber j s) (length s) (w .0)); closed = p .0 } in
     rw q at g
 
-pub accepted-sound : (k : Kind) (s : List ℕ) → checked s ≡ Accepted k → SoundNumber k s
-unfolding checked
+pub accepted-sound : (k : Kind) (s : List ℕ) → checkedNumber s ≡ Accepted k → SoundNumber k s
+unfolding checkedNumber
 accepted-sound k s e =
     ⊎-elim (λ (t : eqb (length s) 15 ≡ true). sound-as Tracking k s (eqb-true (length s) 15 t) (simp t at e))
     (λ (n : eqb (length s) 15 ≡ false).
@@ -69,9 +69,9 @@ accepted-sound k s e =
 
 accepted-as : (k : Kind) (s : List ℕ) → SoundNumber k s → checkedAs k s ≡ Accepted k
 unfolding checkedAs
-accepted-as k s g = simp (le-ltb (wrongSymbol k s) (length s) (of-shaped k s (g .shaped)), g .closed)
+accepted-as k s g = simp (le-ltb (wrongInNumber k s) (length s) (of-shaped k s (g .shaped)), g .closed)
 
-pub sound-accepted : (k : Kind) (s : List ℕ) → SoundNumber k s → checked s ≡ Accepted k
+pub sound-accepted : (k : Kind) (s : List ℕ) → SoundNumber k s → checkedNumber s ≡ Accepted k
 sound-accepted Tracking s g = checked-tracking s (g .long) ∙ accepted-as Tracking s g
 sound-accepted Label s g = checked-label s (λ e. omega (arith, g .long)) (g .long) ∙ accepted-as Label s g
 
@@ -105,7 +105,7 @@ carry-back c d (b ∷ s) h k e = step-back c d (valueOf b) h k (carry-back _ _ s
 digit-symbol : (b : ℕ) → digit b ≡ true → symbol b ≡ true
 digit-symbol b e = rw e
 
-symbol-of : (k : Kind) (i b : ℕ) → i < lengthOf k → allowed k i b ≡ true → symbol b ≡ true
+symbol-of : (k : Kind) (i b : ℕ) → i < lengthOf k → allowedInNumber k i b ≡ true → symbol b ≡ true
 symbol-of Tracking i b h e =
     ⊎-elim (λ l. tracking-check Tracking i b (symbol b) refl l h refl
     ∙ e) (λ l. digit-symbol b (tracking-digit Tracking i b (digit b) refl l refl ∙ e)) (le-or-lt 14 i)
@@ -138,7 +138,7 @@ below : (b : ℕ) → valueOf b < 36
 below b = omega (arith, value-le b)
 
 -- a number in pieces: what stands in a shape is a symbol, and a sound number's carry ends at 2
-symbol-in : (k : Kind) (p : List ℕ) (a : ℕ) (q : List ℕ) → length (p ++ a ∷ q) ≡ lengthOf k → Shaped (allowed k) (p ++ a ∷ q) →
+symbol-in : (k : Kind) (p : List ℕ) (a : ℕ) (q : List ℕ) → length (p ++ a ∷ q) ≡ lengthOf k → Shaped (allowedInNumber k) (p ++ a ∷ q) →
     symbol a ≡ true
 symbol-in k p a q long shaped =
     let l : length p < length (p ++ a ∷ q) = simp length-append (omega arith) in
@@ -169,7 +169,7 @@ module _ (k : Kind) (p : List ℕ) (a b : ℕ) (q : List ℕ) (n : a ≡ b → �
   swapped-long : length (p ++ b ∷ a ∷ q) ≡ lengthOf k
   swapped-long = simp length-append (simp length-append at (g .long))
 
-  module _ (shaped : Shaped (allowed k) (p ++ b ∷ a ∷ q)) where
+  module _ (shaped : Shaped (allowedInNumber k) (p ++ b ∷ a ∷ q)) where
     unlike : valueOf a ≡ valueOf b → ⊥
     unlike e = n (value-one a b (is-symbol k p a (b ∷ q) g) (symbol-in k p b (a ∷ q) swapped-long shaped) e)
 
@@ -193,7 +193,7 @@ module _ (k : Kind) (p : List ℕ) (a b : ℕ) (q : List ℕ) (n : a ≡ b → �
         }
 
 pub swap-number : (k : Kind) (s : List ℕ) (i : ℕ) → i + 1 < length s → (getD s i 0 ≡ getD s (i + 1) 0 → ⊥) → SoundNumber k s →
-    Shaped (allowed k) (swapped i s)
+    Shaped (allowedInNumber k) (swapped i s)
     → SoundNumber k (swapped i s) ↔ OneFollows (carry (take i s)) (valueOf (getD s i 0)) (valueOf (getD s (i + 1) 0))
 swap-number k s i h n g shaped =
     let a = getD s i 0 in

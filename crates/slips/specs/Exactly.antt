@@ -5,8 +5,8 @@ use mathlib.Core.Bool.{Bool, true, false}
 use mathlib.Core.List.{List}
 use lib.ListN.{length, getD, take}
 use Rattle.check_characters.specs.Mod37.{passes}
-use Rattle.check_characters.specs.Number.{lengthOf, allowed}
-use Rattle.check_characters.specs.Iban.{ibanNumber, checkDigits, barred, allowed as allowedInIban}
+use Rattle.check_characters.specs.Number.{lengthOf, allowedInNumber}
+use Rattle.check_characters.specs.Iban.{ibanNumber, checkDigits, barred, allowedInIban}
 use Rattle.check_characters.specs.declared.number.Kind.{Kind}
 
 -- "the shape holds": each symbol is allowed where it stands
@@ -19,7 +19,7 @@ bodyOf s = take (length s - 1) s
 
 pub record SoundNumber (kind : Kind) (s : List ℕ) : Type 0 where
   pub long : length s ≡ lengthOf kind
-  pub shaped : Shaped (allowed kind) s
+  pub shaped : Shaped (allowedInNumber kind) s
   pub closed : passes s ≡ true
 
 pub record SoundIban (s : List ℕ) : Type 0 where

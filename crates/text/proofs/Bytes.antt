@@ -5,8 +5,9 @@ use mathlib.Core.Bool.{Bool, true, false, and-true, and-false}
 use native.Mathlib.Omega.{arith}
 use lib.Dec.{leb}
 use borrow.Author.Tests.{le-leb, lt-leb, leb-true}
-use Rattle.text.specs.Byte.{digit, capital, small, symbol, textByte, purposeByte}
+use Rattle.text.specs.Byte.{digit, capital, small, symbol, textByte, purposeByte, inClass}
 use Rattle.text.specs.Quoted.{bytes}
+use Rattle.text.specs.declared.Class.{Class}
 use Rattle.text.specs.Scan.{among}
 use Rattle.text.proofs.Choices.{and-left, and-right}
 
@@ -65,3 +66,7 @@ module _ (b : ℕ) where
       let g : small b ≡ false = sym e ∙ q in
       let k : symbol b ≡ false = sym d ∙ r in
       simp (g, k) m
+
+  -- an arm of the match is a case of the class
+  pub class-arm : (class case : Class) (t : Bool) → class ≡ case → t ≡ inClass case b → t ≡ inClass class b
+  class-arm class case t e f = rw e f

@@ -9,21 +9,22 @@ use native.Mathlib.Omega.{arith}
 use lib.ListN.{length, drop, getD, drop-of-length-le}
 use lib.Seq.{drop-cons}
 use Rattle.text.specs.Byte.{digit}
-use Rattle.text.specs.Decimal.{numberFrom, number}
+use Rattle.text.specs.Decimal.{numberFrom, worth, number}
 use Rattle.text.specs.Scan.{all}
 use Rattle.text.proofs.Bytes.{digit-range}
 use Rattle.text.proofs.Choices.{and-left, and-right}
 
--- n is written in front, and the byte here is worth d
-module _ (s : List ℕ) (i n z : ℕ) where
+-- n is written in front, and the digit here is worth d
+module _ (value : ℕ → ℕ) (s : List ℕ) (i n z : ℕ) where
   pub number-on :
-      (d : ℕ) → i < length s → d ≡ getD s i 0 - 48 → numberFrom n (drop i s) ≡ z → numberFrom (10 * n + d) (drop (i + 1) s) ≡ z
+      (d : ℕ) → i < length s → d ≡ value (getD s i 0) → numberFrom value n (drop i s) ≡ z →
+      numberFrom value (10 * n + d) (drop (i + 1) s) ≡ z
   number-on d h e f = rw (add-one, e) (sym (rw (drop-cons s i 0 h)) ∙ f)
 
-  pub number-ends : length s ≤ i → numberFrom n (drop i s) ≡ z → n ≡ z
+  pub number-ends : length s ≤ i → numberFrom value n (drop i s) ≡ z → n ≡ z
   number-ends h f = sym (rw (drop-of-length-le s h)) ∙ f
 
-pub number-below : (s : List ℕ) (a : ℕ) → all digit s ≡ true → numberFrom a s < (a + 1) * 10 ^ length s
+pub number-below : (s : List ℕ) (a : ℕ) → all digit s ≡ true → numberFrom worth a s < (a + 1) * 10 ^ length s
 number-below [] a e = omega arith
 number-below (b ∷ s) a e =
     let r : (48 ≤ b) × (b ≤ 57) = digit-range b (and-left (digit b) (all digit s) e) in

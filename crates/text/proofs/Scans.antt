@@ -143,3 +143,9 @@ same-refl (x ∷ a) = and-both (eqb x x) (same a a) (eq-eqb x x refl) (same-refl
 -- a run compared is the run that it is known to be
 pub same-as : (a b name : List ℕ) (t : Bool) → a ≡ b → t ≡ same a name → t ≡ same b name
 same-as a b name t e q = q ∙ ap (λ (x : List ℕ). same x name) e
+
+-- past the end of a run
+pub read-past : (s : List ℕ) (i : ℕ) → length s ≤ i → 0 ≡ getD s i 0
+read-past [] i h = refl
+read-past (b ∷ s) zero h = absurd (omega arith)
+read-past (b ∷ s) (suc i) h = read-past s i (omega arith)

@@ -2,20 +2,22 @@
 use Prim.Native.Nat.{ℕ}
 use mathlib.Core.Bool.{Bool, _&&_, _||_}
 use lib.Dec.{leb}
-use Rattle.text.specs.Quoted.{bytes}
+use Rattle.text.specs.Quoted.{byte, bytes}
 use Rattle.text.specs.Scan.{among}
+use Rattle.text.specs.declared.Class.{Class}
+use Rattle.text.specs.declared.Class.the-variants.{Digit, Capital, Symbol, Purpose}
 
 -- 0 to 9
 abbrev pub digit : ℕ → Bool
-digit b = leb 48 b && leb b 57
+digit b = leb (byte "0") b && leb b (byte "9")
 
 -- A to Z
 abbrev pub capital : ℕ → Bool
-capital b = leb 65 b && leb b 90
+capital b = leb (byte "A") b && leb b (byte "Z")
 
 -- a to z
 abbrev pub small : ℕ → Bool
-small b = leb 97 b && leb b 122
+small b = leb (byte "a") b && leb b (byte "z")
 
 -- "capitals or digits"
 abbrev pub symbol : ℕ → Bool
@@ -28,3 +30,10 @@ textByte b = (leb 32 b && leb b 126) || (leb 160 b && leb b 255)
 -- "a-z A-Z 0-9 . , : ' + - / ( ) ? and space"
 abbrev pub purposeByte : ℕ → Bool
 purposeByte b = small b || (symbol b || among b (bytes ".,:'+-/()? "))
+
+-- the class that is named
+abbrev pub inClass : Class → ℕ → Bool
+inClass Digit = digit
+inClass Capital = capital
+inClass Symbol = symbol
+inClass Purpose = purposeByte

@@ -2,29 +2,67 @@
 // the desk stands on.
 ghost use mathlib.Core.Path.{_≡_};
 ghost use Prim.Native.Nat.{_+_, _≤_};
+ghost use lib.Dec.{eqb};
 ghost use lib.ListN.{length, take, drop};
-ghost use Rattle.text.specs.Byte.{digit, capital, small, symbol, textByte, purposeByte};
-ghost use Rattle.text.specs.Scan.{among, same};
+ghost use Rattle.text.specs.Byte.{digit, capital, small, symbol, textByte, purposeByte, inClass};
+ghost use Rattle.text.specs.Choice.{if_then_else_};
+ghost use Rattle.text.specs.Scan.{all, count, among, same};
 ghost use Rattle.text.specs.Placed.{placed, written};
+
+// The classes that a form asks of every byte.
+pub enum Class {
+    Digit,
+    Capital,
+    // A capital or a digit.
+    Symbol,
+    // What may stand in a payment purpose.
+    Purpose,
+}
+
+// Whether every byte of a run is of a class.
+pub fn all_in(class: Class, s: &[u8]) -> bool
+    ensures { λ r. ⌜ r ≡ all (inClass class) (now (s .entry)) ⌝ }
+{
+    let mut i: usize = 0;
+    while i < s.len() {
+        if !is_in(class, s[i]) {
+            return false;
+        }
+        i += 1;
+    }
+    true
+}
+
+// Whether a byte is of a class.
+fn is_in(class: Class, b: u8) -> bool
+    ensures { λ r. ⌜ r ≡ inClass class b ⌝ }
+{
+    match class {
+        Class::Digit => is_digit(b),
+        Class::Capital => is_capital(b),
+        Class::Symbol => is_symbol(b),
+        Class::Purpose => is_purpose_byte(b),
+    }
+}
 
 // Whether a byte is one of 0 to 9.
 pub fn is_digit(b: u8) -> bool
     ensures { λ r. ⌜ r ≡ digit b ⌝ }
 {
-    if b < 48 {
+    if b < b'0' {
         return false;
     }
-    b <= 57
+    b <= b'9'
 }
 
 // Whether a byte is one of A to Z.
 pub fn is_capital(b: u8) -> bool
     ensures { λ r. ⌜ r ≡ capital b ⌝ }
 {
-    if b < 65 {
+    if b < b'A' {
         return false;
     }
-    b <= 90
+    b <= b'Z'
 }
 
 // Whether a byte is a capital or a digit.
@@ -37,21 +75,21 @@ pub fn is_symbol(b: u8) -> bool
     is_capital(b)
 }
 
-// Whether a byte may stand in a file's text.
+// Whether a byte may stand in a file's text: 32 to 126 (space to `~`), and 160 to 255.
 pub fn is_text_byte(b: u8) -> bool
     ensures { λ r. ⌜ r ≡ textByte b ⌝ }
 {
-    if b < 32 {
+    if b < b' ' {
         return false;
     }
-    if b <= 126 {
+    if b <= b'~' {
         return true;
     }
     160 <= b
 }
 
 // Whether a byte may stand in a payment purpose.
-pub fn is_purpose_byte(b: u8) -> bool
+fn is_purpose_byte(b: u8) -> bool
     ensures { λ r. ⌜ r ≡ purposeByte b ⌝ }
 {
     if is_small(b) {
@@ -67,10 +105,10 @@ pub fn is_purpose_byte(b: u8) -> bool
 fn is_small(b: u8) -> bool
     ensures { λ r. ⌜ r ≡ small b ⌝ }
 {
-    if b < 97 {
+    if b < b'a' {
         return false;
     }
-    b <= 122
+    b <= b'z'
 }
 
 // Whether b is one of these bytes.
@@ -85,6 +123,29 @@ fn is_among(b: u8, s: &[u8]) -> bool
         i += 1;
     }
     false
+}
+
+// How many of the bytes are this one.
+pub fn count_of(mark: u8, s: &[u8]) -> usize
+    ensures { λ r. ⌜ r ≡ count (λ b. eqb b mark) (now (s .entry)) ⌝ }
+{
+    let mut n: usize = 0;
+    let mut i: usize = 0;
+    while i < s.len() {
+        n += one_for(mark, s[i]);
+        i += 1;
+    }
+    n
+}
+
+// 1 for this byte, 0 for any other.
+fn one_for(mark: u8, b: u8) -> usize
+    ensures { λ r. ⌜ (r ≡ (if eqb b mark then 1 else 0)) × (r ≤ 1) ⌝ }
+{
+    if b == mark {
+        return 1;
+    }
+    0
 }
 
 // Whether two runs are equal, byte for byte.

@@ -26,7 +26,8 @@ use Rattle.fields.proofs.Rules.{count-le, sound}
 use Rattle.line.specs.Render.{textOf, render}
 use Rattle.line.proofs.Plain.{render-long, plain-split}
 use Rattle.line.proofs.Passing.{Each, fine-each}
-use Rattle.writer.specs.Write.{recordNumbered, endsHold, between, testedToWrite, nextNumber, walked, ofFields, afterWalk, ofRecord, writeAnswer, lineTo, writtenTo}
+use Rattle.writer.specs.Write.{recordNumbered, endsHold, between, testedToWrite, nextNumber, walked, ofFields, afterWalk}
+use Rattle.writer.specs.Write.{ofRecord, writeAnswer, lineTo, writtenTo}
 use Rattle.writer.specs.declared.write.WriteAnswer.{WriteAnswer}
 use Rattle.writer.specs.declared.write.WriteAnswer.the-variants.{Written, Refused}
 use Rattle.writer.proofs.Ends.{between-count}

@@ -1,5 +1,5 @@
 -- `identcodes::word_at` meets its contract.
-use Rattle.identcodes.proofs.Finding.{read-past}
+use Rattle.text.proofs.Scans.{read-past}
 use borrow.Author.Needs.{needs}
 use Rattle.identcodes.proofs.word_at.Statement.{statement}
 use Rattle.identcodes.proofs.word_at.Tie as tie

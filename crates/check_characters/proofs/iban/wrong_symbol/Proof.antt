@@ -4,7 +4,7 @@ use mathlib.Core.Path.{_≡_}
 use lib.ListN.{length, drop}
 use Rattle.text.specs.Scan.{firstFailing}
 use Rattle.text.proofs.Scans.{walk-on, walk-stops, walk-ends}
-use Rattle.check_characters.specs.Iban.{allowed, wrongSymbol}
+use Rattle.check_characters.specs.Iban.{allowedInIban, wrongInIban}
 use borrow.Author.Needs.{needs}
 use Rattle.check_characters.proofs.iban.wrong_symbol.Statement.{statement}
 use Rattle.check_characters.proofs.iban.wrong_symbol.Tie as tie
@@ -12,7 +12,7 @@ use Rattle.check_characters.proofs.iban.wrong_symbol.Tie as tie
 ruleset laws = (needs, walk-on, walk-stops, walk-ends)
 
 abbrev Inv-loop : tie.InvT-loop
-Inv-loop s i₀ i = (i ≤ length s) × (firstFailing allowed i (drop i s) ≡ wrongSymbol s)
+Inv-loop s i₀ i = (i ≤ length s) × (firstFailing allowedInIban i (drop i s) ≡ wrongInIban s)
 
 abbrev μ-loop : tie.MeasureT-loop
 μ-loop s i₀ i = length s - i

@@ -2,7 +2,7 @@
 use Prim.Native.Nat.{_≤_, _<_, _-_, _%_}
 use mathlib.Core.Path.{_≡_}
 use lib.ListN.{length, drop}
-use Rattle.check_characters.specs.Iban.{decimalFrom, decimal}
+use Rattle.check_characters.specs.Iban.{decimalFrom}
 use Rattle.check_characters.proofs.Digits.{remainder-on, remainder-ends}
 use borrow.Author.Needs.{needs}
 use Rattle.check_characters.proofs.remainder.of_digits.Statement.{statement}
@@ -11,7 +11,7 @@ use Rattle.check_characters.proofs.remainder.of_digits.Tie as tie
 ruleset laws = (needs, remainder-on, remainder-ends)
 
 abbrev Inv-loop : tie.InvT-loop
-Inv-loop digits r₀ i₀ r i = (i ≤ length digits) × (r < 97) × (decimalFrom r (drop i digits) % 97 ≡ decimal digits % 97)
+Inv-loop digits r₀ i₀ r i = (i ≤ length digits) × (r < 97) × (decimalFrom r (drop i digits) % 97 ≡ decimalFrom 0 digits % 97)
 
 abbrev μ-loop : tie.MeasureT-loop
 μ-loop digits r₀ i₀ r i = length digits - i

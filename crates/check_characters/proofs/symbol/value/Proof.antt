@@ -11,4 +11,4 @@ value-spec =
     tie.close
     (tie.spec
     (λ c κs. search laws) (λ c. search laws) (λ c. search laws) (λ c κs. search laws) (λ c. search laws) (λ c. search laws)
-    (λ c. search laws))
+    (λ c. search laws) (λ c. search laws))

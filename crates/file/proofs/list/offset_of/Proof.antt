@@ -1,5 +1,5 @@
 -- `list::offset_of` meets its contract.
-use Rattle.identcodes.proofs.Finding.{read-past}
+use Rattle.text.proofs.Scans.{read-past}
 use borrow.Author.Needs.{needs}
 use Rattle.file.proofs.list.offset_of.Statement.{statement}
 use Rattle.file.proofs.list.offset_of.Tie as tie

@@ -1,4 +1,4 @@
--- `forms::amount::cents_in` meets its contract.
+-- `amount::cents_in` meets its contract.
 use Rattle.forms.proofs.Amounts.{cents-sum}
 use borrow.Author.Needs.{needs}
 use Rattle.forms.proofs.amount.cents_in.Statement.{statement}

@@ -1,4 +1,4 @@
--- `forms::amount::has_leading_zero` meets its contract.
+-- `amount::has_leading_zero` meets its contract.
 use Rattle.forms.proofs.Amounts.{single, first-decides}
 use borrow.Author.Needs.{needs}
 use Rattle.forms.proofs.amount.has_leading_zero.Statement.{statement}

@@ -1,12 +1,12 @@
--- `forms::amount::is_amount` meets its contract.
+-- `amount::is_amount` meets its contract.
 use Rattle.text.proofs.Choices.{test-held, test-fails, test-holds, test-refuses, test-spares, le-told}
 use Rattle.forms.specs.Amount.{amount}
-use Rattle.forms.proofs.Amounts.{decimal-least, decimal-most}
+use Rattle.forms.proofs.Amounts.{pointed-least, pointed-most}
 use borrow.Author.Needs.{needs}
 use Rattle.forms.proofs.amount.is_amount.Statement.{statement}
 use Rattle.forms.proofs.amount.is_amount.Tie as tie
 
-ruleset laws = (needs, test-held, test-fails, test-holds, test-refuses, test-spares, le-told, decimal-least, decimal-most)
+ruleset laws = (needs, test-held, test-fails, test-holds, test-refuses, test-spares, le-told, pointed-least, pointed-most)
 
 pub is-amount-spec : {M : Type 1} → statement M
 unfolding amount

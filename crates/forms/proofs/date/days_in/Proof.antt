@@ -1,4 +1,4 @@
--- `forms::date::days_in` meets its contract.
+-- `date::days_in` meets its contract.
 use Rattle.forms.specs.Date.{daysIn}
 use Rattle.forms.proofs.Dates.{month-arm, month-rest}
 use borrow.Author.Needs.{needs}

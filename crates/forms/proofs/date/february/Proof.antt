@@ -1,4 +1,4 @@
--- `forms::date::february` meets its contract.
+-- `date::february` meets its contract.
 use Rattle.text.proofs.Choices.{takes-then, takes-else}
 use borrow.Author.Needs.{needs}
 use Rattle.forms.proofs.date.february.Statement.{statement}

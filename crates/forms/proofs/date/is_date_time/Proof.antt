@@ -1,4 +1,4 @@
--- `forms::date::is_date_time` meets its contract.
+-- `date::is_date_time` meets its contract.
 use Rattle.text.proofs.Choices.{test-held, test-fails, test-holds}
 use Rattle.forms.specs.Date.{dateTime}
 use Rattle.forms.proofs.Dates.{nineteen}

@@ -1,4 +1,4 @@
--- `forms::date::is_good_day` meets its contract.
+-- `date::is_good_day` meets its contract.
 use Rattle.forms.proofs.Dates.{too-early, too-late, in-time}
 use borrow.Author.Needs.{needs}
 use Rattle.forms.proofs.date.is_good_day.Statement.{statement}

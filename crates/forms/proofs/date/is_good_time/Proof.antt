@@ -1,4 +1,4 @@
--- `forms::date::is_good_time` meets its contract.
+-- `date::is_good_time` meets its contract.
 use Rattle.forms.proofs.Dates.{hour-past, minute-past, second-decides}
 use borrow.Author.Needs.{needs}
 use Rattle.forms.proofs.date.is_good_time.Statement.{statement}

@@ -1,4 +1,4 @@
--- `forms::date::is_in_calendar` meets its contract.
+-- `date::is_in_calendar` meets its contract.
 use Rattle.text.proofs.Choices.{le-fails, le-holds, le-told}
 use Rattle.forms.specs.Date.{calendar}
 use borrow.Author.Needs.{needs}

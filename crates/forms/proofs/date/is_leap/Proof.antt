@@ -1,4 +1,4 @@
--- `forms::date::is_leap` meets its contract.
+-- `date::is_leap` meets its contract.
 use Rattle.forms.proofs.Dates.{not-fourth, not-hundredth, hundredth}
 use borrow.Author.Needs.{needs}
 use Rattle.forms.proofs.date.is_leap.Statement.{statement}

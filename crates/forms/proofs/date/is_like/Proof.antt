@@ -1,4 +1,4 @@
--- `forms::date::is_like` meets its contract: the bytes still to come settle it.
+-- `date::is_like` meets its contract: the bytes still to come settle it.
 use Prim.Native.Nat.{_≤_, _-_}
 use mathlib.Core.Path.{_≡_}
 use lib.ListN.{length, drop}

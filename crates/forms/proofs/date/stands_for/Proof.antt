@@ -1,4 +1,4 @@
--- `forms::date::stands_for` meets its contract.
+-- `date::stands_for` meets its contract.
 use Rattle.text.proofs.Choices.{eq-takes-then, eq-takes-else}
 use Rattle.forms.specs.Date.{standsFor}
 use borrow.Author.Needs.{needs}

@@ -1,4 +1,4 @@
--- `forms::feature::code_at` meets its contract.
+-- `feature::code_at` meets its contract.
 use Rattle.forms.specs.Feature.{featureCodes}
 use borrow.Author.Needs.{needs}
 use Rattle.forms.proofs.feature.code_at.Statement.{statement}

@@ -1,4 +1,4 @@
--- `forms::feature::code_of` meets its contract.
+-- `feature::code_of` meets its contract.
 use Rattle.text.proofs.Choices.{test-held, not-takes-then, not-takes-else}
 use Rattle.forms.specs.Feature.{codeOf}
 use Rattle.forms.proofs.Features.{feature-digits, three-digits}

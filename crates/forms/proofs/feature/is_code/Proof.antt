@@ -1,4 +1,4 @@
--- `forms::feature::is_code` meets its contract: the codes still to come settle it.
+-- `feature::is_code` meets its contract: the codes still to come settle it.
 use Prim.Native.Nat.{_≤_, _-_}
 use mathlib.Core.Path.{_≡_}
 use lib.ListN.{drop}

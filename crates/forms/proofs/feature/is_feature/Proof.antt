@@ -1,4 +1,4 @@
--- `forms::feature::is_feature` meets its contract.
+-- `feature::is_feature` meets its contract.
 use Rattle.text.proofs.Choices.{test-held, test-fails, test-holds}
 use Rattle.forms.specs.Feature.{isFeature}
 use Rattle.forms.proofs.Features.{three-digits, code-told}

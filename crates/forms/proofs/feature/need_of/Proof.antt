@@ -1,4 +1,4 @@
--- `forms::feature::need_of` meets its contract.
+-- `feature::need_of` meets its contract.
 use Rattle.forms.specs.Feature.{needOf}
 use Rattle.forms.proofs.Features.{need-arm, need-rest}
 use borrow.Author.Needs.{needs}

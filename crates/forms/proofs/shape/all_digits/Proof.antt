@@ -1,27 +1,9 @@
--- `forms::shape::all_digits` meets its contract: the bytes still to come settle it.
-use Prim.Native.Nat.{_≤_, _-_}
-use mathlib.Core.Path.{_≡_}
-use lib.ListN.{length, drop}
-use Rattle.text.specs.Byte.{digit}
-use Rattle.text.specs.Scan.{all}
-use Rattle.text.proofs.Scans.{all-on, all-stops, all-ends}
+-- `shape::all_digits` meets its contract.
 use Rattle.forms.specs.Shape.{allDigits}
 use borrow.Author.Needs.{needs}
 use Rattle.forms.proofs.shape.all_digits.Statement.{statement}
 use Rattle.forms.proofs.shape.all_digits.Tie as tie
 
-ruleset laws = (needs, all-on, all-stops, all-ends)
-
-abbrev Inv-loop : tie.InvT-loop
-Inv-loop s i₀ i = (i ≤ length s) × (all digit (drop i s) ≡ all digit s)
-
-abbrev μ-loop : tie.MeasureT-loop
-μ-loop s i₀ i = length s - i
-
 pub all-digits-spec : {M : Type 1} → statement M
 unfolding allDigits
-all-digits-spec =
-    tie.close
-    (tie.spec
-    Inv-loop μ-loop (λ c. search laws) (λ c. search laws) (λ c κs. search laws) (λ c. search laws) (λ c. search laws)
-    (λ c. search laws) (λ c. search laws) (λ c. search laws))
+all-digits-spec = tie.close (tie.spec (λ c κs. search needs) (λ c. search needs))

@@ -1,4 +1,4 @@
--- `forms::shape::is_bic` meets its contract.
+-- `shape::is_bic` meets its contract.
 use Rattle.forms.proofs.Shapes.{bic-short, bic-long, bic-other}
 use borrow.Author.Needs.{needs}
 use Rattle.forms.proofs.shape.is_bic.Statement.{statement}

@@ -1,4 +1,4 @@
--- `forms::shape::is_capitals` meets its contract.
+-- `shape::is_capitals` meets its contract.
 use Rattle.text.proofs.Choices.{eq-fails, eq-holds}
 use Rattle.forms.specs.Shape.{capitals}
 use borrow.Author.Needs.{needs}

@@ -1,4 +1,4 @@
--- `forms::shape::is_customer` meets its contract.
+-- `shape::is_customer` meets its contract.
 use Rattle.text.proofs.Choices.{test-held, test-fails, test-holds}
 use Rattle.forms.specs.Shape.{customer}
 use Rattle.forms.proofs.Shapes.{ten-digits}

@@ -1,4 +1,4 @@
--- `forms::shape::is_identcode` meets its contract.
+-- `shape::is_identcode` meets its contract.
 use Rattle.forms.specs.Shape.{identcode}
 use borrow.Author.Needs.{needs}
 use Rattle.forms.proofs.shape.is_identcode.Statement.{statement}

@@ -1,4 +1,4 @@
--- `forms::shape::is_mail` meets its contract.
+-- `shape::is_mail` meets its contract.
 use Rattle.forms.proofs.Shapes.{mail-count, mail-first, mail-last, mail-some, mail-end}
 use borrow.Author.Needs.{needs}
 use Rattle.forms.proofs.shape.is_mail.Statement.{statement}

@@ -1,4 +1,4 @@
--- `forms::shape::is_version` meets its contract.
+-- `shape::is_version` meets its contract.
 use Rattle.forms.specs.Shape.{version}
 use borrow.Author.Needs.{needs}
 use Rattle.forms.proofs.shape.is_version.Statement.{statement}

@@ -1,14 +1,20 @@
 -- `files::peliranopi_judge` meets its contract.
-use Rattle.peliranopi.proofs.Telling.{file-number, file-place, file-lines, file-parcels, file-cents}
+use Rattle.file.specs.File.{fileVerdict}
+use Rattle.peliranopi.specs.Told.{linesIn, parcelsIn, centsIn}
+use Rattle.peliranopi.proofs.Telling.{told-number, told-place, told}
 use borrow.Author.Needs.{needs}
 use Rattle.peliranopi.proofs.files.peliranopi_judge.Statement.{statement}
 use Rattle.peliranopi.proofs.files.peliranopi_judge.Tie as tie
 
-ruleset laws = (needs, file-number, file-place, file-lines, file-parcels, file-cents)
+returns : tie.Need-returns
+returns c = search (needs, told-number fileVerdict, told-place fileVerdict, told linesIn, told parcelsIn, told centsIn)
+
+returns-2 : tie.Need-returns-2
+returns-2 c = search (needs, told-number fileVerdict, told-place fileVerdict, told linesIn, told parcelsIn, told centsIn)
 
 pub peliranopi-judge-spec : {M : Type 1} → statement M
 peliranopi-judge-spec =
     tie.close
     (tie.spec
-    (λ c κs. search laws) (λ c. search laws) (λ c κs. search laws) (λ c. search laws) (λ c κs. search laws) (λ c. search laws)
-    (λ c. search laws) (λ c. search laws) (λ c. search laws))
+    (λ c κs. search needs) (λ c. search needs) (λ c κs. search needs) (λ c. search needs) (λ c κs. search needs) (λ c. search needs) returns
+    (λ c. search needs) returns-2)

@@ -1,14 +1,19 @@
 -- `lines::peliranopi_find_field` meets its contract.
-use Rattle.peliranopi.proofs.Telling.{field-number, field-place, field-start, field-length}
+use Rattle.line.specs.Find.{fieldVerdict}
+use Rattle.peliranopi.specs.Told.{startIn, lengthIn}
+use Rattle.peliranopi.proofs.Telling.{told-number, told-place, told}
 use borrow.Author.Needs.{needs}
 use Rattle.peliranopi.proofs.lines.peliranopi_find_field.Statement.{statement}
 use Rattle.peliranopi.proofs.lines.peliranopi_find_field.Tie as tie
 
-ruleset laws = (needs, field-number, field-place, field-start, field-length)
+returns : tie.Need-returns
+returns c = search (needs, told-number fieldVerdict, told-place fieldVerdict, told startIn, told lengthIn)
+
+returns-2 : tie.Need-returns-2
+returns-2 c = search (needs, told-number fieldVerdict, told-place fieldVerdict, told startIn, told lengthIn)
 
 pub peliranopi-find-field-spec : {M : Type 1} → statement M
 peliranopi-find-field-spec =
     tie.close
     (tie.spec
-    (λ c κs. search laws) (λ c. search laws) (λ c κs. search laws) (λ c. search laws) (λ c κs. search laws) (λ c. search laws)
-    (λ c. search laws))
+    (λ c κs. search needs) (λ c. search needs) (λ c κs. search needs) (λ c. search needs) (λ c κs. search needs) returns returns-2)

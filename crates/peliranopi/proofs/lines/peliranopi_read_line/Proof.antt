@@ -1,14 +1,20 @@
 -- `lines::peliranopi_read_line` meets its contract.
-use Rattle.peliranopi.proofs.Telling.{line-number, line-place, line-record, line-count, line-next}
+use Rattle.line.specs.Line.{lineVerdict}
+use Rattle.peliranopi.specs.Told.{recordIn, countIn, nextIn}
+use Rattle.peliranopi.proofs.Telling.{told-number, told-place, told}
 use borrow.Author.Needs.{needs}
 use Rattle.peliranopi.proofs.lines.peliranopi_read_line.Statement.{statement}
 use Rattle.peliranopi.proofs.lines.peliranopi_read_line.Tie as tie
 
-ruleset laws = (needs, line-number, line-place, line-record, line-count, line-next)
+returns : tie.Need-returns
+returns c = search (needs, told-number lineVerdict, told-place lineVerdict, told recordIn, told countIn, told nextIn)
+
+returns-2 : tie.Need-returns-2
+returns-2 c = search (needs, told-number lineVerdict, told-place lineVerdict, told recordIn, told countIn, told nextIn)
 
 pub peliranopi-read-line-spec : {M : Type 1} → statement M
 peliranopi-read-line-spec =
     tie.close
     (tie.spec
-    (λ c κs. search laws) (λ c. search laws) (λ c κs. search laws) (λ c κs. search laws) (λ c. search laws) (λ c κs. search laws)
-    (λ c. search laws) (λ c. search laws))
+    (λ c κs. search needs) (λ c. search needs) (λ c κs. search needs) (λ c κs. search needs) (λ c. search needs) (λ c κs. search needs)
+    returns returns-2)

@@ -1,14 +1,18 @@
 -- `numbers::peliranopi_check_iban` meets its contract.
-use Rattle.peliranopi.proofs.Telling.{iban-number, iban-place}
+use Rattle.check_characters.specs.Iban.{ibanVerdict}
+use Rattle.peliranopi.proofs.Telling.{told-number, told-place}
 use borrow.Author.Needs.{needs}
 use Rattle.peliranopi.proofs.numbers.peliranopi_check_iban.Statement.{statement}
 use Rattle.peliranopi.proofs.numbers.peliranopi_check_iban.Tie as tie
 
-ruleset laws = (needs, iban-number, iban-place)
+returns : tie.Need-returns
+returns c = search (needs, told-number ibanVerdict, told-place ibanVerdict)
+
+returns-2 : tie.Need-returns-2
+returns-2 c = search (needs, told-number ibanVerdict, told-place ibanVerdict)
 
 pub peliranopi-check-iban-spec : {M : Type 1} → statement M
 peliranopi-check-iban-spec =
     tie.close
     (tie.spec
-    (λ c κs. search laws) (λ c. search laws) (λ c κs. search laws) (λ c. search laws) (λ c κs. search laws) (λ c. search laws)
-    (λ c. search laws))
+    (λ c κs. search needs) (λ c. search needs) (λ c κs. search needs) (λ c. search needs) (λ c κs. search needs) returns returns-2)

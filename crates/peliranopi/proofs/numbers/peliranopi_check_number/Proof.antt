@@ -1,14 +1,20 @@
 -- `numbers::peliranopi_check_number` meets its contract.
-use Rattle.peliranopi.proofs.Telling.{check-number, check-place, check-kind}
+use Rattle.check_characters.specs.Number.{checkVerdict}
+use Rattle.peliranopi.specs.Told.{kindIn}
+use Rattle.peliranopi.proofs.Telling.{told-number, told-place, told}
 use borrow.Author.Needs.{needs}
 use Rattle.peliranopi.proofs.numbers.peliranopi_check_number.Statement.{statement}
 use Rattle.peliranopi.proofs.numbers.peliranopi_check_number.Tie as tie
 
-ruleset laws = (needs, check-number, check-place, check-kind)
+returns : tie.Need-returns
+returns c = search (needs, told-number checkVerdict, told-place checkVerdict, told kindIn)
+
+returns-2 : tie.Need-returns-2
+returns-2 c = search (needs, told-number checkVerdict, told-place checkVerdict, told kindIn)
 
 pub peliranopi-check-number-spec : {M : Type 1} → statement M
 peliranopi-check-number-spec =
     tie.close
     (tie.spec
-    (λ c κs. search laws) (λ c. search laws) (λ c κs. search laws) (λ c κs. search laws) (λ c. search laws) (λ c κs. search laws)
-    (λ c. search laws) (λ c. search laws))
+    (λ c κs. search needs) (λ c. search needs) (λ c κs. search needs) (λ c κs. search needs) (λ c. search needs) (λ c κs. search needs)
+    returns returns-2)

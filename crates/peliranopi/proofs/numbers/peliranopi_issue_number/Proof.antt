@@ -1,14 +1,20 @@
 -- `numbers::peliranopi_issue_number` meets its contract.
-use Rattle.peliranopi.proofs.Telling.{issue-number, issue-place, issue-issued, number-left}
+use Rattle.check_characters.specs.Number.{issueVerdict}
+use Rattle.peliranopi.specs.Told.{issuedIn}
+use Rattle.peliranopi.proofs.Telling.{told-number, told-place, told, number-left}
 use borrow.Author.Needs.{needs}
 use Rattle.peliranopi.proofs.numbers.peliranopi_issue_number.Statement.{statement}
 use Rattle.peliranopi.proofs.numbers.peliranopi_issue_number.Tie as tie
 
-ruleset laws = (needs, issue-number, issue-place, issue-issued, number-left)
+returns : tie.Need-returns
+returns c = search (needs, told-number issueVerdict, told-place issueVerdict, told issuedIn, number-left)
+
+returns-2 : tie.Need-returns-2
+returns-2 c = search (needs, told-number issueVerdict, told-place issueVerdict, told issuedIn, number-left)
 
 pub peliranopi-issue-number-spec : {M : Type 1} → statement M
 peliranopi-issue-number-spec =
     tie.close
     (tie.spec
-    (λ c κs. search laws) (λ c. search laws) (λ c κs. search laws) (λ c. search laws) (λ c κs. search laws) (λ c. search laws)
-    (λ c. search laws) (λ c. search laws) (λ c. search laws))
+    (λ c κs. search needs) (λ c. search needs) (λ c κs. search needs) (λ c. search needs) (λ c κs. search needs) (λ c. search needs) returns
+    (λ c. search needs) returns-2)

@@ -1,0 +1,27 @@
+-- The examples that the numbers and the IBANs open with, worked out.
+use Prim.Native.Nat.{ℕ, _%_}
+use mathlib.Core.Path.{_≡_, refl}
+use mathlib.Core.List.{List, [], _∷_}
+use Rattle.text.specs.Quoted.{byte, bytes}
+use Rattle.check_characters.specs.Symbol.{valueOf, symbolOf}
+use Rattle.check_characters.specs.Mod37.{step, carry, checkOf}
+use Rattle.check_characters.specs.Iban.{digitsOf, ibanNumber}
+
+-- the carry behind each symbol
+abbrev carries : ℕ → List ℕ → List ℕ
+carries c [] = []
+carries c (b ∷ s) = step c (valueOf b) ∷ carries (step c (valueOf b)) s
+
+pub example-tracking : (carries 36 (bytes "09980000020041") ≡ 35 ∷ 16 ∷ 13 ∷ 5 ∷ 10 ∷ 20 ∷ 3 ∷ 6 ∷ 12 ∷ 28 ∷ 19 ∷ 1 ∷ 10 ∷ 22 ∷ [])
+    × (checkOf (bytes "09980000020041") ≡ byte "F") × (valueOf (byte "F") ≡ 15)
+unfolding valueOf symbolOf step checkOf
+example-tracking = (refl, refl, refl)
+
+pub example-label : (carry (bytes "000280009980000020037155056") ≡ 31) × (checkOf (bytes "000280009980000020037155056") ≡ byte "6")
+unfolding valueOf symbolOf step checkOf
+example-label = (refl, refl)
+
+pub example-iban : (ibanNumber (bytes "AT611904300234573201") ≡ 1904300234573201102961) × (1904300234573201102961 % 97 ≡ 1)
+    × (ibanNumber (bytes "AT161904300234573201") ≡ 1904300234573201102916) × (1904300234573201102916 % 97 ≡ 53)
+unfolding valueOf digitsOf
+example-iban = (refl, refl, refl, refl)
