@@ -28,11 +28,11 @@ pub fn is_identcode(s: &[u8]) -> bool
     is_digits(s, 22)
 }
 
-// Whether s is n capitals.
-pub fn is_capitals(s: &[u8], n: usize) -> bool
-    ensures { λ r. ⌜ r ≡ capitals n (now (s .entry)) ⌝ }
+// Whether s is so many capitals.
+pub fn is_capitals(s: &[u8], count: usize) -> bool
+    ensures { λ r. ⌜ r ≡ capitals count (now (s .entry)) ⌝ }
 {
-    if s.len() != n {
+    if s.len() != count {
         return false;
     }
     text::all_in(Class::Capital, s)
