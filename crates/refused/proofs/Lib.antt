@@ -1,0 +1,10 @@
+pub mod Choosing
+pub mod Fronts
+pub mod Stopping
+pub mod Fields
+pub mod Texts
+pub mod Lines
+pub mod Seeking
+pub mod Beginning
+pub mod Files
+pub mod Deciding
