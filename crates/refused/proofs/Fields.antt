@@ -19,7 +19,7 @@ use Rattle.line.specs.Walk.{behind}
 use Rattle.refused.specs.Line.{RefusedField}
 use Rattle.refused.proofs.Stopping.{placeBehind}
 
-bad-same : {why other : Reason} → Bad why ≡ Bad other → why ≡ other
+pub bad-same : {why other : Reason} → Bad why ≡ Bad other → why ≡ other
 bad-same e = cc
 
 module _ (rows : List Row) (n : ℕ) (beside f : List ℕ) where

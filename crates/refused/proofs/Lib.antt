@@ -8,3 +8,6 @@ pub mod Seeking
 pub mod Beginning
 pub mod Files
 pub mod Deciding
+pub mod Writing
+pub mod Wrong
+pub mod Numbers
