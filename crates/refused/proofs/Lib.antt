@@ -11,3 +11,4 @@ pub mod Deciding
 pub mod Writing
 pub mod Wrong
 pub mod Numbers
+pub mod Purposes
