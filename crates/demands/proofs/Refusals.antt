@@ -18,6 +18,7 @@ use Rattle.fields.specs.Profile.{profile}
 use Rattle.fields.specs.declared.record.Due.the-variants.{First}
 use Rattle.line.specs.Line.{lineAnswer, alone}
 use Rattle.line.specs.Find.{fieldAnswer}
+use Rattle.line.specs.declared.read.Line.{Line}
 use Rattle.line.specs.declared.read.LineAnswer.the-variants.{Refused as RefusedAsLine}
 use Rattle.line.specs.declared.find.FieldAnswer.the-variants.{Refused as NotFound}
 use Rattle.file.specs.File.{Judges}
@@ -27,6 +28,7 @@ use Rattle.writer.specs.Write.{Writes}
 use Rattle.writer.specs.declared.write.WriteAnswer.the-variants.{Refused as NotWritten}
 use Rattle.purpose.specs.Purpose.{Purposes}
 use Rattle.purpose.specs.declared.write.PurposeAnswer.the-variants.{Refused as NoPurpose}
+use Rattle.grammar.specs.Grammar.{Reads}
 use Rattle.allowed.specs.Allowed.{FileLine, AllowedFile}
 use Rattle.refused.specs.Line.{RefusedAt, RefusedFind}
 use Rattle.refused.specs.File.{Begins, dueBehind, RefusedFile, Means}
@@ -78,6 +80,16 @@ pub line-refused-exactly : (file : List ℕ) (offset : ℕ) (refusal : Refusal) 
     (lineAnswer (alone profile) file offset ≡ RefusedAsLine refusal) ↔ RefusedAt (alone profile) file offset refusal
 line-refused-exactly = lines.line-refused-exactly (alone profile)
 
+-- Every line is allowed or refused, never both.
+pub line-always-one : (file : List ℕ) (offset : ℕ) →
+    ((line : Line) × ((fs : List (List ℕ)) × Reads (alone profile) file offset line fs)) ⊎
+    ((refusal : Refusal) × RefusedAt (alone profile) file offset refusal)
+line-always-one = deciding.line-always-one (alone profile)
+
+pub line-never-both : (file : List ℕ) (offset : ℕ) (line : Line) (fs : List (List ℕ)) (refusal : Refusal) →
+    Reads (alone profile) file offset line fs → RefusedAt (alone profile) file offset refusal → ⊥
+line-never-both = deciding.line-never-both (alone profile)
+
 -- One field of it: the line's refusals, then 15.
 pub field-refused-exactly : (file : List ℕ) (offset n : ℕ) (refusal : Refusal) →
     (fieldAnswer profile file offset n ≡ NotFound refusal) ↔ RefusedFind profile file offset n refusal
@@ -96,10 +108,12 @@ pub purpose-refused-exactly : (file : List ℕ) (n words : ℕ) (output : List �
 purpose-refused-exactly = purposes.purpose-refused-exactly
 
 -- A tracking number or label code, an IBAN, and the body of a number to be issued: "a refusal writes nothing".
-pub number-refused-exactly : (symbols : List ℕ) (refusal : Refusal) → (checkedNumber symbols ≡ RefusedAsNumber refusal) ↔ RefusedNumber symbols refusal
+pub number-refused-exactly : (symbols : List ℕ) (refusal : Refusal) →
+    (checkedNumber symbols ≡ RefusedAsNumber refusal) ↔ RefusedNumber symbols refusal
 number-refused-exactly = numbers.number-refused-exactly
 
-pub iban-refused-exactly : (symbols : List ℕ) (refusal : Refusal) → (checkedIban symbols ≡ RefusedAsIban refusal) ↔ RefusedIban symbols refusal
+pub iban-refused-exactly : (symbols : List ℕ) (refusal : Refusal) →
+    (checkedIban symbols ≡ RefusedAsIban refusal) ↔ RefusedIban symbols refusal
 iban-refused-exactly = numbers.iban-refused-exactly
 
 pub issue-refused-exactly : (body output : List ℕ) (refusal : Refusal) (after : List ℕ) →

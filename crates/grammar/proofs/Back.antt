@@ -14,7 +14,6 @@ use Rattle.text.specs.Placed.{written}
 use Rattle.text.proofs.Choices.{and-both, came-then, came-else}
 use Rattle.refusal.specs.declared.Reason.the-variants.{FieldCount, FeatureLacks, OutputTooShort, FieldEnds}
 use Rattle.refusal.specs.Table.{because}
-use Rattle.refusal.specs.declared.Refusal.{Refusal}
 use Rattle.refusal.proofs.Verdicts.{no-pass}
 use Rattle.fields.specs.Profile.{Row, profile}
 use Rattle.fields.specs.Record.{typeOf, countFits}

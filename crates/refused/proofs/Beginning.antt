@@ -1,9 +1,8 @@
 -- The lines with which a file begins: one of them between those in front and those behind, and one line more.
-use Prim.Native.Nat.{ℕ, _+_, _≤_}
+use Prim.Native.Nat.{ℕ, _+_}
 use mathlib.Core.Path.{_≡_, refl, sym, ap, subst, _∙_}
 use mathlib.Core.Bool.{true}
 use mathlib.Core.List.{List, [], _∷_, _++_, append-assoc, append-nil}
-use native.Mathlib.Omega.{arith}
 use lib.ListN.{length, drop, length-append}
 use lib.Seq.{drop-append-seam}
 use Rattle.text.proofs.Choices.{or-neither}
@@ -13,8 +12,7 @@ use Rattle.fields.specs.declared.record.Due.{Due}
 use Rattle.fields.specs.declared.record.Due.the-variants.{First, After}
 use Rattle.grammar.specs.Grammar.{LineOk}
 use Rattle.allowed.specs.Allowed.{FileLine, lineBytes, fileBytes, LinesOk, codeOf, identcodes, oneOfCodes, NoneTwice}
-use Rattle.allowed.proofs.Codes as codes
-use Rattle.allowed.proofs.Codes.{Fresh}
+use Rattle.allowed.proofs.Codes.{Fresh, codes-append}
 use Rattle.allowed.proofs.Twice.{none-more, fresh-before}
 use Rattle.refused.specs.File.{Come, dueBehind, Begins, Follows}
 
@@ -22,20 +20,21 @@ pub bytes-append : (ls ks : List FileLine) → fileBytes (ls ++ ks) ≡ fileByte
 bytes-append [] ks = refl
 bytes-append (l ∷ ls) ks = ap (λ (r : List ℕ). lineBytes l ++ r) (bytes-append ls ks) ∙ sym (append-assoc (lineBytes l) (fileBytes ls) (fileBytes ks))
 
-pub codes-append : (ls ks : List FileLine) → identcodes (ls ++ ks) ≡ identcodes ls ++ identcodes ks
-codes-append [] ks = refl
-codes-append (l ∷ ls) ks =
-    ap (λ (r : List (List ℕ)). codeOf (l .kind) (l .fields) ++ r) (codes-append ls ks)
+pub identcodes-append : (ls ks : List FileLine) → identcodes (ls ++ ks) ≡ identcodes ls ++ identcodes ks
+identcodes-append [] ks = refl
+identcodes-append (l ∷ ls) ks =
+    ap (λ (r : List (List ℕ)). codeOf (l .kind) (l .fields) ++ r) (identcodes-append ls ks)
     ∙ sym (append-assoc (codeOf (l .kind) (l .fields)) (identcodes ls) (identcodes ks))
 
 -- one more
-pub bytes-more : (ls : List FileLine) (l : FileLine) (left : List ℕ) → fileBytes (ls ++ (l ∷ [])) ++ left ≡ fileBytes ls ++ (lineBytes l ++ left)
+pub bytes-more : (ls : List FileLine) (l : FileLine) (left : List ℕ) →
+    fileBytes (ls ++ (l ∷ [])) ++ left ≡ fileBytes ls ++ (lineBytes l ++ left)
 bytes-more ls l left =
     ap (λ (r : List ℕ). r ++ left) (bytes-append ls (l ∷ []) ∙ ap (λ (r : List ℕ). fileBytes ls ++ r) (append-nil (lineBytes l)))
     ∙ append-assoc (fileBytes ls) (lineBytes l) left
 
 pub codes-more : (ls : List FileLine) (l : FileLine) → identcodes (ls ++ (l ∷ [])) ≡ identcodes ls ++ codeOf (l .kind) (l .fields)
-codes-more ls l = codes-append ls (l ∷ []) ∙ ap (λ (r : List (List ℕ)). identcodes ls ++ r) (append-nil (codeOf (l .kind) (l .fields)))
+codes-more ls l = identcodes-append ls (l ∷ []) ∙ ap (λ (r : List (List ℕ)). identcodes ls ++ r) (append-nil (codeOf (l .kind) (l .fields)))
 
 pub due-more : (due : Due) (ls : List FileLine) (l : FileLine) → dueBehind due (ls ++ (l ∷ [])) ≡ After (l .kind)
 due-more due [] l = refl
@@ -45,7 +44,8 @@ lines-more : (ls : List FileLine) (l : FileLine) → LinesOk ls → LineOk profi
 lines-more [] l a g = (g, tt)
 lines-more (k ∷ ls) l a g = (a .0, lines-more ls l (a .1) g)
 
-come-more : (due : Due) (ls : List FileLine) (l : FileLine) → Come due ls → mayCome (dueBehind due ls) (l .kind) ≡ true → Come due (ls ++ (l ∷ []))
+come-more : (due : Due) (ls : List FileLine) (l : FileLine) → Come due ls → mayCome (dueBehind due ls) (l .kind) ≡ true →
+    Come due (ls ++ (l ∷ []))
 come-more due [] l a g = (g, tt)
 come-more due (k ∷ ls) l a g = (a .0, come-more (After (k .kind)) ls l (a .1) g)
 
@@ -78,19 +78,20 @@ come-front : (due : Due) (ls ks : List FileLine) → Come due (ls ++ ks) → Com
 come-front due [] ks a = tt
 come-front due (l ∷ ls) ks a = (a .0, come-front (After (l .kind)) ls ks (a .1))
 
-come-at : (due : Due) (ls : List FileLine) (l : FileLine) (ks : List FileLine) → Come due (ls ++ l ∷ ks) → mayCome (dueBehind due ls) (l .kind) ≡ true
+come-at : (due : Due) (ls : List FileLine) (l : FileLine) (ks : List FileLine) → Come due (ls ++ l ∷ ks) →
+    mayCome (dueBehind due ls) (l .kind) ≡ true
 come-at due [] l ks a = a .0
 come-at due (k ∷ ls) l ks a = come-at (After (k .kind)) ls l ks (a .1)
 
 none-front : (xs ys : List (List ℕ)) → NoneTwice (xs ++ ys) → NoneTwice xs
 none-front [] ys n = tt
 none-front (x ∷ xs) ys n =
-    (or-neither (oneOfCodes x xs) (oneOfCodes x ys) (sym (codes.codes-append x xs ys) ∙ n .0) .0, none-front xs ys (n .1))
+    (or-neither (oneOfCodes x xs) (oneOfCodes x ys) (sym (codes-append x xs ys) ∙ n .0) .0, none-front xs ys (n .1))
 
 pub next-at : (s : List ℕ) (ls : List FileLine) (l : FileLine) (ks : List FileLine) (left : List ℕ) → Begins s (ls ++ l ∷ ks) left →
     Next s ls l (fileBytes ks ++ left)
 next-at s ls l ks left b =
-    let none = subst NoneTwice (codes-append ls (l ∷ ks)) (b .codes) in
+    let none = subst NoneTwice (identcodes-append ls (l ∷ ks)) (b .codes) in
     record {
       follows = record {
         begins = record {

@@ -1,7 +1,6 @@
 -- One field, and the fields of a line from left to right: they are refused exactly as the rows of the profile say.
 use Prim.Native.Nat.{ℕ, _+_, _≤_, _<_}
 use mathlib.Core.Path.{_≡_, refl, sym, subst, _∙_}
-use mathlib.Core.Bool.{true, false}
 use mathlib.Core.List.{List, [], _∷_}
 use mathlib.Core.Logic.{⊎-elim}
 use native.Mathlib.Omega.{arith}
@@ -12,12 +11,12 @@ use Rattle.refusal.specs.declared.Reason.{Reason}
 use Rattle.refusal.specs.declared.Reason.the-variants.{FieldTooLong, FieldEmpty, FieldForm}
 use Rattle.fields.specs.Profile.{Row, widthOf, isRequired, hasForm}
 use Rattle.fields.specs.Field.{tested}
-use Rattle.fields.specs.declared.field.Tested.the-variants.{Good, Bad}
+use Rattle.fields.specs.declared.field.Tested.the-variants.{Bad}
 use Rattle.fields.proofs.Tests as tests
 use Rattle.line.specs.Render.{joined}
 use Rattle.line.specs.Walk.{behind}
 use Rattle.refused.specs.Line.{RefusedField}
-use Rattle.refused.proofs.Stopping.{placeBehind}
+use Rattle.line.proofs.Stopping.{placeBehind}
 
 pub bad-same : {why other : Reason} → Bad why ≡ Bad other → why ≡ other
 bad-same e = cc

@@ -28,7 +28,6 @@ use Rattle.line.specs.Line.{textAt, lineAnswer, fileLimit}
 use Rattle.line.specs.declared.read.Line.{Line}
 use Rattle.line.specs.declared.read.LineAnswer.{LineAnswer}
 use Rattle.line.specs.declared.read.LineAnswer.the-variants.{Accepted as AcceptedLine, Refused as RefusedAnswer}
-use Rattle.line.proofs.Plain.{render-long}
 use Rattle.grammar.specs.Grammar.{LineOk, Reads}
 use Rattle.grammar.proofs.Lines.{accepted-reads, reads-accepted}
 use Rattle.file.specs.Identcode.{repeats}
@@ -36,10 +35,11 @@ use Rattle.file.specs.Step.{behind, hasWord, onLine, toldBy, stepAnswer}
 use Rattle.file.specs.File.{Judged, begin, passed, ended, onStep, fileFrom, judged, listOf, Judges, fileVerdict}
 use Rattle.file.specs.declared.step.State.{State}
 use Rattle.file.specs.declared.step.Step.the-variants.{Next as On, Stopped}
-use Rattle.file.specs.declared.whole.FileAnswer.the-variants.{Accepted, Refused}
-use Rattle.file.proofs.Lists.{word-left, left-word}
+use Rattle.file.specs.declared.whole.FileAnswer.the-variants.{Refused}
+use Rattle.file.proofs.Lists.{word-left, left-word, no-word, word-none}
 use Rattle.file.proofs.Listing.{none-listed}
 use Rattle.allowed.specs.Allowed.{FileLine, lineBytes, fileBytes, codeOf, identcodes, oneOfCodes}
+use Rattle.allowed.proofs.Files.{line-some}
 use Rattle.allowed.proofs.Codes.{Seen, seen-more, Fresh, fresh-not, not-fresh, code-here}
 use Rattle.refused.specs.Line.{RefusedLine, RefusedAt}
 use Rattle.refused.specs.File.{dueBehind, toldBehind, Begins, Follows, RefusedFile}
@@ -55,17 +55,6 @@ record Here (s : List ℕ) (ls : List FileLine) (starts : List ℕ) (state : Sta
 
 line-of : ℕ → FileLine → Line
 line-of at l = record { kind = l .kind; count = length (l .fields); next = at + length (lineBytes l) }
-
-line-some : (l : FileLine) → 2 ≤ length (lineBytes l)
-line-some l = omega (arith, render-long (l .kind) (l .fields))
-
-no-word : (words lines : ℕ) → words ≤ lines → hasWord words lines ≡ false
-unfolding hasWord
-no-word words lines h = le-ltb lines words h
-
-word-none : (words lines : ℕ) → hasWord words lines ≡ false → words ≤ lines
-unfolding hasWord
-word-none words lines e = ltb-false lines words e
 
 -- an allowed line stands where the judge is
 module _ (s : List ℕ) (ls : List FileLine) (starts : List ℕ) (state : State) (h : Here s ls starts state) where
@@ -172,9 +161,6 @@ repeats-code kind s starts at codes fs rest seen k there ok =
     ∙ ap (λ (c : List ℕ). oneOfCodes c codes)
     (code-here s at fs rest (there ∙ ap (λ (x : Record). render x fs ++ rest) k) (subst (λ (x : Record). LineOk profile x fs) k ok))
 
-refused-same : {refusal other : Refusal} → Refused refusal ≡ Refused other → refusal ≡ other
-refused-same e = cc
-
 none-left : (left : List ℕ) → length left ≡ 0 → left ≡ []
 none-left [] e = refl
 none-left (b ∷ left) e = absurd (omega arith)
@@ -190,7 +176,7 @@ module _ (s : List ℕ) (words : ℕ) where
   -- what is refused, from the lines so far on
   module _ (refusal : Refusal) where
     is : (other : Refusal) → Refused other ≡ Refused refusal → RefusedFile s words other → RefusedFile s words refusal
-    is other e g = subst (RefusedFile s words) (refused-same e) g
+    is other e g = let same : other ≡ refusal = cc in subst (RefusedFile s words) same g
 
     abbrev Refuses : ℕ → Type 0
     Refuses turns =
@@ -220,7 +206,8 @@ module _ (s : List ℕ) (words : ℕ) where
               comes = ap (λ (d : Due). mayCome d (l .kind)) (sym (h .next)) ∙ g .comes;
             }
 
-        repeated : repeats (line .kind) s starts (state .at) ≡ true → Refused (because IdentcodeRepeated (state .at + 4)) ≡ Refused refusal →
+        repeated : repeats (line .kind) s starts (state .at) ≡ true →
+            Refused (because IdentcodeRepeated (state .at + 4)) ≡ Refused refusal →
             RefusedFile s words refusal
         repeated r e =
             let k = repeats-parcel (line .kind) s starts (state .at) r in
@@ -258,7 +245,8 @@ module _ (s : List ℕ) (words : ℕ) where
                   _≡_ {A = Line} (record { kind = line .kind; count = count; next = next }) (record { kind = line .kind; count = count′; next = next′ })
               same-line c n = rw (c, n)
 
-      step-refused : (a : LineAnswer) → lineAnswer (toldBy state) s (state .at) ≡ a → onStep (onLine a s words starts state) on .answer ≡ Refused refusal →
+      step-refused : (a : LineAnswer) → lineAnswer (toldBy state) s (state .at) ≡ a →
+          onStep (onLine a s words starts state) on .answer ≡ Refused refusal →
           RefusedFile s words refusal
       unfolding onLine
       step-refused (RefusedAnswer other) ea e =
@@ -277,7 +265,8 @@ module _ (s : List ℕ) (words : ℕ) where
           go false false r f q = full line ea r (word-none words (state .lines) f) q
           go false true r f q = goes-on line ea r (word-left words (state .lines) f) q
 
-    at-end : (ls : List FileLine) (left : List ℕ) (starts : List ℕ) (state : State) → Begins s ls left → length ls ≤ words → Here s ls starts state →
+    at-end : (ls : List FileLine) (left : List ℕ) (starts : List ℕ) (state : State) → Begins s ls left → length ls ≤ words →
+        Here s ls starts state →
         length s ≤ state .at → ended s starts state .answer ≡ Refused refusal → RefusedFile s words refusal
     at-end ls left starts state b room h e q = go (mayEnd (state .due)) refl q
       where

@@ -1,6 +1,3 @@
-pub mod Choosing
-pub mod Fronts
-pub mod Stopping
 pub mod Fields
 pub mod Texts
 pub mod Lines
@@ -9,6 +6,6 @@ pub mod Beginning
 pub mod Files
 pub mod Deciding
 pub mod Writing
+pub mod Purposes
 pub mod Wrong
 pub mod Numbers
-pub mod Purposes

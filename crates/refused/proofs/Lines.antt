@@ -3,7 +3,7 @@ use Prim.Native.Nat.{ℕ, _+_, _-_, _≤_}
 use mathlib.Core.Path.{_≡_, refl, sym, ap, subst, _∙_}
 use mathlib.Core.Bool.{true, false, not}
 use mathlib.Core.List.{List, [], _∷_, _++_}
-use mathlib.Core.Logic.{_↔_, ⊎-elim}
+use mathlib.Core.Logic.{_↔_}
 use lib.Dec.{ltb}
 use lib.ListN.{length, take, drop}
 use lib.Seq.{drop-drop, drop-append-seam}
@@ -12,44 +12,41 @@ use Rattle.text.specs.Choice.{if_then_else_}
 use Rattle.text.specs.Byte.{textByte}
 use Rattle.text.specs.Quoted.{bytes}
 use Rattle.text.specs.Scan.{firstFailing, all, same}
-use Rattle.text.proofs.Choices.{true-or-false, clash}
-use Rattle.text.proofs.Scans.{same-eq}
+use Rattle.text.proofs.Choices.{choice, clash}
+use Rattle.text.proofs.Runs.{Fails, front, run-to}
+use Rattle.text.proofs.Scans.{unlike}
 use Rattle.refusal.specs.Table.{because}
 use Rattle.refusal.specs.declared.Refusal.{Refusal}
 use Rattle.refusal.specs.declared.Reason.the-variants.{FileTooLong, NoLineEnd}
 use Rattle.refusal.proofs.Verdicts.{no-pass}
 use Rattle.fields.specs.Record.{typeOf}
 use Rattle.line.specs.Parts.{nameOf, fieldsOf}
-use Rattle.line.specs.Render.{joined, plain}
+use Rattle.line.specs.Render.{joined, plain, allIn}
 use Rattle.line.specs.Told.{Told}
 use Rattle.line.specs.Line.{lineEnd, endsWell, textAt, fileLimit, textAnswer, ofText, onText, lineAnswer, textVerdict}
 use Rattle.line.specs.declared.scan.TextAnswer.{TextAnswer}
 use Rattle.line.specs.declared.scan.TextAnswer.the-variants.{Ends, Refused as NoText}
 use Rattle.line.specs.declared.read.LineAnswer.{LineAnswer}
-use Rattle.line.specs.declared.read.LineAnswer.the-variants.{Accepted, Refused}
-use Rattle.line.proofs.Splits.{allIn, split-some, join-split}
-use Rattle.line.proofs.Plain.{split-plain}
+use Rattle.line.specs.declared.read.LineAnswer.the-variants.{Refused}
+use Rattle.line.proofs.Splits.{split-some, join-split}
+use Rattle.line.proofs.Plain.{split-plain, parts-bytes}
 use Rattle.line.proofs.Ends.{ended, ends-well, text-there}
 use Rattle.line.proofs.Accepting.{text-ends}
 use Rattle.refused.specs.Line.{NoEnd, Stands, RefusedLine, RefusedAt}
-use Rattle.refused.proofs.Choosing.{choice}
-use Rattle.refused.proofs.Fronts.{Fails, front, run-to}
-use Rattle.refused.proofs.Texts.{parts-bytes, same-line, of-text, text-unknown, text-order, text-count, text-lacks, text-bad}
+use Rattle.refused.proofs.Texts.{of-text, text-unknown, text-order, text-count, text-lacks, text-bad}
 
 -- what stands behind the text of a line
 no-end-fails : (behind : List ℕ) → NoEnd behind → Fails textByte behind
 no-end-fails [] n = tt
 no-end-fails (b ∷ behind) n = n .0
 
-unlike : (a b : List ℕ) → (a ≡ b → ⊥) → same a b ≡ false
-unlike a b n = ⊎-elim (λ t. absurd (n (same-eq a b t))) (λ f. f) (true-or-false (same a b))
-
 ill : (file : List ℕ) (end : ℕ) (behind : List ℕ) → drop end file ≡ behind → NoEnd behind → endsWell file end ≡ false
 unfolding endsWell
 ill file end [] d n = rw d
 ill file end (b ∷ behind) d n = rw d (unlike (take 2 (b ∷ behind)) (bytes "\r\n") (n .1))
 
-ill-end : (file : List ℕ) (end : ℕ) (behind : List ℕ) → drop end file ≡ behind → Fails textByte behind → endsWell file end ≡ false → NoEnd behind
+ill-end : (file : List ℕ) (end : ℕ) (behind : List ℕ) → drop end file ≡ behind → Fails textByte behind → endsWell file end ≡ false →
+    NoEnd behind
 unfolding endsWell
 ill-end file end [] d f e = tt
 ill-end file end (b ∷ behind) d f e =
@@ -63,7 +60,8 @@ line-same e = cc
 
 module _ (told : Told) (file : List ℕ) (offset : ℕ) where
   -- what the text of a line that ends well is made of
-  stands : endsWell file (lineEnd file offset) ≡ true → Stands (drop offset file) (nameOf (textAt file offset)) (fieldsOf (textAt file offset))
+  stands : endsWell file (lineEnd file offset) ≡ true →
+      Stands (drop offset file) (nameOf (textAt file offset)) (fieldsOf (textAt file offset))
   stands w =
       let d = ended file offset w in
       let text = textAt file offset in
@@ -74,7 +72,8 @@ module _ (told : Told) (file : List ℕ) (offset : ℕ) where
       }
 
   -- a line that does not end
-  open-line : endsWell file (lineEnd file offset) ≡ false → RefusedLine told offset (drop offset file) (because NoLineEnd (lineEnd file offset))
+  open-line : endsWell file (lineEnd file offset) ≡ false →
+      RefusedLine told offset (drop offset file) (because NoLineEnd (lineEnd file offset))
   open-line w =
       let r = front textByte offset (drop offset file) in
       let d : drop (lineEnd file offset) file ≡ r .behind =
@@ -141,7 +140,8 @@ module _ (told : Told) (file : List ℕ) (offset : ℕ) where
         ap (λ (i : ℕ). drop i file) e ∙ sym (drop-drop (length text) offset file) ∙ ap (drop (length text)) d ∙ drop-append-seam text behind in
         rw (le-ltb fileLimit (length file) small, le-ltb (length file) offset in-file, ill file (lineEnd file offset) behind q n, e)
 
-    pub line-answer : (refusal : Refusal) → RefusedLine told offset (drop offset file) refusal → lineAnswer told file offset ≡ Refused refusal
+    pub line-answer : (refusal : Refusal) → RefusedLine told offset (drop offset file) refusal →
+        lineAnswer told file offset ≡ Refused refusal
     line-answer refusal (RefusedLine.no-line-end text behind d p n) = open-answer text behind d p n
     line-answer refusal (RefusedLine.unknown-record name fs g n) = text-answer name fs g _ (text-unknown told offset name fs (g .clean) n)
     line-answer refusal (RefusedLine.out-of-order kind fs g m) = text-answer (typeOf kind) fs g _ (text-order told offset kind fs (g .clean) m)

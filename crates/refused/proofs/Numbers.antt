@@ -8,24 +8,28 @@ use native.Mathlib.Omega.{arith}
 use lib.Dec.{leb, ltb, eqb}
 use lib.ListN.{length}
 use borrow.Author.Tests.{le-leb, leb-true, ltb-true, ltb-false, lt-ltb, le-ltb, eqb-true, eqb-false, eq-eqb, ne-eqb, not-true, not-false}
-use Rattle.text.proofs.Choices.{and-left, and-right, and-both, true-or-false, clash}
+use Rattle.text.proofs.Choices.{choice, and-left, and-right, and-both, true-or-false, clash}
 use Rattle.refusal.specs.Table.{because}
 use Rattle.refusal.specs.declared.Refusal.{Refusal}
 use Rattle.refusal.specs.declared.Reason.the-variants.{OutputTooShort, WrongLength, WrongSymbol, WrongCheck}
 use Rattle.refusal.proofs.Verdicts.{no-pass}
 use Rattle.check_characters.specs.Mod37.{passes}
-use Rattle.check_characters.specs.Number.{lengthOf, allowed, wrongSymbol, checkedAs, checked, issueAs, issueAnswer, issuedTo, Issues, checkVerdict, issueVerdict}
-use Rattle.check_characters.specs.Iban.{ibanNumber, checkDigits, barred, soundOf, allowed as allowedInIban, checked as checkedIban, ibanVerdict}
+use Rattle.check_characters.specs.Number.{lengthOf, allowed, wrongSymbol, checkedAs, checked}
+use Rattle.check_characters.specs.Number.{issueAs, issueAnswer, issuedTo, Issues, checkVerdict, issueVerdict}
+use Rattle.check_characters.specs.Iban.{ibanNumber, checkDigits, barred}
+use Rattle.check_characters.specs.Iban.{soundOf, allowed as allowedInIban, checked as checkedIban, ibanVerdict}
 use Rattle.check_characters.specs.Iban.{wrongSymbol as wrongInIban}
 use Rattle.check_characters.specs.declared.number.Kind.{Kind}
 use Rattle.check_characters.specs.declared.number.Kind.the-variants.{Tracking, Label}
 use Rattle.check_characters.specs.declared.number.NumberAnswer.the-variants.{Accepted, Refused}
 use Rattle.check_characters.specs.declared.number.IssueAnswer.the-variants.{Issued, Refused as NotIssued}
 use Rattle.check_characters.specs.declared.iban.IbanAnswer.the-variants.{Accepted as AcceptedIban, Refused as RefusedAsIban}
-use Rattle.check_characters.proofs.Checking.{checked-tracking, checked-label, checked-length}
+use Rattle.check_characters.proofs.Checking.{checked-length}
+use Rattle.slips.proofs.Shaping.{shaped-all, all-shaped}
+use Rattle.slips.proofs.Numbers.{checked-kind}
+use Rattle.slips.proofs.Issues.{issues-as}
 use Rattle.refused.specs.Number.{RefusedNumber, RefusedIban, RefusedIssue}
-use Rattle.refused.proofs.Choosing.{choice}
-use Rattle.refused.proofs.Wrong.{wrong-there, there-wrong, shaped-all, all-shaped}
+use Rattle.refused.proofs.Wrong.{wrong-there, there-wrong}
 
 module _ (s : List ℕ) where
   module _ (refusal : Refusal) where
@@ -55,17 +59,13 @@ module _ (s : List ℕ) where
         neither a b Tracking h = a h
         neither a b Label h = b h
 
-  checked-kind : (kind : Kind) → length s ≡ lengthOf kind → checked s ≡ checkedAs kind s
-  checked-kind Tracking n = checked-tracking s n
-  checked-kind Label n = checked-label s (λ e. omega arith) n
-
   refused-number : (refusal : Refusal) → RefusedNumber s refusal → checked s ≡ Refused refusal
   unfolding checkedAs
   refused-number refusal (RefusedNumber.wrong-length n) = checked-length s (n Tracking) (n Label)
   refused-number refusal (RefusedNumber.wrong-symbol kind i n g) =
-      checked-kind kind n ∙ rw (there-wrong (allowed kind) s i g, lt-ltb i (length s) (g .inside))
+      checked-kind kind s n ∙ rw (there-wrong (allowed kind) s i g, lt-ltb i (length s) (g .inside))
   refused-number refusal (RefusedNumber.wrong-check kind n g p) =
-      checked-kind kind n ∙ rw (le-ltb (wrongSymbol kind s) (length s) (all-shaped (allowed kind) s g), p)
+      checked-kind kind s n ∙ rw (le-ltb (wrongSymbol kind s) (length s) (all-shaped (allowed kind) s g), p)
 
 pub number-refused-exactly : (s : List ℕ) (refusal : Refusal) → (checked s ≡ Refused refusal) ↔ RefusedNumber s refusal
 number-refused-exactly s refusal = (number-refused s refusal, refused-number s refusal)
@@ -137,7 +137,8 @@ module _ (body : List ℕ) (room : ℕ) where
     hand : (other : Refusal) → RefusedIssue body room other → NotIssued other ≡ NotIssued refusal → RefusedIssue body room refusal
     hand other g e = let same : other ≡ refusal = cc in subst (RefusedIssue body room) same g
 
-    as-issued : (kind : Kind) → length body + 1 ≡ lengthOf kind → issueAs kind body room ≡ NotIssued refusal → RefusedIssue body room refusal
+    as-issued : (kind : Kind) → length body + 1 ≡ lengthOf kind → issueAs kind body room ≡ NotIssued refusal →
+        RefusedIssue body room refusal
     unfolding issueAs
     as-issued kind n e =
         let wrong = wrongSymbol kind body in
@@ -162,19 +163,14 @@ module _ (body : List ℕ) (room : ℕ) where
         neither a b Tracking h = a (omega arith)
         neither a b Label h = b (omega arith)
 
-  issue-kind : (kind : Kind) → length body + 1 ≡ lengthOf kind → issueAnswer body room ≡ issueAs kind body room
-  unfolding issueAnswer
-  issue-kind Tracking n = rw (eq-eqb (length body) 14 (omega arith))
-  issue-kind Label n = rw (ne-eqb (length body) 14 (λ e. omega arith), eq-eqb (length body) 27 (omega arith))
-
   refused-issue : (refusal : Refusal) → RefusedIssue body room refusal → issueAnswer body room ≡ NotIssued refusal
   unfolding issueAnswer issueAs
   refused-issue refusal (RefusedIssue.wrong-length n) =
       rw (ne-eqb (length body) 14 (λ e. n Tracking (omega arith)), ne-eqb (length body) 27 (λ e. n Label (omega arith)))
   refused-issue refusal (RefusedIssue.wrong-symbol kind i n g) =
-      issue-kind kind n ∙ rw (there-wrong (allowed kind) body i g, lt-ltb i (length body) (g .inside))
+      issues-as kind body room n ∙ rw (there-wrong (allowed kind) body i g, lt-ltb i (length body) (g .inside))
   refused-issue refusal (RefusedIssue.too-short kind n g p) =
-      issue-kind kind n ∙ rw (le-ltb (wrongSymbol kind body) (length body) (all-shaped (allowed kind) body g), lt-ltb room (lengthOf kind) p)
+      issues-as kind body room n ∙ rw (le-ltb (wrongSymbol kind body) (length body) (all-shaped (allowed kind) body g), lt-ltb room (lengthOf kind) p)
 
 pub issue-refused-exactly : (body output : List ℕ) (refusal : Refusal) (after : List ℕ) →
     Issues body output (NotIssued refusal) after ↔ (RefusedIssue body (length output) refusal × (after ≡ output))

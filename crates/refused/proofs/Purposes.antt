@@ -7,11 +7,12 @@ use native.Mathlib.Omega.{arith}
 use lib.Dec.{leb, ltb}
 use lib.ListN.{length, getD, replicate}
 use borrow.Author.Tests.{leb-false, ltb-true, lt-ltb}
+use Rattle.text.proofs.Choices.{choice}
 use Rattle.refusal.specs.Table.{because}
 use Rattle.refusal.specs.declared.Refusal.{Refusal}
 use Rattle.refusal.specs.declared.Reason.the-variants.{NotThere, OutputTooShort}
 use Rattle.refusal.proofs.Verdicts.{no-pass}
-use Rattle.file.specs.File.{Judged, judged, listOf}
+use Rattle.file.specs.File.{Judged, judged}
 use Rattle.file.specs.declared.whole.FileAnswer.{FileAnswer}
 use Rattle.file.specs.declared.whole.FileAnswer.the-variants.{Accepted, Refused as RefusedAnswer}
 use Rattle.purpose.specs.Source.{isCashLine, forFeature, sourceOf}
@@ -27,7 +28,6 @@ use Rattle.allowed.proofs.Placed.{line-there}
 use Rattle.allowed.proofs.Paying.{cash-told, cash-source}
 use Rattle.allowed.proofs.Naming.{whole}
 use Rattle.refused.specs.Purpose.{RefusedPurpose}
-use Rattle.refused.proofs.Choosing.{choice}
 use Rattle.refused.proofs.Files.{judged-refused, refused-judged}
 
 -- the line with a number is a 006 line, or there is no source

@@ -1,5 +1,5 @@
 -- One field: it is refused exactly when its line is, or when the line has no such field.
-use Prim.Native.Nat.{ℕ, _≤_}
+use Prim.Native.Nat.{ℕ}
 use mathlib.Core.Path.{_≡_, refl, sym, subst}
 use mathlib.Core.Bool.{_||_}
 use mathlib.Core.List.{List}
@@ -7,7 +7,7 @@ use mathlib.Core.Logic.{_↔_, ⊎-elim}
 use native.Mathlib.Omega.{arith}
 use lib.Dec.{ltb, eqb}
 use borrow.Author.Tests.{eqb-true, ltb-true}
-use Rattle.text.proofs.Choices.{or-cases}
+use Rattle.text.proofs.Choices.{choice, or-cases}
 use Rattle.refusal.specs.Table.{because}
 use Rattle.refusal.specs.declared.Refusal.{Refusal}
 use Rattle.refusal.specs.declared.Reason.the-variants.{NotThere}
@@ -22,19 +22,16 @@ use Rattle.line.specs.declared.find.FieldAnswer.the-variants.{Refused}
 use Rattle.grammar.proofs.Lines.{accepted-reads}
 use Rattle.grammar.proofs.Finding.{field-not-there, field-refused}
 use Rattle.refused.specs.Line.{RefusedFind}
-use Rattle.refused.proofs.Choosing.{choice}
 use Rattle.refused.proofs.Lines.{answer-refused, refused-answer}
-
-refused-same : {refusal other : Refusal} → Refused refusal ≡ Refused other → refusal ≡ other
-refused-same e = cc
 
 pub field-refused-exactly : (rules : Rules) (file : List ℕ) (offset n : ℕ) (refusal : Refusal) →
     (fieldAnswer rules file offset n ≡ Refused refusal) ↔ RefusedFind rules file offset n refusal
 unfolding fieldAnswer inLine
 field-refused-exactly rules file offset n refusal = (λ e. forth (lineAnswer (alone rules) file offset) refl e, back refusal)
   where
-    is : (other : Refusal) → RefusedFind rules file offset n other → Refused other ≡ Refused refusal → RefusedFind rules file offset n refusal
-    is other g e = subst (RefusedFind rules file offset n) (refused-same e) g
+    is : (other : Refusal) → RefusedFind rules file offset n other → Refused other ≡ Refused refusal →
+        RefusedFind rules file offset n refusal
+    is other g e = let same : other ≡ refusal = cc in subst (RefusedFind rules file offset n) same g
 
     forth : (a : LineAnswer) → lineAnswer (alone rules) file offset ≡ a → inLine a file offset n ≡ Refused refusal →
         RefusedFind rules file offset n refusal

@@ -2,15 +2,13 @@
 use Prim.Native.Nat.{ℕ, _+_}
 use mathlib.Core.Path.{_≡_, refl, sym, ap, subst, _∙_}
 use mathlib.Core.Bool.{true, false, not}
-use mathlib.Core.List.{List, [], _∷_, _++_}
+use mathlib.Core.List.{List, _∷_, _++_}
 use native.Mathlib.Omega.{arith}
 use lib.ListN.{length, length-append}
 use borrow.Author.Tests.{not-true, not-false}
-use Rattle.text.specs.Byte.{textByte}
 use Rattle.text.specs.Quoted.{bytes}
 use Rattle.text.specs.Scan.{all}
-use Rattle.text.proofs.Choices.{and-left, and-right, and-both}
-use Rattle.text.proofs.Runs.{all-append}
+use Rattle.text.proofs.Choices.{choice, and-right}
 use Rattle.refusal.specs.Table.{because}
 use Rattle.refusal.specs.declared.Refusal.{Refusal}
 use Rattle.refusal.specs.declared.Reason.{Reason}
@@ -22,42 +20,23 @@ use Rattle.fields.specs.declared.record.Record.{Record}
 use Rattle.fields.specs.declared.record.Named.{Named}
 use Rattle.fields.specs.declared.record.Named.the-variants.{Known, Unknown}
 use Rattle.fields.proofs.Types.{type-named, named-type}
-use Rattle.line.specs.Parts.{split, nameOf, fieldsOf, inField}
-use Rattle.line.specs.Render.{joined, textOf, plain}
+use Rattle.line.specs.Parts.{split}
+use Rattle.line.specs.Render.{joined, textOf, plain, allIn}
 use Rattle.line.specs.Told.{Told}
 use Rattle.line.specs.Walk.{behind, walk}
 use Rattle.line.specs.Need.{lacks}
 use Rattle.line.specs.Line.{afterWalk, ofKind, ofNamed, ofText, lineVerdict}
 use Rattle.line.specs.declared.walk.Walk.{Walk}
 use Rattle.line.specs.declared.walk.Walk.the-variants.{Fine, Stopped}
-use Rattle.line.specs.declared.read.Line.{Line}
-use Rattle.line.specs.declared.read.LineAnswer.{LineAnswer}
-use Rattle.line.specs.declared.read.LineAnswer.the-variants.{Accepted, Refused}
-use Rattle.line.proofs.Splits.{allIn, split-joined}
-use Rattle.line.proofs.Plain.{all-also, all-in-also, plain-text, plain-in-field, joined-text}
+use Rattle.line.specs.declared.read.LineAnswer.the-variants.{Refused}
+use Rattle.line.proofs.Splits.{all-in-front}
+use Rattle.line.proofs.Plain.{parts-split}
 use Rattle.line.proofs.Passing.{fine-each, each-fine}
 use Rattle.grammar.specs.Grammar.{FieldsOk}
 use Rattle.grammar.proofs.Fields.{each-fields, fields-each}
 use Rattle.refused.specs.Line.{Stands, FirstBad, Counted, RefusedLine}
-use Rattle.refused.proofs.Choosing.{choice}
-use Rattle.refused.proofs.Stopping.{stopped-stops, stops-stopped}
+use Rattle.line.proofs.Stopping.{stopped-stops, stops-stopped}
 use Rattle.refused.proofs.Fields.{bad-refused, refused-bad, starts-behind}
-
--- a text with plain parts falls into them again
-module _ (name : List ℕ) (fs : List (List ℕ)) (p : allIn plain (name ∷ fs) ≡ true) where
-  front-plain : all plain name ≡ true
-  front-plain = and-left (all plain name) (allIn plain fs) p
-
-  pub fields-plain : allIn plain fs ≡ true
-  fields-plain = and-right (all plain name) (allIn plain fs) p
-
-  pub parts-split : split (name ++ joined fs) ≡ name ∷ fs
-  parts-split = split-joined name fs (all-also plain inField plain-in-field name front-plain) (all-in-also plain inField plain-in-field fs fields-plain)
-
-  pub parts-bytes : all textByte (name ++ joined fs) ≡ true
-  parts-bytes =
-      all-append textByte name (joined fs) (all-also plain textByte plain-text name front-plain)
-      (joined-text fs (all-in-also plain textByte plain-text fs fields-plain))
 
 unknown : {kind : Record} → Unknown ≡ Known kind → ⊥
 unknown e = let z : _≡_ {A = ℕ} 0 1 = cc in omega arith
@@ -75,16 +54,17 @@ starts-there : (kind : Record) (offset : ℕ) (front : List (List ℕ)) →
 starts-there kind offset front =
     omega (arith, length-append (typeOf kind) (joined front), length-append (textOf kind front) (bytes ";"))
 
-refused-same : {refusal other : Refusal} → Refused refusal ≡ Refused other → refusal ≡ other
-refused-same e = cc
-
 module _ (told : Told) (offset : ℕ) (left : List ℕ) (refusal : Refusal) where
-  pub same-line : (other : Refusal) → RefusedLine told offset left other → Refused other ≡ Refused refusal → RefusedLine told offset left refusal
-  same-line other g e = subst (RefusedLine told offset left) (refused-same e) g
+  pub same-line : (other : Refusal) → RefusedLine told offset left other → Refused other ≡ Refused refusal →
+      RefusedLine told offset left refusal
+  same-line other g e = let same : other ≡ refusal = cc in subst (RefusedLine told offset left) same g
 
   module _ (kind : Record) (fs : List (List ℕ)) (g : Stands left (typeOf kind) fs) where
     abbrev text : List ℕ
     text = typeOf kind ++ joined fs
+
+    fields-plain : allIn plain fs ≡ true
+    fields-plain = and-right (all plain (typeOf kind)) (allIn plain fs) (g .clean)
 
     abbrev walks : Walk
     walks = walk (told .rules kind) 1 (offset + length (typeOf kind) + 1) (typeOf kind) fs
@@ -104,30 +84,27 @@ module _ (told : Told) (offset : ℕ) (left : List ℕ) (refusal : Refusal) wher
             let r = stopped-stops (tested rows) behind 1 place (typeOf kind) fs other ew in
             let there = starts-behind rows place (r .front) ∙ starts-there kind offset (r .front) in
             let first : FirstBad rows (typeOf kind) (r .front) (r .field) (r .why) = record {
-              before = each-fields rows 1 (typeOf kind) (r .front) (front-plain-in (r .front) (r .field ∷ r .more) (sym (ap (allIn plain) (r .parts)) ∙ fields-plain (typeOf kind) fs (g .clean))) (r .before);
+              before =
+                  each-fields rows 1 (typeOf kind) (r .front)
+                  (all-in-front plain (r .front) (r .field ∷ r .more) (sym (ap (allIn plain) (r .parts)) ∙ fields-plain)) (r .before);
               here = bad-refused rows (1 + length (r .front)) _ (r .field) (r .why) (r .here);
             } in
             same-line other
             (subst (RefusedLine told offset left) (sym (r .is ∙ ap (because (r .why)) there))
             (RefusedLine.bad-field kind (r .front) (r .field) (r .more) (r .why) (subst (Counted told left kind) (r .parts) good) first))
             ea
-          where
-            front-plain-in : (xs ys : List (List ℕ)) → allIn plain (xs ++ ys) ≡ true → allIn plain xs ≡ true
-            front-plain-in [] ys e = refl
-            front-plain-in (x ∷ xs) ys e =
-                and-both (all plain x) (allIn plain xs) (and-left (all plain x) (allIn plain (xs ++ ys)) e)
-                (front-plain-in xs ys (and-right (all plain x) (allIn plain (xs ++ ys)) e))
         go Fine ew ea =
             choice (lacks kind (split text)) (Refused (because FeatureLacks offset)) _ (Refused refusal)
             (λ l q. same-line (because FeatureLacks offset)
             (RefusedLine.feature-lacks kind fs good
-            (each-fields (told .rules kind) 1 (typeOf kind) fs (fields-plain (typeOf kind) fs (g .clean))
+            (each-fields (told .rules kind) 1 (typeOf kind) fs fields-plain
             (fine-each (tested (told .rules kind)) behind 1 (offset + length (typeOf kind) + 1) (typeOf kind) fs ew))
             (ap (lacks kind) (sym (parts-split (typeOf kind) fs (g .clean))) ∙ l)) q)
             (λ l q. absurd (no-pass lineVerdict refl refl (sym q)))
             ea
 
-    of-kind : mayCome (told .due) kind ≡ true → ofKind (told .rules) kind offset text ≡ Refused refusal → RefusedLine told offset left refusal
+    of-kind : mayCome (told .due) kind ≡ true → ofKind (told .rules) kind offset text ≡ Refused refusal →
+        RefusedLine told offset left refusal
     unfolding ofKind
     of-kind m e =
         choice (not (countFits kind (length fs))) (Refused (because FieldCount offset)) (afterWalk walks kind offset text) (Refused refusal)
@@ -167,7 +144,8 @@ module _ (told : Told) (offset : ℕ) where
     text-order m = rw (parts-split (typeOf kind) fs p, type-named kind, m)
 
     module _ (m : mayCome (told .due) kind ≡ true) where
-      pub text-count : countFits kind (length fs) ≡ false → ofText told offset (typeOf kind ++ joined fs) ≡ Refused (because FieldCount offset)
+      pub text-count : countFits kind (length fs) ≡ false →
+          ofText told offset (typeOf kind ++ joined fs) ≡ Refused (because FieldCount offset)
       unfolding ofText ofNamed ofKind
       text-count c = rw (parts-split (typeOf kind) fs p, type-named kind, m, parts-split (typeOf kind) fs p, c)
 

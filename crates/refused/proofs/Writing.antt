@@ -1,7 +1,7 @@
 -- A line is not written exactly when its record, its ends, its fields or the room say so.
-use Prim.Native.Nat.{ℕ, suc, _+_, _≤_}
+use Prim.Native.Nat.{ℕ, suc, _+_}
 use mathlib.Core.Path.{_≡_, refl, sym, ap, subst, _∙_}
-use mathlib.Core.Bool.{Bool, true, false, not}
+use mathlib.Core.Bool.{false, not}
 use mathlib.Core.List.{List, [], _∷_, _++_}
 use mathlib.Core.Logic.{_↔_, ⊎-elim}
 use native.Mathlib.Omega.{arith}
@@ -9,7 +9,7 @@ use lib.Dec.{leb}
 use lib.ListN.{length}
 use borrow.Author.Tests.{leb-false, lt-leb, not-true, not-false}
 use Rattle.text.specs.Scan.{all}
-use Rattle.text.proofs.Choices.{true-or-false, clash}
+use Rattle.text.proofs.Choices.{choice, true-or-false, clash}
 use Rattle.refusal.specs.Table.{because}
 use Rattle.refusal.specs.declared.Refusal.{Refusal}
 use Rattle.refusal.specs.declared.Reason.{Reason}
@@ -31,13 +31,13 @@ use Rattle.line.specs.declared.walk.Walk.the-variants.{Fine, Stopped}
 use Rattle.line.proofs.Passing.{fine-each, each-fine}
 use Rattle.grammar.specs.Grammar.{FieldsOk}
 use Rattle.grammar.proofs.Back.{walked-fields, fields-walked}
-use Rattle.writer.specs.Write.{recordNumbered, endsHold, between, ifPlain, testedToWrite, nextNumber, walked, ofFields, afterWalk, ofRecord, writeAnswer}
+use Rattle.writer.specs.Write.{recordNumbered, endsHold, between, ifPlain, testedToWrite}
+use Rattle.writer.specs.Write.{nextNumber, walked, ofFields, afterWalk, ofRecord, writeAnswer}
 use Rattle.writer.specs.Write.{writtenTo, Writes, writeVerdict}
 use Rattle.writer.specs.declared.write.WriteAnswer.the-variants.{Written, Refused}
 use Rattle.writer.proofs.Ends.{between-count}
 use Rattle.refused.specs.Write.{RefusedToWrite, Handed, RefusedWrite}
-use Rattle.refused.proofs.Choosing.{choice}
-use Rattle.refused.proofs.Stopping.{placeBehind, stopped-stops, stops-stopped}
+use Rattle.line.proofs.Stopping.{placeBehind, stopped-stops, stops-stopped}
 use Rattle.refused.proofs.Fields.{bad-same, bad-refused, refused-bad}
 
 module _ (rows : List Row) (n : ℕ) (beside f : List ℕ) where
@@ -69,16 +69,13 @@ number-behind : (rows : List Row) (n : ℕ) (front : List (List ℕ)) → placeB
 number-behind rows n [] = omega arith
 number-behind rows n (f ∷ front) = omega (arith, number-behind rows (suc n) front)
 
-refused-same : {refusal other : Refusal} → Refused refusal ≡ Refused other → refusal ≡ other
-refused-same e = cc
-
 module _ (number : ℕ) (text ends : List ℕ) (size fill : ℕ) where
   module _ (refusal : Refusal) where
     abbrev Goal : Type 0
     Goal = RefusedWrite number text ends size fill refusal
 
     is : (other : Refusal) → RefusedWrite number text ends size fill other → Refused other ≡ Refused refusal → Goal
-    is other g e = subst (RefusedWrite number text ends size fill) (refused-same e) g
+    is other g e = let same : other ≡ refusal = cc in subst (RefusedWrite number text ends size fill) same g
 
     module _ (kind : Record) (h : Handed number text ends kind (between text ends)) where
       abbrev fs : List (List ℕ)
@@ -128,15 +125,18 @@ module _ (number : ℕ) (text ends : List ℕ) (size fill : ℕ) where
             }) (walked (profile kind) 1 (typeOf kind) (between text ends)) refl r)) q
 
   -- and the other way round
-  handed-answer : (kind : Record) (fs : List (List ℕ)) → Handed number text ends kind fs → (w : Walk) → walked (profile kind) 1 (typeOf kind) fs ≡ w →
+  handed-answer : (kind : Record) (fs : List (List ℕ)) → Handed number text ends kind fs → (w : Walk) →
+      walked (profile kind) 1 (typeOf kind) fs ≡ w →
       writeAnswer number text ends size fill ≡ afterWalk w kind fs size fill
   unfolding writeAnswer ofRecord
   handed-answer kind fs h w e = rw (h .known, h .held, h .counted, h .fields, e)
 
-  fine-walk : (kind : Record) (fs : List (List ℕ)) → FieldsOk (profile kind) 1 (typeOf kind) fs → walked (profile kind) 1 (typeOf kind) fs ≡ Fine
+  fine-walk : (kind : Record) (fs : List (List ℕ)) → FieldsOk (profile kind) 1 (typeOf kind) fs →
+      walked (profile kind) 1 (typeOf kind) fs ≡ Fine
   fine-walk kind fs g = each-fine (testedToWrite (profile kind)) nextNumber 1 1 (typeOf kind) fs (fields-walked (profile kind) 1 (typeOf kind) fs g)
 
-  write-answer : (refusal : Refusal) → RefusedWrite number text ends size fill refusal → writeAnswer number text ends size fill ≡ Refused refusal
+  write-answer : (refusal : Refusal) → RefusedWrite number text ends size fill refusal →
+      writeAnswer number text ends size fill ≡ Refused refusal
   unfolding writeAnswer ofRecord ofFields
   write-answer refusal (RefusedWrite.unknown-record e) = rw e
   write-answer refusal (RefusedWrite.field-ends kind k e) = rw (k, e)

@@ -20,7 +20,8 @@ use Rattle.file.specs.File.{listOf}
 use Rattle.file.specs.declared.whole.FileAnswer.{FileAnswer}
 use Rattle.file.specs.declared.whole.FileAnswer.the-variants.{Accepted, Refused}
 use Rattle.grammar.specs.Grammar.{LineOk}
-use Rattle.allowed.specs.Allowed.{FileLine, lineBytes, fileBytes, LinesOk, identcodes, oneOfCodes, NoneTwice, AllowedFile, totalsOf, lineStarts}
+use Rattle.allowed.specs.Allowed.{FileLine, lineBytes, fileBytes, LinesOk, identcodes, oneOfCodes, NoneTwice}
+use Rattle.allowed.specs.Allowed.{AllowedFile, totalsOf, lineStarts}
 use Rattle.refused.specs.Line.{RefusedLine}
 
 -- "Record order": each of these records may come where it comes

@@ -25,12 +25,12 @@ use Rattle.refusal.specs.declared.Reason.the-variants.{
 use Rattle.fields.specs.Record.{typeOf, countFits, mayCome}
 use Rattle.fields.specs.Profile.{Row, Rules, widthOf, isRequired, hasForm}
 use Rattle.fields.specs.declared.record.Record.{Record}
-use Rattle.line.specs.Render.{joined, textOf, plain}
+use Rattle.line.specs.Parts.{partBefore}
+use Rattle.line.specs.Render.{joined, textOf, plain, allIn}
 use Rattle.line.specs.Need.{lacks}
 use Rattle.line.specs.Told.{Told}
 use Rattle.line.specs.Line.{fileLimit, alone}
 use Rattle.line.specs.declared.read.Line.{Line}
-use Rattle.line.proofs.Splits.{allIn}
 use Rattle.grammar.specs.Grammar.{Filled, FieldsOk, Reads}
 
 -- these bytes, behind the text of a line, do not end it: "a line's first non-text byte is missing or not CR LF"
@@ -53,11 +53,6 @@ pub data RefusedField (rows : List Row) (n : ℕ) (beside f : List ℕ) : Reason
   -- "field form wrong"
   formless : length f ≤ widthOf rows n beside → Filled f → hasForm rows n beside f ≡ false → RefusedField rows n beside f FieldForm
 
--- the part in front of a field: the last of the fields in front of it, or the record type
-abbrev pub partBefore : List ℕ → List (List ℕ) → List ℕ
-partBefore name [] = name
-partBefore name (f ∷ front) = partBefore f front
-
 -- "the fields from left to right": those in front are fine, and this one is refused
 pub record FirstBad (rows : List Row) (name : List ℕ) (front : List (List ℕ)) (f : List ℕ) (why : Reason) : Type 0 where
   pub before : FieldsOk rows 1 name front
@@ -69,40 +64,40 @@ pub record Counted (told : Told) (left : List ℕ) (kind : Record) (fs : List (L
   pub comes : mayCome (told .due) kind ≡ true
   pub counted : countFits kind (length fs) ≡ true
 
--- "then on each line 2, 3, 4, 5, then the fields from left to right (6, 7, 8 for each), 9": the bytes from this offset on are refused
--- as a line, with this number and place
+-- "on each line 2, 3, 4, 5, then the fields from left to right (6, 7, 8 for each), then 9": the bytes that are left, from this offset on,
+-- are refused as a line, with this number and place
 pub data RefusedLine (told : Told) (offset : ℕ) (left : List ℕ) : Refusal → Type 0 where
-  -- 2, at "that byte, or the file's length"
+  -- 2: "a line's first non-text byte is missing or not CR LF", at "that byte, or the file's length"
   no-line-end :
       (text behind : List ℕ) → left ≡ text ++ behind → all textByte text ≡ true → NoEnd behind →
       RefusedLine told offset left (because NoLineEnd (offset + length text))
-  -- 3, at "line start"
+  -- 3: "unknown record type", at "line start"
   unknown-record :
       (name : List ℕ) (fs : List (List ℕ)) → Stands left name fs → ((kind : Record) → name ≡ typeOf kind → ⊥) →
       RefusedLine told offset left (because UnknownRecord offset)
-  -- 4, at "line start"
+  -- 4: "record out of order", at "line start"
   out-of-order :
       (kind : Record) (fs : List (List ℕ)) → Stands left (typeOf kind) fs → mayCome (told .due) kind ≡ false →
       RefusedLine told offset left (because OutOfOrder offset)
-  -- 5, at "line start"
+  -- 5: "wrong number of fields", at "line start"
   field-count :
       (kind : Record) (fs : List (List ℕ)) → Stands left (typeOf kind) fs → mayCome (told .due) kind ≡ true →
       countFits kind (length fs) ≡ false → RefusedLine told offset left (because FieldCount offset)
-  -- 6, 7, 8, at "field start"
+  -- 6, 7, 8, at "field start": behind the record type, the fields in front of it and its semicolon
   bad-field :
       (kind : Record) (front : List (List ℕ)) (f : List ℕ) (more : List (List ℕ)) (why : Reason) →
       Counted told left kind (front ++ f ∷ more) → FirstBad (told .rules kind) (typeOf kind) front f why →
       RefusedLine told offset left (because why (offset + length (textOf kind front ++ bytes ";")))
-  -- 9, at "line start"
+  -- 9: "feature lacks a needed field", at "line start"
   feature-lacks :
       (kind : Record) (fs : List (List ℕ)) → Counted told left kind fs → FieldsOk (told .rules kind) 1 (typeOf kind) fs →
       lacks kind (typeOf kind ∷ fs) ≡ true → RefusedLine told offset left (because FeatureLacks offset)
 
--- "One line at an offset"
+-- "One line at an offset, judged alone (1, 2, 3, 5 to 9)", and in a file where a record is due
 pub data RefusedAt (told : Told) (file : List ℕ) (offset : ℕ) : Refusal → Type 0 where
   -- 1: "file over 65,535 bytes", at "65,535"
   file-too-long : fileLimit < length file → RefusedAt told file offset (because FileTooLong fileLimit)
-  -- 2: "or an offset lies past the file"
+  -- 2: "or an offset lies past the file", at "the file's length"
   past-the-file : length file ≤ fileLimit → length file < offset → RefusedAt told file offset (because NoLineEnd (length file))
   line-refused :
       (refusal : Refusal) → length file ≤ fileLimit → offset ≤ length file → RefusedLine told offset (drop offset file) refusal →

@@ -22,12 +22,12 @@ pub record FirstWrong (ok : ℕ → ℕ → Bool) (s : List ℕ) (i : ℕ) : Typ
   pub here : ok i (getD s i 0) ≡ false
 
 pub data RefusedNumber (s : List ℕ) : Refusal → Type 0 where
-  -- 16
+  -- 16: "wrong length of a number"
   wrong-length : ((kind : Kind) → length s ≡ lengthOf kind → ⊥) → RefusedNumber s (because WrongLength 0)
-  -- 17
+  -- 17: "symbol not allowed at its place", at "first such symbol"
   wrong-symbol :
       (kind : Kind) (i : ℕ) → length s ≡ lengthOf kind → FirstWrong (allowed kind) s i → RefusedNumber s (because WrongSymbol i)
-  -- 18, at "last symbol"
+  -- 18: "check wrong", at "last symbol"
   wrong-check :
       (kind : Kind) → length s ≡ lengthOf kind → Shaped (allowed kind) s → passes s ≡ false →
       RefusedNumber s (because WrongCheck (length s - 1))
@@ -35,7 +35,7 @@ pub data RefusedNumber (s : List ℕ) : Refusal → Type 0 where
 pub data RefusedIban (s : List ℕ) : Refusal → Type 0 where
   -- 16: "15 to 34 long"
   wrong-length : (15 ≤ length s → length s ≤ 34 → ⊥) → RefusedIban s (because WrongLength 0)
-  -- 17
+  -- 17: "symbol not allowed at its place", at "first such symbol"
   wrong-symbol : (i : ℕ) → 15 ≤ length s → length s ≤ 34 → FirstWrong allowedInIban s i → RefusedIban s (because WrongSymbol i)
   -- 18, at "for an IBAN 2": "Check digits 00, 01 and 99 are 18", and so is a remainder by 97 that is not 1
   wrong-check :
@@ -44,13 +44,13 @@ pub data RefusedIban (s : List ℕ) : Refusal → Type 0 where
 
 -- a body whose check would be issued into an output of so many bytes
 pub data RefusedIssue (body : List ℕ) (room : ℕ) : Refusal → Type 0 where
-  -- 16
+  -- 16: "wrong length of a number"
   wrong-length : ((kind : Kind) → length body + 1 ≡ lengthOf kind → ⊥) → RefusedIssue body room (because WrongLength 0)
-  -- 17
+  -- 17: "symbol not allowed at its place", at "first such symbol"
   wrong-symbol :
       (kind : Kind) (i : ℕ) → length body + 1 ≡ lengthOf kind → FirstWrong (allowed kind) body i →
       RefusedIssue body room (because WrongSymbol i)
-  -- 13
+  -- 13: "output too short"
   too-short :
       (kind : Kind) → length body + 1 ≡ lengthOf kind → Shaped (allowed kind) body → room < lengthOf kind →
       RefusedIssue body room (because OutputTooShort 0)

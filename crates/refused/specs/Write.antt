@@ -14,11 +14,12 @@ use Rattle.fields.specs.Record.{typeOf, countFits}
 use Rattle.fields.specs.Profile.{Row, profile, widthOf}
 use Rattle.fields.specs.declared.record.Record.{Record}
 use Rattle.fields.specs.declared.record.Named.the-variants.{Known, Unknown}
+use Rattle.line.specs.Parts.{partBefore}
 use Rattle.line.specs.Render.{render, plain}
 use Rattle.line.specs.Need.{lacks}
 use Rattle.grammar.specs.Grammar.{FieldsOk, LineOk}
 use Rattle.writer.specs.Write.{recordNumbered, endsHold, between}
-use Rattle.refused.specs.Line.{RefusedField, partBefore}
+use Rattle.refused.specs.Line.{RefusedField}
 
 -- the field with this number, beside it the part in front of it
 pub data RefusedToWrite (rows : List Row) (n : ℕ) (beside f : List ℕ) : Reason → Type 0 where
@@ -35,27 +36,27 @@ pub record Handed (number : ℕ) (text ends : List ℕ) (kind : Record) (fs : Li
 
 -- a line is not written into an output of this size behind its fill, with this number and place
 pub data RefusedWrite (number : ℕ) (text ends : List ℕ) (size fill : ℕ) : Refusal → Type 0 where
-  -- 3
+  -- 3: "unknown record type"
   unknown-record : recordNumbered number ≡ Unknown → RefusedWrite number text ends size fill (because UnknownRecord 0)
-  -- 14
+  -- 14: "field ends fall, or the last is not the text's length, or no ends with text"
   field-ends :
       (kind : Record) → recordNumbered number ≡ Known kind → endsHold ends (length text) ≡ false →
       RefusedWrite number text ends size fill (because FieldEnds 0)
-  -- 5
+  -- 5: "wrong number of fields"
   field-count :
       (kind : Record) → recordNumbered number ≡ Known kind → endsHold ends (length text) ≡ true → countFits kind (length ends) ≡ false →
       RefusedWrite number text ends size fill (because FieldCount 0)
-  -- 6, 7, 8, at "the field number"
+  -- 6, 7, 8, at "the field number": those in front are fine, and this one is refused
   bad-field :
       (kind : Record) (front : List (List ℕ)) (f : List ℕ) (more : List (List ℕ)) (why : Reason) →
       Handed number text ends kind (front ++ f ∷ more) → FieldsOk (profile kind) 1 (typeOf kind) front →
       RefusedToWrite (profile kind) (1 + length front) (partBefore (typeOf kind) front) f why →
       RefusedWrite number text ends size fill (because why (1 + length front))
-  -- 9
+  -- 9: "feature lacks a needed field"
   feature-lacks :
       (kind : Record) (fs : List (List ℕ)) → Handed number text ends kind fs → FieldsOk (profile kind) 1 (typeOf kind) fs →
       lacks kind (typeOf kind ∷ fs) ≡ true → RefusedWrite number text ends size fill (because FeatureLacks 0)
-  -- 13
+  -- 13: "output too short"; "A fill past the output is 13."
   too-short :
       (kind : Record) (fs : List (List ℕ)) → Handed number text ends kind fs → LineOk profile kind fs →
       size < fill + length (render kind fs) → RefusedWrite number text ends size fill (because OutputTooShort 0)

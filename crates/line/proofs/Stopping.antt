@@ -1,6 +1,6 @@
 -- A walk over fields stops exactly at the first field that does not pass its test, whatever the test.
 use Prim.Native.Nat.{ℕ, suc, _+_}
-use mathlib.Core.Path.{_≡_, refl, sym, ap, _∙_}
+use mathlib.Core.Path.{_≡_, refl, ap}
 use mathlib.Core.List.{List, [], _∷_, _++_}
 use native.Mathlib.Nat.{add-zero, add-suc, suc-add}
 use native.Mathlib.Omega.{arith}
@@ -10,11 +10,10 @@ use Rattle.refusal.specs.declared.Refusal.{Refusal}
 use Rattle.refusal.specs.declared.Reason.{Reason}
 use Rattle.fields.specs.declared.field.Tested.{Tested}
 use Rattle.fields.specs.declared.field.Tested.the-variants.{Good, Bad}
+use Rattle.line.specs.Parts.{partBefore}
 use Rattle.line.specs.Walk.{onTest, walkBy}
-use Rattle.line.specs.declared.walk.Walk.{Walk}
 use Rattle.line.specs.declared.walk.Walk.the-variants.{Fine, Stopped}
 use Rattle.line.proofs.Passing.{Each}
-use Rattle.refused.specs.Line.{partBefore}
 
 fine-stopped : {A : Type 0} {refusal : Refusal} → Fine ≡ Stopped refusal → A
 fine-stopped e = let z : _≡_ {A = ℕ} 0 1 = cc in absurd (omega arith)
