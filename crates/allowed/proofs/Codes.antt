@@ -22,7 +22,7 @@ use Rattle.file.proofs.Sowing.{earlier-more}
 use Rattle.allowed.specs.Allowed.{codeOf, oneOfCodes}
 
 -- the identcode of a parcel line where it stands
-code-here : (s : List ℕ) (at : ℕ) (fs : List (List ℕ)) (rest : List ℕ) → drop at s ≡ render Parcel fs ++ rest → LineOk profile Parcel fs →
+pub code-here : (s : List ℕ) (at : ℕ) (fs : List (List ℕ)) (rest : List ℕ) → drop at s ≡ render Parcel fs ++ rest → LineOk profile Parcel fs →
     identcodeAt s at ≡ fieldNo fs 1
 code-here s at [] rest there ok = absurd (false≢true (ok .counted))
 code-here s at (f ∷ fs) rest there ok = code-there s at f fs rest there (parcel-code sound Parcel (f ∷ fs) refl ok)

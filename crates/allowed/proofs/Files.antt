@@ -10,7 +10,6 @@ use borrow.Author.Tests.{ltb-false, le-ltb}
 use Rattle.text.proofs.Choices.{came-else}
 use Rattle.refusal.specs.declared.Reason.the-variants.{FileTooLong}
 use Rattle.refusal.specs.Table.{because}
-use Rattle.refusal.specs.declared.Refusal.{Refusal}
 use Rattle.refusal.proofs.Verdicts.{no-pass}
 use Rattle.fields.specs.declared.record.Record.{Record}
 use Rattle.fields.specs.declared.record.Due.{Due}
@@ -65,7 +64,7 @@ each (l ∷ ls) left codes due w =
     )
 
 -- a line has bytes
-line-some : (l : FileLine) → 2 ≤ length (lineBytes l)
+pub line-some : (l : FileLine) → 2 ≤ length (lineBytes l)
 line-some l = omega (arith, render-long (l .kind) (l .fields))
 
 few-lines : (ls : List FileLine) → length ls ≤ length (fileBytes ls)

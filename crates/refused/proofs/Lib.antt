@@ -1,0 +1,11 @@
+pub mod Fields
+pub mod Texts
+pub mod Lines
+pub mod Seeking
+pub mod Beginning
+pub mod Files
+pub mod Deciding
+pub mod Writing
+pub mod Purposes
+pub mod Wrong
+pub mod Numbers
