@@ -26,7 +26,9 @@ use Rattle.allowed.proofs.Files.{accepted-allowed, allowed-accepted}
 use Rattle.refused.specs.Line.{RefusedAt}
 use Rattle.refused.specs.File.{Come, dueBehind, Begins, RefusedFile, Means}
 use Rattle.refused.proofs.Lines.{answer-refused, refused-answer}
-use Rattle.refused.proofs.Files.{judged-refused, refused-judged, refused-exactly}
+use Rattle.refused.proofs.Refusing.{judged-refused}
+use Rattle.refused.proofs.Reaching.{refused-judged}
+use Rattle.refused.proofs.Files.{refused-exactly}
 
 said : FileAnswer → List ℕ → Judged
 said answer starts = record { answer = answer; starts = starts }

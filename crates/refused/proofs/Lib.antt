@@ -3,6 +3,9 @@ pub mod Texts
 pub mod Lines
 pub mod Seeking
 pub mod Beginning
+pub mod Standing
+pub mod Refusing
+pub mod Reaching
 pub mod Files
 pub mod Deciding
 pub mod Writing
