@@ -12,3 +12,4 @@ pub mod Writing
 pub mod Purposes
 pub mod Wrong
 pub mod Numbers
+pub mod Either
