@@ -2,7 +2,7 @@
 -- are those of the file's own lines. A written line reads back to its fields, and an accepted line written again gives its own bytes.
 -- DPD numbers and IBANs pass exactly by ISO 7064."
 use Prim.Native.Nat.{ℕ, _+_, _-_, _≤_}
-use mathlib.Core.Path.{_≡_, refl, sym, ap, _∙_}
+use mathlib.Core.Path.{_≡_, sym, _∙_}
 use mathlib.Core.List.{List, _++_}
 use mathlib.Core.Logic.{_↔_}
 use lib.ListN.{length, take, drop}
@@ -22,9 +22,8 @@ use Rattle.line.specs.declared.find.FieldAnswer.the-variants.{Found}
 use Rattle.grammar.specs.Grammar.{Reads, Finds}
 use Rattle.grammar.proofs.Lines as lines
 use Rattle.grammar.proofs.Finding as finding
-use Rattle.file.specs.File.{Judged, judged, listOf, Judges}
+use Rattle.file.specs.File.{listOf, Judges}
 use Rattle.file.specs.declared.whole.Totals.{Totals}
-use Rattle.file.specs.declared.whole.FileAnswer.{FileAnswer}
 use Rattle.file.specs.declared.whole.FileAnswer.the-variants.{Accepted as AcceptedFile}
 use Rattle.fields.specs.declared.record.Record.{Record}
 use Rattle.fields.specs.declared.record.Named.the-variants.{Known}
@@ -35,42 +34,19 @@ use Rattle.writer.specs.declared.write.WriteAnswer.{WriteAnswer}
 use Rattle.writer.specs.declared.write.WriteAnswer.the-variants.{Written}
 use Rattle.grammar.proofs.Back as writing
 use Rattle.allowed.specs.Allowed.{FileLine, AllowedFile, totalsOf, lineStarts}
-use Rattle.allowed.proofs.Files.{accepted-allowed, allowed-accepted, one-division}
+use Rattle.allowed.proofs.Files.{one-division}
+use Rattle.refused.proofs.Deciding.{judge-exactly}
 use Rattle.slips.specs.Exactly.{SoundNumber, SoundIban, bodyOf}
 use Rattle.slips.proofs.Numbers as numbers
 use Rattle.slips.proofs.Ibans as ibans
 use Rattle.slips.proofs.Issues.{issued-sound, sound-issued}
-
-said : FileAnswer → List ℕ → Judged
-said answer starts = record { answer = answer; starts = starts }
 
 -- A file is accepted, with these totals and this list, exactly when it is allowed, the list has a word for each of its lines, the
 -- totals are those of its lines, and each word is where that line starts, every other 0. So a judge that refuses everything, one
 -- with a constant answer and invented counts are shut out.
 pub file-exactly : (s : List ℕ) (words : ℕ) (totals : Totals) (list : List ℕ) → Judges s words (AcceptedFile totals) list ↔
     ((ls : List FileLine) × AllowedFile s ls × (length ls ≤ words) × (totals ≡ totalsOf ls) × (list ≡ listOf words (lineStarts 0 ls)))
-unfolding said
-file-exactly s words totals list = (forth, back)
-  where
-    forth : Judges s words (AcceptedFile totals) list → (ls : List FileLine) ×
-        AllowedFile s ls × (length ls ≤ words) × (totals ≡ totalsOf ls) × (list ≡ listOf words (lineStarts 0 ls))
-    forth j =
-        let g = accepted-allowed s words totals (judged s words .starts) (ap
-        (λ (a : FileAnswer). said a (judged s words .starts)) (sym (j .0))) in
-        (g .lines, g .allowed, g .room, g .counts, j .1 ∙ ap (listOf words) (g .list))
-
-    back : (ls : List FileLine) × AllowedFile s ls × (length ls ≤ words) × (totals ≡ totalsOf ls) ×
-        (list ≡ listOf words (lineStarts 0 ls)) → Judges s words (AcceptedFile totals) list
-    back g =
-        let e = allowed-accepted s words totals (lineStarts 0 (g .0)) (record {
-          lines = g .0;
-          allowed = g .1;
-          room = g .2;
-          counts =
-              g .3;
-          list = refl;
-        }) in
-        (sym (ap (λ (j : Judged). j .answer) e), g .4 ∙ sym (ap (λ (j : Judged). listOf words (j .starts)) e))
+file-exactly s words totals list = judge-exactly s words (AcceptedFile totals) list
 
 -- No other division of the bytes into lines exists: the lines of an allowed file are its own.
 pub one-division-into-lines : (s : List ℕ) (ls ks : List FileLine) → AllowedFile s ls → AllowedFile s ks → ls ≡ ks

@@ -10,6 +10,7 @@ use lib.ListN.{length, replicate}
 use Rattle.refusal.specs.declared.Refusal.{Refusal}
 use Rattle.check_characters.specs.Number.{Issues, checkedNumber}
 use Rattle.check_characters.specs.Iban.{checkedIban}
+use Rattle.check_characters.specs.declared.number.Kind.{Kind}
 use Rattle.check_characters.specs.declared.number.NumberAnswer.the-variants.{Refused as RefusedAsNumber}
 use Rattle.check_characters.specs.declared.number.IssueAnswer.the-variants.{Refused as NotIssued}
 use Rattle.check_characters.specs.declared.iban.IbanAnswer.the-variants.{Refused as RefusedAsIban}
@@ -28,8 +29,10 @@ use Rattle.writer.specs.Write.{Writes}
 use Rattle.writer.specs.declared.write.WriteAnswer.the-variants.{Refused as NotWritten}
 use Rattle.purpose.specs.Purpose.{Purposes}
 use Rattle.purpose.specs.declared.write.PurposeAnswer.the-variants.{Refused as NoPurpose}
-use Rattle.grammar.specs.Grammar.{Reads}
+use Rattle.grammar.specs.Grammar.{Reads, Finds}
+use Rattle.grammar.specs.Written.{Writable}
 use Rattle.allowed.specs.Allowed.{FileLine, AllowedFile}
+use Rattle.slips.specs.Exactly.{SoundNumber, SoundIban}
 use Rattle.refused.specs.Line.{RefusedAt, RefusedFind}
 use Rattle.refused.specs.File.{Begins, dueBehind, RefusedFile, Means}
 use Rattle.refused.specs.Write.{RefusedWrite}
@@ -42,6 +45,7 @@ use Rattle.refused.proofs.Deciding as deciding
 use Rattle.refused.proofs.Writing as writing
 use Rattle.refused.proofs.Purposes as purposes
 use Rattle.refused.proofs.Numbers as numbers
+use Rattle.refused.proofs.Either as either
 
 -- A file is refused exactly when it is too long; or it begins with lines that are allowed, and the next one is refused by its own rule,
 -- repeats an identcode, or finds no word in the list; or its lines are all fine and it ends where a record is due. "On a refusal all words
@@ -80,16 +84,6 @@ pub line-refused-exactly : (file : List ℕ) (offset : ℕ) (refusal : Refusal) 
     (lineAnswer (alone profile) file offset ≡ RefusedAsLine refusal) ↔ RefusedAt (alone profile) file offset refusal
 line-refused-exactly = lines.line-refused-exactly (alone profile)
 
--- Every line is allowed or refused, never both.
-pub line-always-one : (file : List ℕ) (offset : ℕ) →
-    ((line : Line) × ((fs : List (List ℕ)) × Reads (alone profile) file offset line fs)) ⊎
-    ((refusal : Refusal) × RefusedAt (alone profile) file offset refusal)
-line-always-one = deciding.line-always-one (alone profile)
-
-pub line-never-both : (file : List ℕ) (offset : ℕ) (line : Line) (fs : List (List ℕ)) (refusal : Refusal) →
-    Reads (alone profile) file offset line fs → RefusedAt (alone profile) file offset refusal → ⊥
-line-never-both = deciding.line-never-both (alone profile)
-
 -- One field of it: the line's refusals, then 15.
 pub field-refused-exactly : (file : List ℕ) (offset n : ℕ) (refusal : Refusal) →
     (fieldAnswer profile file offset n ≡ NotFound refusal) ↔ RefusedFind profile file offset n refusal
@@ -119,3 +113,47 @@ iban-refused-exactly = numbers.iban-refused-exactly
 pub issue-refused-exactly : (body output : List ℕ) (refusal : Refusal) (after : List ℕ) →
     Issues body output (NotIssued refusal) after ↔ (RefusedIssue body (length output) refusal × (after ≡ output))
 issue-refused-exactly = numbers.issue-refused-exactly
+
+-- A line, a field, a writing, a number and an IBAN pass or are refused, never both.
+pub line-always-one : (file : List ℕ) (offset : ℕ) →
+    ((line : Line) × ((fs : List (List ℕ)) × Reads (alone profile) file offset line fs)) ⊎
+    ((refusal : Refusal) × RefusedAt (alone profile) file offset refusal)
+line-always-one = either.line-always-one (alone profile)
+
+pub line-never-both : (file : List ℕ) (offset : ℕ) (refusal : Refusal) →
+    (line : Line) × ((fs : List (List ℕ)) × Reads (alone profile) file offset line fs) →
+    RefusedAt (alone profile) file offset refusal → ⊥
+line-never-both = either.line-never-both (alone profile)
+
+pub field-always-one : (file : List ℕ) (offset n : ℕ) →
+    ((start : ℕ) × ((long : ℕ) × ((line : Line) × ((fs : List (List ℕ)) ×
+    (Reads (alone profile) file offset line fs × Finds (line .kind) fs file offset n start long))))) ⊎
+    ((refusal : Refusal) × RefusedFind profile file offset n refusal)
+field-always-one = either.field-always-one profile
+
+pub field-never-both : (file : List ℕ) (offset n start long : ℕ) (refusal : Refusal) →
+    (line : Line) × ((fs : List (List ℕ)) × (Reads (alone profile) file offset line fs × Finds (line .kind) fs file offset n start long)) →
+    RefusedFind profile file offset n refusal → ⊥
+field-never-both = either.field-never-both profile
+
+pub write-always-one : (number : ℕ) (text ends : List ℕ) (size fill : ℕ) →
+    ((n : ℕ) × Writable number text ends size fill n) ⊎ ((refusal : Refusal) × RefusedWrite number text ends size fill refusal)
+write-always-one = either.write-always-one
+
+pub write-never-both : (number : ℕ) (text ends : List ℕ) (size fill n : ℕ) (refusal : Refusal) →
+    Writable number text ends size fill n → RefusedWrite number text ends size fill refusal → ⊥
+write-never-both = either.write-never-both
+
+pub number-always-one : (symbols : List ℕ) →
+    ((kind : Kind) × SoundNumber kind symbols) ⊎ ((refusal : Refusal) × RefusedNumber symbols refusal)
+number-always-one = either.number-always-one
+
+pub number-never-both : (symbols : List ℕ) (kind : Kind) (refusal : Refusal) →
+    SoundNumber kind symbols → RefusedNumber symbols refusal → ⊥
+number-never-both = either.number-never-both
+
+pub iban-always-one : (symbols : List ℕ) → SoundIban symbols ⊎ ((refusal : Refusal) × RefusedIban symbols refusal)
+iban-always-one = either.iban-always-one
+
+pub iban-never-both : (symbols : List ℕ) (refusal : Refusal) → SoundIban symbols → RefusedIban symbols refusal → ⊥
+iban-never-both = either.iban-never-both

@@ -10,23 +10,15 @@ use Rattle.refusal.proofs.Verdicts.{no-pass}
 use Rattle.fields.specs.Record.{mayEnd}
 use Rattle.fields.specs.declared.record.Due.{Due}
 use Rattle.fields.specs.declared.record.Due.the-variants.{First, After}
-use Rattle.line.specs.Parts.{fieldsOf}
-use Rattle.line.specs.Told.{Told}
-use Rattle.line.specs.Line.{textAt, lineAnswer, lineVerdict}
-use Rattle.line.specs.declared.read.Line.{Line}
-use Rattle.line.specs.declared.read.LineAnswer.{LineAnswer}
-use Rattle.line.specs.declared.read.LineAnswer.the-variants.{Accepted as AcceptedLine, Refused as RefusedAnswer}
-use Rattle.grammar.specs.Grammar.{Reads}
-use Rattle.grammar.proofs.Lines.{accepted-reads, reads-accepted}
 use Rattle.file.specs.File.{Judged, judged, listOf, Judges, fileVerdict}
 use Rattle.file.specs.declared.whole.FileAnswer.{FileAnswer}
 use Rattle.file.specs.declared.whole.FileAnswer.the-variants.{Accepted, Refused}
 use Rattle.allowed.specs.Allowed.{FileLine, fileBytes, AllowedFile, InOrder, totalsOf, lineStarts}
 use Rattle.allowed.proofs.Files.{accepted-allowed, allowed-accepted}
-use Rattle.refused.specs.Line.{RefusedAt}
 use Rattle.refused.specs.File.{Come, dueBehind, Begins, RefusedFile, Means}
-use Rattle.refused.proofs.Lines.{answer-refused, refused-answer}
-use Rattle.refused.proofs.Files.{judged-refused, refused-judged, refused-exactly}
+use Rattle.refused.proofs.Refusing.{judged-refused}
+use Rattle.refused.proofs.Reaching.{refused-judged}
+use Rattle.refused.proofs.Files.{refused-exactly}
 
 said : FileAnswer → List ℕ → Judged
 said answer starts = record { answer = answer; starts = starts }
@@ -67,19 +59,6 @@ module _ (s : List ℕ) (words : ℕ) where
   one-refusal refusal other r q =
       let e : Refused refusal ≡ Refused other = sym (refused-judged s words refusal r) ∙ refused-judged s words other q in
       cc
-
--- the same of one line: an allowed line stands at the offset, or it is refused, never both
-module _ (told : Told) (s : List ℕ) (at : ℕ) where
-  pub line-always-one : ((line : Line) × ((fs : List (List ℕ)) × Reads told s at line fs)) ⊎ ((refusal : Refusal) × RefusedAt told s at refusal)
-  line-always-one = go (lineAnswer told s at) refl
-    where
-      go : (a : LineAnswer) → lineAnswer told s at ≡ a →
-          ((line : Line) × ((fs : List (List ℕ)) × Reads told s at line fs)) ⊎ ((refusal : Refusal) × RefusedAt told s at refusal)
-      go (AcceptedLine line) e = inl (line, (fieldsOf (textAt s at), accepted-reads told s at line e))
-      go (RefusedAnswer refusal) e = inr (refusal, answer-refused told s at refusal e)
-
-  pub line-never-both : (line : Line) (fs : List (List ℕ)) (refusal : Refusal) → Reads told s at line fs → RefusedAt told s at refusal → ⊥
-  line-never-both line fs refusal g r = no-pass lineVerdict refl refl (sym (refused-answer told s at refusal r) ∙ reads-accepted g)
 
 -- an allowed file is one that begins with its lines, has nothing left behind them, and may end there
 order-is : (due : Due) (ls : List FileLine) → InOrder due ls ↔ (Come due ls × (mayEnd (dueBehind due ls) ≡ true))

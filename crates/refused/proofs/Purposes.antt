@@ -28,7 +28,8 @@ use Rattle.allowed.proofs.Placed.{line-there}
 use Rattle.allowed.proofs.Paying.{cash-told, cash-source}
 use Rattle.allowed.proofs.Naming.{whole}
 use Rattle.refused.specs.Purpose.{RefusedPurpose}
-use Rattle.refused.proofs.Files.{judged-refused, refused-judged}
+use Rattle.refused.proofs.Refusing.{judged-refused}
+use Rattle.refused.proofs.Reaching.{refused-judged}
 
 -- the line with a number is a 006 line, or there is no source
 source-cash : (s : List ℕ) (ls : List FileLine) (g : AllowedFile s ls) (n : ℕ) (x : Sourced) → sourceOf s (lineStarts 0 ls) n ≡ x →

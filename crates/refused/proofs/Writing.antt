@@ -105,7 +105,7 @@ module _ (number : ℕ) (text ends : List ℕ) (size fill : ℕ) where
       of-walk Fine ew e =
           of-fields (walked-fields (profile kind) 1 (typeOf kind) fs (fine-each (testedToWrite (profile kind)) nextNumber 1 1 (typeOf kind) fs ew)) e
 
-    answer-write : writeAnswer number text ends size fill ≡ Refused refusal → Goal
+    pub answer-write : writeAnswer number text ends size fill ≡ Refused refusal → Goal
     unfolding writeAnswer ofRecord
     answer-write e = go (recordNumbered number) refl e
       where
@@ -135,7 +135,7 @@ module _ (number : ℕ) (text ends : List ℕ) (size fill : ℕ) where
       walked (profile kind) 1 (typeOf kind) fs ≡ Fine
   fine-walk kind fs g = each-fine (testedToWrite (profile kind)) nextNumber 1 1 (typeOf kind) fs (fields-walked (profile kind) 1 (typeOf kind) fs g)
 
-  write-answer : (refusal : Refusal) → RefusedWrite number text ends size fill refusal →
+  pub write-answer : (refusal : Refusal) → RefusedWrite number text ends size fill refusal →
       writeAnswer number text ends size fill ≡ Refused refusal
   unfolding writeAnswer ofRecord ofFields
   write-answer refusal (RefusedWrite.unknown-record e) = rw e
