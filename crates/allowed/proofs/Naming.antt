@@ -24,7 +24,7 @@ use Rattle.allowed.specs.Allowed.{FileLine, AllowedFile, lineStarts, tot
 use Rattle.allowed.proofs.Files.{allowed-accepted, starts-count}
 use Rattle.line.specs.At.{isTyped}
 use Rattle.purpose.specs.Source.{shipmentAbove, firstParcel, fromShipment, inShipment, forFeature, sourceOf}
-use Rattle.purpose.specs.Purpose.{purposeLong, cut, sourceText, textFrom, onSource, onFile, purposeAnswer, purposeText, listAfter, outputAfter, Purposes}
+use Rattle.purpose.specs.Purpose.{purposeLong, cut, sourceText, textFrom, onSource, onFile, purposeAnswer, purposeOf, listAfter, outputAfter, Purposes}
 use Rattle.allowed.specs.Sentence.{LineNo, CashLine, Belongs, firstFilled, namedText}
 use Rattle.purpose.specs.declared.source.Source.{Source}
 use Rattle.purpose.specs.declared.source.Source.the-variants.{Field, Joined}
@@ -147,7 +147,7 @@ module _ (s : List ℕ) (ls : List FileLine) (g : AllowedFile s ls) (n : ℕ) (l
   source-is = cash-source s ls g n l el cash
 
   module _ (words : ℕ) (room : length ls ≤ words) where
-    named-text : purposeText s n words ≡ cut (namedText l shipment parcel)
+    named-text : purposeOf s n words ≡ cut (namedText l shipment parcel)
     named-text =
         ap (λ (j : Judged). textFrom s (sourceOf s (j .starts) n)) (whole s ls g words room)
         ∙ ap (textFrom s) source-is
@@ -170,5 +170,5 @@ module _ (s : List ℕ) (ls : List FileLine) (g : AllowedFile s ls) (n : ℕ) (l
           e,
           p .1 ∙ ap (λ (a : PurposeAnswer). listAfter a words (judged s words .starts)) e
               ∙ ap (λ (j : Judged). listOf words (j .starts)) (whole s ls g words room),
-          p .2 ∙ ap (λ (a : PurposeAnswer). outputAfter a (purposeText s n words) out) e ∙ ap (written out 0) named-text,
+          p .2 ∙ ap (λ (a : PurposeAnswer). outputAfter a (purposeOf s n words) out) e ∙ ap (written out 0) named-text,
         )

@@ -25,6 +25,7 @@ use Rattle.grammar.proofs.Finding as finding
 use Rattle.file.specs.File.{listOf, Judges}
 use Rattle.file.specs.declared.whole.Totals.{Totals}
 use Rattle.file.specs.declared.whole.FileAnswer.the-variants.{Accepted as AcceptedFile}
+use Rattle.fields.specs.declared.record.Due.{Due}
 use Rattle.fields.specs.declared.record.Record.{Record}
 use Rattle.fields.specs.declared.record.Named.the-variants.{Known}
 use Rattle.text.specs.Placed.{written}
@@ -62,6 +63,17 @@ line-exactly s at line = lines.line-exactly (alone profile) s at line
 pub field-exactly : (s : List ℕ) (at : ℕ) (line : Line) (fs : List (List ℕ)) (n start long : ℕ) → Reads (alone profile) s at line fs →
     (fieldAnswer profile s at n ≡ Found start long) ↔ Finds (line .kind) fs s at n start long
 field-exactly s at line fs n start long g = finding.field-exactly g n start long
+
+-- A field is found exactly when an allowed line stands at the offset and the field stands in it.
+pub found-exactly : (s : List ℕ) (at n start long : ℕ) → (fieldAnswer profile s at n ≡ Found start long) ↔
+    ((line : Line) × ((fs : List (List ℕ)) × (Reads (alone profile) s at line fs × Finds (line .kind) fs s at n start long)))
+found-exactly = finding.found-exactly profile
+
+-- At one offset stands one line with one list of fields, whichever record is due.
+pub one-reading : (due late : Due) (s : List ℕ) (at : ℕ) (line other : Line) (fs gs : List (List ℕ)) →
+    Reads (record { rules = profile; due = due }) s at line fs → Reads (record { rules = profile; due = late }) s at other gs →
+    (line ≡ other) × (fs ≡ gs)
+one-reading due late s at line other fs gs g h = lines.one-reading g h
 
 -- "A written line reads back to its fields": the bytes that were written, by themselves, are accepted as the line of that record and
 -- of those fields, and each field is found again.

@@ -76,8 +76,10 @@ module _ (number : ℕ) (text ends : List ℕ) (size fill n : ℕ) where
       go Fine ew eh ec e =
           let line = render kind (between text ends) in
           let room = if leb (fill + length line) size then Written (length line) else Refused (because OutputTooShort 0) in
-          let a = came-else (lacks kind (typeOf kind ∷ between text ends)) (Refused (because FeatureLacks 0)) room (Written n) (no-pass writeVerdict refl refl) e in
-          let b = came-then (leb (fill + length line) size) (Written (length line)) (Refused (because OutputTooShort 0)) (Written n) (no-pass writeVerdict refl refl)
+          let a = came-else (lacks kind (typeOf kind ∷ between text ends)) (Refused (because FeatureLacks 0)) room (Written n)
+          (no-pass writeVerdict refl refl) e in
+          let b = came-then (leb (fill + length line) size) (Written (length line)) (Refused (because OutputTooShort 0)) (Written n)
+          (no-pass writeVerdict refl refl)
           (a .1) in
           record {
             kind = kind;

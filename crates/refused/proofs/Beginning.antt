@@ -11,7 +11,7 @@ use Rattle.fields.specs.Profile.{profile}
 use Rattle.fields.specs.declared.record.Due.{Due}
 use Rattle.fields.specs.declared.record.Due.the-variants.{First, After}
 use Rattle.grammar.specs.Grammar.{LineOk}
-use Rattle.allowed.specs.Allowed.{FileLine, lineBytes, fileBytes, LinesOk, codeOf, identcodes, oneOfCodes, NoneTwice}
+use Rattle.allowed.specs.Allowed.{FileLine, lineBytes, fileBytes, LinesOk, codesOn, identcodes, oneOfCodes, NoneTwice}
 use Rattle.allowed.proofs.Codes.{Fresh, codes-append}
 use Rattle.allowed.proofs.Twice.{none-more, fresh-before}
 use Rattle.refused.specs.File.{Come, dueBehind, Begins, Follows}
@@ -23,8 +23,8 @@ bytes-append (l ∷ ls) ks = ap (λ (r : List ℕ). lineBytes l ++ r) (bytes-app
 pub identcodes-append : (ls ks : List FileLine) → identcodes (ls ++ ks) ≡ identcodes ls ++ identcodes ks
 identcodes-append [] ks = refl
 identcodes-append (l ∷ ls) ks =
-    ap (λ (r : List (List ℕ)). codeOf (l .kind) (l .fields) ++ r) (identcodes-append ls ks)
-    ∙ sym (append-assoc (codeOf (l .kind) (l .fields)) (identcodes ls) (identcodes ks))
+    ap (λ (r : List (List ℕ)). codesOn (l .kind) (l .fields) ++ r) (identcodes-append ls ks)
+    ∙ sym (append-assoc (codesOn (l .kind) (l .fields)) (identcodes ls) (identcodes ks))
 
 -- one more
 pub bytes-more : (ls : List FileLine) (l : FileLine) (left : List ℕ) →
@@ -33,8 +33,8 @@ bytes-more ls l left =
     ap (λ (r : List ℕ). r ++ left) (bytes-append ls (l ∷ []) ∙ ap (λ (r : List ℕ). fileBytes ls ++ r) (append-nil (lineBytes l)))
     ∙ append-assoc (fileBytes ls) (lineBytes l) left
 
-pub codes-more : (ls : List FileLine) (l : FileLine) → identcodes (ls ++ (l ∷ [])) ≡ identcodes ls ++ codeOf (l .kind) (l .fields)
-codes-more ls l = identcodes-append ls (l ∷ []) ∙ ap (λ (r : List (List ℕ)). identcodes ls ++ r) (append-nil (codeOf (l .kind) (l .fields)))
+pub codes-more : (ls : List FileLine) (l : FileLine) → identcodes (ls ++ (l ∷ [])) ≡ identcodes ls ++ codesOn (l .kind) (l .fields)
+codes-more ls l = identcodes-append ls (l ∷ []) ∙ ap (λ (r : List (List ℕ)). identcodes ls ++ r) (append-nil (codesOn (l .kind) (l .fields)))
 
 pub due-more : (due : Due) (ls : List FileLine) (l : FileLine) → dueBehind due (ls ++ (l ∷ [])) ≡ After (l .kind)
 due-more due [] l = refl
@@ -52,7 +52,7 @@ come-more due (k ∷ ls) l a g = (a .0, come-more (After (k .kind)) ls l (a .1) 
 -- an allowed line behind the lines with which a file begins, none of whose codes it repeats
 pub record Next (s : List ℕ) (ls : List FileLine) (l : FileLine) (left : List ℕ) : Type 0 where
   pub follows : Follows s ls l left
-  pub fresh : Fresh (identcodes ls) (codeOf (l .kind) (l .fields))
+  pub fresh : Fresh (identcodes ls) (codesOn (l .kind) (l .fields))
 
 pub begins-more : (s : List ℕ) (ls : List FileLine) (l : FileLine) (left : List ℕ) → Next s ls l left → Begins s (ls ++ (l ∷ [])) left
 begins-more s ls l left n =

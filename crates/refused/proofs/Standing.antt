@@ -25,7 +25,7 @@ use Rattle.file.specs.Step.{behind, onLine, toldBy, stepAnswer}
 use Rattle.file.specs.declared.step.State.{State}
 use Rattle.file.specs.declared.step.Step.the-variants.{Next as On, Stopped}
 use Rattle.file.proofs.Lists.{left-word, no-word}
-use Rattle.allowed.specs.Allowed.{FileLine, lineBytes, fileBytes, codeOf, identcodes, oneOfCodes}
+use Rattle.allowed.specs.Allowed.{FileLine, lineBytes, fileBytes, codesOn, identcodes, oneOfCodes}
 use Rattle.allowed.proofs.Files.{line-some}
 use Rattle.allowed.proofs.Codes.{Seen, seen-more, Fresh, not-fresh, code-here}
 use Rattle.refused.specs.Line.{RefusedLine}
@@ -117,7 +117,7 @@ module _ (s : List ℕ) (ls : List FileLine) (starts : List ℕ) (state : State)
       unfolding stepAnswer onLine line-of
       step-repeats r = rw (reads-accepted reads, r)
 
-      module _ (fresh : Fresh (identcodes ls) (codeOf (l .kind) (l .fields))) where
+      module _ (fresh : Fresh (identcodes ls) (codesOn (l .kind) (l .fields))) where
         new : repeats (l .kind) s starts (state .at) ≡ false
         new = not-fresh s starts (identcodes ls) (state .at) (l .fields) left (h .seen) (l .kind) stands (f .ok) fresh
 

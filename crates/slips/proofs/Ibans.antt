@@ -38,7 +38,8 @@ accepted-sound s e =
     let inside = leb 15 (length s) && leb (length s) 34 in
     let wrong = ltb (wrongInIban s) (length s) in
     let tail = if soundOf s then Accepted else Refused (because WrongCheck 2) in
-    let a = came-else (not inside) (Refused (because WrongLength 0)) (if wrong then Refused (because WrongSymbol (wrongInIban s)) else tail) Accepted (no-pass ibanVerdict refl refl) e in
+    let a = came-else (not inside) (Refused (because WrongLength 0)) (if wrong then Refused (because WrongSymbol (wrongInIban s)) else tail)
+    Accepted (no-pass ibanVerdict refl refl) e in
     let b = came-else wrong (Refused (because WrongSymbol (wrongInIban s))) tail Accepted (no-pass ibanVerdict refl refl) (a .1) in
     let c = came-then (soundOf s) Accepted (Refused (because WrongCheck 2)) Accepted (no-pass ibanVerdict refl refl) (b .1) in
     let long = not-false inside (a .0) in

@@ -54,7 +54,8 @@ body-of body room n e =
           (simp t at e),
     ))
     (λ (f : eqb (length body) 14 ≡ false).
-    let w = came-then (eqb (length body) 27) (issueAs Label body room) (Refused (because WrongLength 0)) (Issued n) (no-pass issueVerdict refl refl) (simp f at e) in
+    let w = came-then (eqb (length body) 27) (issueAs Label body room) (Refused (because WrongLength 0)) (Issued n) (no-pass issueVerdict refl refl)
+    (simp f at e) in
     (Label, body-as Label body room n (omega (arith, eqb-true (length body) 27 (w .0))) (w .1)))
     (true-or-false (eqb (length body) 14))
 
