@@ -19,10 +19,10 @@ use Rattle.identcodes.specs.Tree.{identcodeAt}
 use Rattle.file.specs.Identcode.{sameParcel, onEarlier, repeats}
 use Rattle.file.proofs.Codes.{type-there, code-there}
 use Rattle.file.proofs.Sowing.{earlier-more}
-use Rattle.allowed.specs.Allowed.{codeOf, oneOfCodes}
+use Rattle.allowed.specs.Allowed.{codesOn, oneOfCodes}
 
 -- the identcode of a parcel line where it stands
-code-here : (s : List ℕ) (at : ℕ) (fs : List (List ℕ)) (rest : List ℕ) → drop at s ≡ render Parcel fs ++ rest → LineOk profile Parcel fs →
+pub code-here : (s : List ℕ) (at : ℕ) (fs : List (List ℕ)) (rest : List ℕ) → drop at s ≡ render Parcel fs ++ rest → LineOk profile Parcel fs →
     identcodeAt s at ≡ fieldNo fs 1
 code-here s at [] rest there ok = absurd (false≢true (ok .counted))
 code-here s at (f ∷ fs) rest there ok = code-there s at f fs rest there (parcel-code sound Parcel (f ∷ fs) refl ok)
@@ -35,7 +35,7 @@ module _ (s : List ℕ) (earlier : ℕ) (fs : List (List ℕ)) (rest : List ℕ)
   other-type kind there e = rw (type-there s earlier kind fs rest there, e)
 
   pub same-code : (kind : Record) → drop earlier s ≡ render kind fs ++ rest → LineOk profile kind fs →
-      sameParcel s earlier at ≡ oneOfCodes (identcodeAt s at) (codeOf kind fs)
+      sameParcel s earlier at ≡ oneOfCodes (identcodeAt s at) (codesOn kind fs)
   unfolding sameParcel
   same-code Header there ok = other-type Header there refl
   same-code Sender there ok = other-type Sender there refl
@@ -55,12 +55,12 @@ codes-append code (x ∷ xs) ys = rw (codes-append code xs ys) (sym (or-assoc (s
 
 pub seen-more : (s starts : List ℕ) (codes : List (List ℕ)) (earlier : ℕ) (kind : Record) (fs : List (List ℕ)) (rest : List ℕ) →
     Seen s starts codes → drop earlier s ≡ render kind fs ++ rest → LineOk profile kind fs →
-    Seen s (starts ++ (earlier ∷ [])) (codes ++ codeOf kind fs)
+    Seen s (starts ++ (earlier ∷ [])) (codes ++ codesOn kind fs)
 seen-more s starts codes earlier kind fs rest seen there ok at =
     earlier-more s starts earlier at
     ∙ ap (λ (t : Bool). t || sameParcel s earlier at) (seen at)
     ∙ ap (λ (t : Bool). oneOfCodes (identcodeAt s at) codes || t) (same-code s earlier fs rest at kind there ok)
-    ∙ sym (codes-append (identcodeAt s at) codes (codeOf kind fs))
+    ∙ sym (codes-append (identcodeAt s at) codes (codesOn kind fs))
 
 -- none of the codes of a line is one of these
 abbrev pub Fresh : List (List ℕ) → List (List ℕ) → Type 0
@@ -69,7 +69,7 @@ Fresh seen (c ∷ cs) = (oneOfCodes c seen ≡ false) × Fresh seen cs
 
 module _ (s starts : List ℕ) (codes : List (List ℕ)) (at : ℕ) (fs : List (List ℕ)) (rest : List ℕ) (seen : Seen s starts codes) where
   pub fresh-not : (kind : Record) → drop at s ≡ render kind fs ++ rest → LineOk profile kind fs → repeats kind s starts at ≡ false →
-      Fresh codes (codeOf kind fs)
+      Fresh codes (codesOn kind fs)
   unfolding repeats
   fresh-not Header there ok e = tt
   fresh-not Sender there ok e = tt
@@ -78,7 +78,7 @@ module _ (s starts : List ℕ) (codes : List (List ℕ)) (at : ℕ) (fs : List (
   fresh-not Product there ok e = tt
   fresh-not Feature there ok e = tt
 
-  pub not-fresh : (kind : Record) → drop at s ≡ render kind fs ++ rest → LineOk profile kind fs → Fresh codes (codeOf kind fs) →
+  pub not-fresh : (kind : Record) → drop at s ≡ render kind fs ++ rest → LineOk profile kind fs → Fresh codes (codesOn kind fs) →
       repeats kind s starts at ≡ false
   unfolding repeats
   not-fresh Header there ok f = refl

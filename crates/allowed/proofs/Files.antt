@@ -10,7 +10,6 @@ use borrow.Author.Tests.{ltb-false, le-ltb}
 use Rattle.text.proofs.Choices.{came-else}
 use Rattle.refusal.specs.declared.Reason.the-variants.{FileTooLong}
 use Rattle.refusal.specs.Table.{because}
-use Rattle.refusal.specs.declared.Refusal.{Refusal}
 use Rattle.refusal.proofs.Verdicts.{no-pass}
 use Rattle.fields.specs.declared.record.Record.{Record}
 use Rattle.fields.specs.declared.record.Due.{Due}
@@ -20,7 +19,7 @@ use Rattle.grammar.proofs.Lines.{one-line}
 use Rattle.file.specs.File.{Judged, begin, fileFrom, judged, fileVerdict}
 use Rattle.file.specs.declared.whole.Totals.{Totals}
 use Rattle.file.specs.declared.whole.FileAnswer.the-variants.{Accepted, Refused}
-use Rattle.allowed.specs.Allowed.{FileLine, lineBytes, fileBytes, LinesOk, InOrder, codeOf, identcodes, NoneTwice}
+use Rattle.allowed.specs.Allowed.{FileLine, lineBytes, fileBytes, LinesOk, InOrder, codesOn, identcodes, NoneTwice}
 use Rattle.allowed.specs.Allowed.{AllowedFile, parcelCount, cashTotal, totalsOf, lineStarts}
 use Rattle.allowed.proofs.Twice.{none-more, fresh-before}
 use Rattle.allowed.proofs.Runs.{AllowedFrom, judgedWith, ran, runs}
@@ -37,7 +36,7 @@ whole : (ls : List FileLine) (left : List ℕ) (codes : List (List ℕ)) (due : 
     Whole left codes due ls
 whole [] left codes due n a = record { bytes = a .0; lines = tt; order = a .1; none = rw (append-nil codes) n }
 whole (l ∷ ls) left codes due n a =
-    let c = codeOf (l .kind) (l .fields) in
+    let c = codesOn (l .kind) (l .fields) in
     let w = whole ls (a .0) (codes ++ c) (After (l .kind)) (none-more (l .kind) (l .fields) codes n (a .4)) (a .5) in
     record {
       bytes = a .1 ∙ ap (λ (r : List ℕ). lineBytes l ++ r) (w .bytes);
@@ -49,7 +48,7 @@ whole (l ∷ ls) left codes due n a =
 each : (ls : List FileLine) (left : List ℕ) (codes : List (List ℕ)) (due : Due) → Whole left codes due ls → AllowedFrom left codes due ls
 each [] left codes due w = (w .bytes, w .order)
 each (l ∷ ls) left codes due w =
-    let c = codeOf (l .kind) (l .fields) in (
+    let c = codesOn (l .kind) (l .fields) in (
       fileBytes ls,
       w .bytes,
       w .lines .0,
@@ -65,7 +64,7 @@ each (l ∷ ls) left codes due w =
     )
 
 -- a line has bytes
-line-some : (l : FileLine) → 2 ≤ length (lineBytes l)
+pub line-some : (l : FileLine) → 2 ≤ length (lineBytes l)
 line-some l = omega (arith, render-long (l .kind) (l .fields))
 
 few-lines : (ls : List FileLine) → length ls ≤ length (fileBytes ls)

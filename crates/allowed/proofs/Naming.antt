@@ -7,19 +7,14 @@ use mathlib.Core.Logic.{⊎-elim}
 use native.Mathlib.Nat.{le-of-suc-le-suc, eq-or-lt-of-le}
 use native.Mathlib.Omega.{arith}
 use lib.Dec.{eqb}
-use lib.ListN.{length, drop, getD, replicate, length-drop}
+use lib.ListN.{length, drop, getD, length-drop}
 use lib.Seq.{getD-drop}
-use borrow.Author.Tests.{lt-leb, le-ltb, ne-eqb}
+use borrow.Author.Tests.{le-ltb, ne-eqb}
 use Rattle.text.specs.Choice.{if_then_else_}
 use Rattle.text.specs.Placed.{written}
 use Rattle.text.specs.Quoted.{bytes}
-use Rattle.text.specs.Scan.{same}
-use Rattle.text.proofs.Choices.{and-left, and-right, and-both, true-or-false}
-use Rattle.text.proofs.Scans.{same-eq, same-refl}
-use Rattle.refusal.specs.declared.Reason.the-variants.{NotThere}
-use Rattle.refusal.specs.Table.{because}
 use Rattle.fields.specs.Record.{typeOf}
-use Rattle.fields.specs.declared.record.Record.the-variants.{Shipment, Parcel, Feature}
+use Rattle.fields.specs.declared.record.Record.the-variants.{Shipment, Parcel}
 use Rattle.line.specs.Parts.{split, partAt, fieldNo}
 use Rattle.line.specs.Need.{isFilled}
 use Rattle.line.specs.Line.{textAt}
@@ -28,17 +23,17 @@ use Rattle.file.specs.declared.whole.FileAnswer.the-variants.{Accepted}
 use Rattle.allowed.specs.Allowed.{FileLine, AllowedFile, lineStarts, totalsOf}
 use Rattle.allowed.proofs.Files.{allowed-accepted, starts-count}
 use Rattle.line.specs.At.{isTyped}
-use Rattle.purpose.specs.Source.{isCashLine, shipmentAbove, firstParcel, fromShipment, inShipment, forFeature, sourceOf}
-use Rattle.purpose.specs.Purpose.{purposeLong, cut, sourceText, textFrom, onSource, onFile, purposeAnswer, purposeText, listAfter, outputAfter, Purposes}
+use Rattle.purpose.specs.Source.{shipmentAbove, firstParcel, fromShipment, inShipment, forFeature, sourceOf}
+use Rattle.purpose.specs.Purpose.{purposeLong, cut, sourceText, textFrom, onSource, onFile, purposeAnswer, purposeOf, listAfter, outputAfter, Purposes}
 use Rattle.allowed.specs.Sentence.{LineNo, CashLine, Belongs, firstFilled, namedText}
 use Rattle.purpose.specs.declared.source.Source.{Source}
 use Rattle.purpose.specs.declared.source.Source.the-variants.{Field, Joined}
 use Rattle.purpose.specs.declared.source.Sourced.{Sourced}
-use Rattle.purpose.specs.declared.source.Sourced.the-variants.{From, Nowhere}
+use Rattle.purpose.specs.declared.source.Sourced.the-variants.{From}
 use Rattle.purpose.specs.declared.write.PurposeAnswer.{PurposeAnswer}
-use Rattle.purpose.specs.declared.write.PurposeAnswer.the-variants.{Written, Refused}
-use Rattle.purpose.proofs.Seeking.{past-lines, no-cash-line}
-use Rattle.allowed.proofs.Placed.{line-there, line-counted, parts-at, kind-told, is-typed, not-typed}
+use Rattle.purpose.specs.declared.write.PurposeAnswer.the-variants.{Written}
+use Rattle.allowed.proofs.Placed.{line-there, line-counted, parts-at, is-typed, not-typed}
+use Rattle.allowed.proofs.Paying.{cash-source}
 
 -- the nearest above is the only one between itself and the line
 nearest-found :
@@ -75,7 +70,7 @@ or-next s at n next (b ∷ f) fs last e q =
     in
     rw t e
 
-whole : (s : List ℕ) (ls : List FileLine) → AllowedFile s ls → (words : ℕ) → length ls ≤ words →
+pub whole : (s : List ℕ) (ls : List FileLine) → AllowedFile s ls → (words : ℕ) → length ls ≤ words →
     judged s words ≡ record { answer = Accepted (totalsOf ls); starts = lineStarts 0 ls }
 whole s ls g words room = allowed-accepted s words (totalsOf ls) (lineStarts 0 ls)
     (record { lines = ls; allowed = g; room = room; counts = refl; list = refl })
@@ -148,19 +143,11 @@ module _ (s : List ℕ) (ls : List FileLine) (g : AllowedFile s ls) (n : ℕ) (l
       ∙ ap (λ (p : ℕ). sourceText s (fromShipment s (getD starts (b .ship) 0) p)) is-first
       ∙ shipment-text)
 
-  is-cash : isCashLine s (getD starts n 0) ≡ true
-  unfolding isCashLine
-  is-cash =
-      and-both (isTyped s (getD starts n 0) (bytes "060")) (same (partAt (textAt s (getD starts n 0)) 1) (bytes "006"))
-      (is-typed s ls g n l el Feature (cash .feature))
-      (ap (λ (f : List ℕ). same f (bytes "006")) (part-of n 1 l el ∙ cash .code) ∙ same-refl (bytes "006"))
-
   source-is : sourceOf s starts n ≡ From (forFeature s starts n)
-  unfolding sourceOf
-  source-is = rw (lt-leb (length starts) n (omega (arith, starts-count 0 ls, line-counted ls n l el)), is-cash)
+  source-is = cash-source s ls g n l el cash
 
   module _ (words : ℕ) (room : length ls ≤ words) where
-    named-text : purposeText s n words ≡ cut (namedText l shipment parcel)
+    named-text : purposeOf s n words ≡ cut (namedText l shipment parcel)
     named-text =
         ap (λ (j : Judged). textFrom s (sourceOf s (j .starts) n)) (whole s ls g words room)
         ∙ ap (textFrom s) source-is
@@ -183,50 +170,5 @@ module _ (s : List ℕ) (ls : List FileLine) (g : AllowedFile s ls) (n : ℕ) (l
           e,
           p .1 ∙ ap (λ (a : PurposeAnswer). listAfter a words (judged s words .starts)) e
               ∙ ap (λ (j : Judged). listOf words (j .starts)) (whole s ls g words room),
-          p .2 ∙ ap (λ (a : PurposeAnswer). outputAfter a (purposeText s n words) out) e ∙ ap (written out 0) named-text,
+          p .2 ∙ ap (λ (a : PurposeAnswer). outputAfter a (purposeOf s n words) out) e ∙ ap (written out 0) named-text,
         )
-
--- "no such field or line, or not a 006 line"
-module _
-    (s : List ℕ) (ls : List FileLine) (g : AllowedFile s ls) (words : ℕ) (room : length ls ≤ words) (n : ℕ) (out : List ℕ)
-    (answer : PurposeAnswer) (list after : List ℕ) (p : Purposes s n words out answer list after)
-  where
-    nowhere : sourceOf s (lineStarts 0 ls) n ≡ Nowhere → (answer ≡ Refused (because NotThere 0)) × (list ≡ replicate words 0) × (after ≡ out)
-    unfolding onFile onSource
-    nowhere e =
-        let a : answer ≡ Refused (because NotThere 0) =
-        p .0
-        ∙ ap (λ (j : Judged). onFile (j .answer) (sourceOf s (j .starts) n) s (length out)) (whole s ls g words room)
-        ∙ ap (λ (x : Sourced). onSource x s (length out)) e
-        in (
-          a,
-          p .1 ∙ ap (λ (x : PurposeAnswer). listAfter x words (judged s words .starts)) a,
-          p .2 ∙ ap (λ (x : PurposeAnswer). outputAfter x (purposeText s n words) out) a,
-        )
-
-    pub no-such-line : length ls ≤ n → (answer ≡ Refused (because NotThere 0)) × (list ≡ replicate words 0) × (after ≡ out)
-    no-such-line h = nowhere (sym (past-lines s (lineStarts 0 ls) n (omega (arith, starts-count 0 ls))))
-
-    module _ (l : FileLine) (h : LineNo ls n l) where
-      abbrev at : ℕ
-      at = getD (lineStarts 0 ls) n 0
-
-      cash : isCashLine s at ≡ true → CashLine l
-      unfolding isCashLine
-      cash e =
-          let typed = and-left (isTyped s at (bytes "060")) (same (partAt (textAt s at) 1) (bytes "006")) e in
-          let coded = and-right (isTyped s at (bytes "060")) (same (partAt (textAt s at) 1) (bytes "006")) e in
-          record {
-            feature = kind-told s ls g n l h Feature typed;
-            code = sym (ap (λ (parts : List (List ℕ)). getD parts 1 []) (parts-at s ls g n l h))
-                ∙ same-eq (partAt (textAt s at) 1) (bytes "006") coded;
-          }
-
-      pub not-a-cash-line : (CashLine l → ⊥) → (answer ≡ Refused (because NotThere 0)) × (list ≡ replicate words 0) × (after ≡ out)
-      not-a-cash-line never =
-          let none : false ≡ isCashLine s at = ⊎-elim (λ e. absurd (never (cash e))) (λ e. sym e) (true-or-false (isCashLine s at)) in
-          nowhere (sym (no-cash-line s (lineStarts 0 ls) n (omega (
-            arith,
-            starts-count 0 ls,
-            line-counted ls n l h,
-          )) at refl false none refl))

@@ -34,7 +34,7 @@ use Rattle.file.specs.declared.whole.Totals.{Totals}
 use Rattle.file.specs.declared.whole.FileAnswer.the-variants.{Accepted, Refused}
 use Rattle.file.proofs.Lists.{word-left, left-word}
 use Rattle.file.proofs.Stepping.{went}
-use Rattle.allowed.specs.Allowed.{FileLine, lineBytes, codeOf, parcelCount, cashTotal, lineStarts}
+use Rattle.allowed.specs.Allowed.{FileLine, lineBytes, codesOn, parcelCount, cashTotal, lineStarts}
 use Rattle.allowed.proofs.Codes.{Seen, seen-more, Fresh, fresh-not, not-fresh}
 
 -- the lines that are left, behind lines with these codes, where this record is due
@@ -42,8 +42,8 @@ abbrev pub AllowedFrom : List ℕ → List (List ℕ) → Due → List FileLine 
 AllowedFrom left codes due [] = (left ≡ []) × (mayEnd due ≡ true)
 AllowedFrom left codes due (l ∷ ls) =
     (rest : List ℕ) × (left ≡ lineBytes l ++ rest) × LineOk profile (l .kind) (l .fields) × (mayCome due (l .kind) ≡ true) ×
-    Fresh codes (codeOf (l .kind) (l .fields)) ×
-    AllowedFrom rest (codes ++ codeOf (l .kind) (l .fields)) (After (l .kind)) ls
+    Fresh codes (codesOn (l .kind) (l .fields)) ×
+    AllowedFrom rest (codes ++ codesOn (l .kind) (l .fields)) (After (l .kind)) ls
 
 -- what is then said of the file
 abbrev pub totalsWith : State → List FileLine → Totals
@@ -129,7 +129,7 @@ module _ (s : List ℕ) (m : ℕ) (small : length s ≤ fileLimit) (totals : Tot
       let line = w .line in
       let fs = fieldsOf (textAt s (state .at)) in
       let g = accepted-reads (toldBy state) s (state .at) line (w .accepted) in
-      let codes′ = codes ++ codeOf (line .kind) fs in
+      let codes′ = codes ++ codesOn (line .kind) fs in
       let r = more (starts ++ (state .at ∷ [])) codes′ (behind s state line) (omega (arith, next-far g)) (next-inside g)
       (omega (arith, word-left m (state .lines) (w .room))) (seen-more s starts codes (state .at) (line .kind) fs (g .rest) seen (g .stands) (g .allowed)) (rw
       (← w .there) at e) in
@@ -167,7 +167,7 @@ module _ (s : List ℕ) (m : ℕ) (small : length s ≤ fileLimit) where
 
   step-there :
       (starts : List ℕ) (codes : List (List ℕ)) (state : State) (line : Line) (fs : List (List ℕ))
-      (g : Reads (toldBy state) s (state .at) line fs) → Seen s starts codes → Fresh codes (codeOf (line .kind) fs) → state .lines < m →
+      (g : Reads (toldBy state) s (state .at) line fs) → Seen s starts codes → Fresh codes (codesOn (line .kind) fs) → state .lines < m →
       stepAnswer s m starts state ≡ Next (behind s state line)
   unfolding stepAnswer onLine
   step-there starts codes state line fs g seen fresh room =
@@ -194,7 +194,7 @@ module _ (s : List ℕ) (m : ℕ) (small : length s ≤ fileLimit) where
       record { small = small; comes = a .3; allowed = a .2; rest = a .0; stands = a .1; count = refl; next = refl } in
       let far = next-far g in
       let in-file = next-inside g in
-      let on = runs ls turns (starts ++ (state .at ∷ [])) (codes ++ codeOf (l .kind) (l .fields)) (behind s state line)
+      let on = runs ls turns (starts ++ (state .at ∷ [])) (codes ++ codesOn (l .kind) (l .fields)) (behind s state line)
       (omega arith) in-file (omega arith) (seen-more s starts codes (state .at) (l .kind) (l .fields) (a .0) seen (a .1) (a .2)) (rw
       (← rest-is g) (a .5)) in
       rw (

@@ -9,7 +9,7 @@ use Rattle.text.proofs.Choices.{or-neither, true-or-false, clash}
 use Rattle.text.proofs.Scans.{same-eq, same-refl}
 use Rattle.fields.specs.declared.record.Record.{Record}
 use Rattle.fields.specs.declared.record.Record.the-variants.{Header, Sender, Shipment, Parcel, Product, Feature}
-use Rattle.allowed.specs.Allowed.{codeOf, oneOfCodes, NoneTwice}
+use Rattle.allowed.specs.Allowed.{codesOn, oneOfCodes, NoneTwice}
 use Rattle.allowed.proofs.Codes.{Fresh, codes-append}
 
 unlike-back : (a b : List ℕ) → same a b ≡ false → same b a ≡ false
@@ -22,7 +22,7 @@ none-behind (x ∷ xs) c n e =
     let f = or-neither (same x c) (oneOfCodes c xs) e in
     (codes-append x xs (c ∷ []) ∙ rw (n .0, unlike-back x c (f .0)), none-behind xs c (n .1) (f .1))
 
-pub none-more : (kind : Record) (fs xs : List (List ℕ)) → NoneTwice xs → Fresh xs (codeOf kind fs) → NoneTwice (xs ++ codeOf kind fs)
+pub none-more : (kind : Record) (fs xs : List (List ℕ)) → NoneTwice xs → Fresh xs (codesOn kind fs) → NoneTwice (xs ++ codesOn kind fs)
 none-more Header fs xs n f = rw (append-nil xs) n
 none-more Sender fs xs n f = rw (append-nil xs) n
 none-more Shipment fs xs n f = rw (append-nil xs) n
@@ -37,7 +37,7 @@ none-before (x ∷ xs) c ys n =
     let g = or-neither (same c x) (oneOfCodes x ys) (f .1) in
     rw (unlike-back c x (g .0), none-before xs c ys (n .1))
 
-pub fresh-before : (kind : Record) (fs xs ys : List (List ℕ)) → NoneTwice (xs ++ (codeOf kind fs ++ ys)) → Fresh xs (codeOf kind fs)
+pub fresh-before : (kind : Record) (fs xs ys : List (List ℕ)) → NoneTwice (xs ++ (codesOn kind fs ++ ys)) → Fresh xs (codesOn kind fs)
 fresh-before Header fs xs ys n = tt
 fresh-before Sender fs xs ys n = tt
 fresh-before Shipment fs xs ys n = tt

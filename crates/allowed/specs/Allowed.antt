@@ -45,12 +45,12 @@ InOrder due [] = mayEnd due ≡ true
 InOrder due (l ∷ ls) = (mayCome due (l .kind) ≡ true) × InOrder (After (l .kind)) ls
 
 -- the identcodes (040.1) of lines
-abbrev pub codeOf : Record → List (List ℕ) → List (List ℕ)
-codeOf kind fs = if kind isA Parcel then fieldNo fs 1 ∷ [] else []
+abbrev pub codesOn : Record → List (List ℕ) → List (List ℕ)
+codesOn kind fs = if kind isA Parcel then fieldNo fs 1 ∷ [] else []
 
 abbrev pub identcodes : List FileLine → List (List ℕ)
 identcodes [] = []
-identcodes (l ∷ ls) = codeOf (l .kind) (l .fields) ++ identcodes ls
+identcodes (l ∷ ls) = codesOn (l .kind) (l .fields) ++ identcodes ls
 
 -- a code is one of these
 abbrev pub oneOfCodes : List ℕ → List (List ℕ) → Bool

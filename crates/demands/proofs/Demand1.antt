@@ -25,7 +25,7 @@ use Rattle.line.specs.declared.find.FieldAnswer.{FieldAnswer}
 use Rattle.file.specs.File.{judged, Judges}
 use Rattle.writer.specs.Write.{recordNumbered, between, writtenTo, Writes}
 use Rattle.writer.specs.declared.write.WriteAnswer.{WriteAnswer}
-use Rattle.purpose.specs.Purpose.{purposeText, listAfter, outputAfter, Purposes}
+use Rattle.purpose.specs.Purpose.{purposeOf, listAfter, outputAfter, Purposes}
 use Rattle.purpose.specs.declared.write.PurposeAnswer.{PurposeAnswer}
 use Rattle.file.specs.declared.whole.FileAnswer.{FileAnswer}
 use Rattle.peliranopi.specs.Calls.{JudgeTells, LineTells, FieldTells, WriteTells, PurposeTells, NumberTells, IssueTells, IbanTells}
@@ -87,7 +87,7 @@ write-purpose-unique s n words out a b list list₂ x y p q =
     let same : a ≡ b = p .0 ∙ sym (q .0) in (
       same,
       p .1 ∙ ap (λ (r : PurposeAnswer). listAfter r words (judged s words .starts)) same ∙ sym (q .1),
-      p .2 ∙ ap (λ (r : PurposeAnswer). outputAfter r (purposeText s n words) out) same ∙ sym (q .2),
+      p .2 ∙ ap (λ (r : PurposeAnswer). outputAfter r (purposeOf s n words) out) same ∙ sym (q .2),
     )
 
 -- The same calls for C and Rust (crate peliranopi): the number returned, each number behind a pointer, each lent buffer.

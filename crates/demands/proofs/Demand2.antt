@@ -2,7 +2,7 @@
 -- are those of the file's own lines. A written line reads back to its fields, and an accepted line written again gives its own bytes.
 -- DPD numbers and IBANs pass exactly by ISO 7064."
 use Prim.Native.Nat.{ℕ, _+_, _-_, _≤_}
-use mathlib.Core.Path.{_≡_, refl, sym, ap, _∙_}
+use mathlib.Core.Path.{_≡_, sym, _∙_}
 use mathlib.Core.List.{List, _++_}
 use mathlib.Core.Logic.{_↔_}
 use lib.ListN.{length, take, drop}
@@ -22,10 +22,10 @@ use Rattle.line.specs.declared.find.FieldAnswer.the-variants.{Found}
 use Rattle.grammar.specs.Grammar.{Reads, Finds}
 use Rattle.grammar.proofs.Lines as lines
 use Rattle.grammar.proofs.Finding as finding
-use Rattle.file.specs.File.{Judged, judged, listOf, Judges}
+use Rattle.file.specs.File.{listOf, Judges}
 use Rattle.file.specs.declared.whole.Totals.{Totals}
-use Rattle.file.specs.declared.whole.FileAnswer.{FileAnswer}
 use Rattle.file.specs.declared.whole.FileAnswer.the-variants.{Accepted as AcceptedFile}
+use Rattle.fields.specs.declared.record.Due.{Due}
 use Rattle.fields.specs.declared.record.Record.{Record}
 use Rattle.fields.specs.declared.record.Named.the-variants.{Known}
 use Rattle.text.specs.Placed.{written}
@@ -35,42 +35,19 @@ use Rattle.writer.specs.declared.write.WriteAnswer.{WriteAnswer}
 use Rattle.writer.specs.declared.write.WriteAnswer.the-variants.{Written}
 use Rattle.grammar.proofs.Back as writing
 use Rattle.allowed.specs.Allowed.{FileLine, AllowedFile, totalsOf, lineStarts}
-use Rattle.allowed.proofs.Files.{accepted-allowed, allowed-accepted, one-division}
+use Rattle.allowed.proofs.Files.{one-division}
+use Rattle.refused.proofs.Deciding.{judge-exactly}
 use Rattle.slips.specs.Exactly.{SoundNumber, SoundIban, bodyOf}
 use Rattle.slips.proofs.Numbers as numbers
 use Rattle.slips.proofs.Ibans as ibans
 use Rattle.slips.proofs.Issues.{issued-sound, sound-issued}
-
-said : FileAnswer → List ℕ → Judged
-said answer starts = record { answer = answer; starts = starts }
 
 -- A file is accepted, with these totals and this list, exactly when it is allowed, the list has a word for each of its lines, the
 -- totals are those of its lines, and each word is where that line starts, every other 0. So a judge that refuses everything, one
 -- with a constant answer and invented counts are shut out.
 pub file-exactly : (s : List ℕ) (words : ℕ) (totals : Totals) (list : List ℕ) → Judges s words (AcceptedFile totals) list ↔
     ((ls : List FileLine) × AllowedFile s ls × (length ls ≤ words) × (totals ≡ totalsOf ls) × (list ≡ listOf words (lineStarts 0 ls)))
-unfolding said
-file-exactly s words totals list = (forth, back)
-  where
-    forth : Judges s words (AcceptedFile totals) list → (ls : List FileLine) ×
-        AllowedFile s ls × (length ls ≤ words) × (totals ≡ totalsOf ls) × (list ≡ listOf words (lineStarts 0 ls))
-    forth j =
-        let g = accepted-allowed s words totals (judged s words .starts) (ap
-        (λ (a : FileAnswer). said a (judged s words .starts)) (sym (j .0))) in
-        (g .lines, g .allowed, g .room, g .counts, j .1 ∙ ap (listOf words) (g .list))
-
-    back : (ls : List FileLine) × AllowedFile s ls × (length ls ≤ words) × (totals ≡ totalsOf ls) ×
-        (list ≡ listOf words (lineStarts 0 ls)) → Judges s words (AcceptedFile totals) list
-    back g =
-        let e = allowed-accepted s words totals (lineStarts 0 (g .0)) (record {
-          lines = g .0;
-          allowed = g .1;
-          room = g .2;
-          counts =
-              g .3;
-          list = refl;
-        }) in
-        (sym (ap (λ (j : Judged). j .answer) e), g .4 ∙ sym (ap (λ (j : Judged). listOf words (j .starts)) e))
+file-exactly s words totals list = judge-exactly s words (AcceptedFile totals) list
 
 -- No other division of the bytes into lines exists: the lines of an allowed file are its own.
 pub one-division-into-lines : (s : List ℕ) (ls ks : List FileLine) → AllowedFile s ls → AllowedFile s ks → ls ≡ ks
@@ -86,6 +63,17 @@ line-exactly s at line = lines.line-exactly (alone profile) s at line
 pub field-exactly : (s : List ℕ) (at : ℕ) (line : Line) (fs : List (List ℕ)) (n start long : ℕ) → Reads (alone profile) s at line fs →
     (fieldAnswer profile s at n ≡ Found start long) ↔ Finds (line .kind) fs s at n start long
 field-exactly s at line fs n start long g = finding.field-exactly g n start long
+
+-- A field is found exactly when an allowed line stands at the offset and the field stands in it.
+pub found-exactly : (s : List ℕ) (at n start long : ℕ) → (fieldAnswer profile s at n ≡ Found start long) ↔
+    ((line : Line) × ((fs : List (List ℕ)) × (Reads (alone profile) s at line fs × Finds (line .kind) fs s at n start long)))
+found-exactly = finding.found-exactly profile
+
+-- At one offset stands one line with one list of fields, whichever record is due.
+pub one-reading : (due late : Due) (s : List ℕ) (at : ℕ) (line other : Line) (fs gs : List (List ℕ)) →
+    Reads (record { rules = profile; due = due }) s at line fs → Reads (record { rules = profile; due = late }) s at other gs →
+    (line ≡ other) × (fs ≡ gs)
+one-reading due late s at line other fs gs g h = lines.one-reading g h
 
 -- "A written line reads back to its fields": the bytes that were written, by themselves, are accepted as the line of that record and
 -- of those fields, and each field is found again.

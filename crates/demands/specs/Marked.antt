@@ -14,7 +14,7 @@ use Rattle.check_characters.specs.Iban.{ibanVerdict, checkedIban}
 use Rattle.file.specs.File.{judged}
 use Rattle.file.specs.declared.whole.FileAnswer.{FileAnswer}
 use Rattle.file.specs.declared.whole.FileAnswer.the-variants.{Accepted, Refused}
-use Rattle.purpose.specs.Purpose.{purposeText}
+use Rattle.purpose.specs.Purpose.{purposeOf}
 
 -- "This file (each line ended by CR LF)"
 abbrev pub lines : List String → List ℕ
@@ -48,7 +48,7 @@ Holds (iban text verdict) = ibanVerdict (checkedIban (bytes text)) ≡ verdict
 Holds (money text holds) = amount (bytes text) ≡ holds
 Holds (date text holds) = dateTime (bytes text) ≡ holds
 Holds (file input answer starts) = judged input lent ≡ record { answer = answer; starts = starts }
-Holds (purpose input n text) = purposeText input n lent ≡ bytes text
+Holds (purpose input n text) = purposeOf input n lent ≡ bytes text
 
 abbrev pub AllHold : List Case → Type 0
 AllHold [] = Unit {0}

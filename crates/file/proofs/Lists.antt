@@ -1,14 +1,14 @@
 -- The lent list: cleared word by word, and what a list holds behind its first words.
 use Prim.Native.Nat.{ℕ, suc, _+_, _-_, _≤_, _<_}
 use mathlib.Core.Path.{_≡_, refl, sym, ap, _∙_}
-use mathlib.Core.Bool.{true}
+use mathlib.Core.Bool.{true, false}
 use mathlib.Core.List.{List, [], _∷_, _++_, append-nil}
 use native.Mathlib.Numerals.{add-one}
 use native.Mathlib.Omega.{arith}
 use lib.ListN.{length, take, drop, set, getD, replicate, length-take, length-replicate, replicate-append-replicate}
 use lib.ListN.{drop-of-length-le, take-append-drop}
 use lib.Seq.{drop-cons, set-at, append-snoc, drop-set-lt, take-suc-set}
-use borrow.Author.Tests.{lt-ltb, ltb-true}
+use borrow.Author.Tests.{lt-ltb, le-ltb, ltb-true, ltb-false}
 use Rattle.file.specs.Step.{listedSoFar, hasWord}
 
 -- the words passed are 0, the others as they were
@@ -35,6 +35,14 @@ word-left words lines e = ltb-true lines words e
 pub left-word : (words lines : ℕ) → lines < words → hasWord words lines ≡ true
 unfolding hasWord
 left-word words lines h = lt-ltb lines words h
+
+pub no-word : (words lines : ℕ) → words ≤ lines → hasWord words lines ≡ false
+unfolding hasWord
+no-word words lines h = le-ltb lines words h
+
+pub word-none : (words lines : ℕ) → hasWord words lines ≡ false → words ≤ lines
+unfolding hasWord
+word-none words lines e = ltb-false lines words e
 
 -- no line yet
 pub listed-none : (words : List ℕ) → listedSoFar 0 words ≡ []

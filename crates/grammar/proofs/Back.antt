@@ -14,7 +14,6 @@ use Rattle.text.specs.Placed.{written}
 use Rattle.text.proofs.Choices.{and-both, came-then, came-else}
 use Rattle.refusal.specs.declared.Reason.the-variants.{FieldCount, FeatureLacks, OutputTooShort, FieldEnds}
 use Rattle.refusal.specs.Table.{because}
-use Rattle.refusal.specs.declared.Refusal.{Refusal}
 use Rattle.refusal.proofs.Verdicts.{no-pass}
 use Rattle.fields.specs.Profile.{Row, profile}
 use Rattle.fields.specs.Record.{typeOf, countFits}
@@ -43,13 +42,13 @@ use Rattle.grammar.proofs.Sizes.{render-reads, render-accepted}
 use Rattle.grammar.proofs.Finding.{found, field-exactly}
 
 -- the writer's walk passes exactly the fields that are allowed
-walked-fields : (rows : List Row) (n : ℕ) (beside : List ℕ) (fs : List (List ℕ)) → Each (testedToWrite rows) n beside fs → FieldsOk rows n beside fs
+pub walked-fields : (rows : List Row) (n : ℕ) (beside : List ℕ) (fs : List (List ℕ)) → Each (testedToWrite rows) n beside fs → FieldsOk rows n beside fs
 walked-fields rows n beside [] g = tt
 walked-fields rows n beside (f ∷ fs) g =
     let p = test-passes rows n beside f (g .0) in
     (good-field rows n beside f (p .1) (p .0), walked-fields rows (suc n) f fs (g .1))
 
-fields-walked : (rows : List Row) (n : ℕ) (beside : List ℕ) (fs : List (List ℕ)) → FieldsOk rows n beside fs → Each (testedToWrite rows) n beside fs
+pub fields-walked : (rows : List Row) (n : ℕ) (beside : List ℕ) (fs : List (List ℕ)) → FieldsOk rows n beside fs → Each (testedToWrite rows) n beside fs
 fields-walked rows n beside [] g = tt
 fields-walked rows n beside (f ∷ fs) g =
     (passes-test rows n beside f (field-good rows n beside f (g .0)) (g .0 .clean), fields-walked rows (suc n) f fs (g .1))
@@ -77,8 +76,10 @@ module _ (number : ℕ) (text ends : List ℕ) (size fill n : ℕ) where
       go Fine ew eh ec e =
           let line = render kind (between text ends) in
           let room = if leb (fill + length line) size then Written (length line) else Refused (because OutputTooShort 0) in
-          let a = came-else (lacks kind (typeOf kind ∷ between text ends)) (Refused (because FeatureLacks 0)) room (Written n) (no-pass writeVerdict refl refl) e in
-          let b = came-then (leb (fill + length line) size) (Written (length line)) (Refused (because OutputTooShort 0)) (Written n) (no-pass writeVerdict refl refl)
+          let a = came-else (lacks kind (typeOf kind ∷ between text ends)) (Refused (because FeatureLacks 0)) room (Written n)
+          (no-pass writeVerdict refl refl) e in
+          let b = came-then (leb (fill + length line) size) (Written (length line)) (Refused (because OutputTooShort 0)) (Written n)
+          (no-pass writeVerdict refl refl)
           (a .1) in
           record {
             kind = kind;

@@ -1,7 +1,7 @@
 -- The test of one field and the walk over the fields of a line: they pass exactly what is allowed.
 use Prim.Native.Nat.{ℕ, suc}
 use mathlib.Core.Path.{_≡_, refl, sym}
-use mathlib.Core.Bool.{true, false}
+use mathlib.Core.Bool.{true}
 use mathlib.Core.List.{List, [], _∷_}
 use mathlib.Core.Logic.{⊎-elim}
 use lib.ListN.{length}
@@ -12,8 +12,7 @@ use Rattle.fields.specs.Profile.{isRequired, hasForm, Row, widthOf}
 use Rattle.fields.specs.Field.{tested}
 use Rattle.fields.specs.declared.field.Tested.the-variants.{Good}
 use Rattle.fields.proofs.Tests.{empty-good, form-good, good-passed}
-use Rattle.line.specs.Render.{plain}
-use Rattle.line.proofs.Splits.{allIn}
+use Rattle.line.specs.Render.{plain, allIn}
 use Rattle.line.proofs.Passing.{Each}
 use Rattle.grammar.specs.Grammar.{FieldOk, FieldsOk}
 

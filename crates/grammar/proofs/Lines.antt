@@ -146,7 +146,8 @@ reads-alone g = record {
 }
 
 -- at one offset stands one line with one list of fields, whatever is due
-pub one-reading : {rules : Rules} {due late : Due} {s : List ℕ} {at : ℕ} {line other : Line} {fs gs : List (List ℕ)} → Reads (record { rules = rules; due = due }) s at line fs →
+pub one-reading : {rules : Rules} {due late : Due} {s : List ℕ} {at : ℕ} {line other : Line} {fs gs : List (List ℕ)} →
+    Reads (record { rules = rules; due = due }) s at line fs →
     Reads (record { rules = rules; due = late }) s at other gs → (line ≡ other) × (fs ≡ gs)
 one-reading g h =
     let e = sym (reads-accepted (reads-alone g)) ∙ reads-accepted (reads-alone h) in

@@ -1,28 +1,27 @@
 -- The text of a line: that of an allowed line is accepted, and what is accepted is the text of an allowed line.
 use Prim.Native.Nat.{ℕ, _+_}
-use mathlib.Core.Path.{_≡_, refl, sym, ap, _∙_}
-use mathlib.Core.Bool.{true, false}
+use mathlib.Core.Path.{_≡_, sym, ap, _∙_}
+use mathlib.Core.Bool.{true}
 use mathlib.Core.List.{List, _∷_}
 use lib.ListN.{length}
 use Rattle.text.specs.Byte.{textByte}
 use Rattle.text.specs.Scan.{all}
 use Rattle.text.proofs.Choices.{and-right}
 use Rattle.fields.specs.Profile.{Rules}
-use Rattle.fields.specs.Record.{typeOf, named, countFits, mayCome}
+use Rattle.fields.specs.Record.{typeOf, mayCome}
 use Rattle.fields.specs.Field.{tested}
 use Rattle.fields.specs.declared.record.Record.{Record}
-use Rattle.fields.specs.declared.record.Named.the-variants.{Known}
 use Rattle.fields.specs.declared.record.Due.{Due}
 use Rattle.fields.proofs.Types.{type-named, named-type}
 use Rattle.line.specs.Parts.{split, nameOf, fieldsOf}
-use Rattle.line.specs.Render.{textOf, plain}
+use Rattle.line.specs.Render.{textOf, plain, allIn}
 use Rattle.line.specs.Told.{Told}
 use Rattle.line.specs.Walk.{behind}
 use Rattle.line.specs.Need.{lacks}
 use Rattle.line.specs.Line.{afterWalk, ofKind, ofNamed, ofText}
 use Rattle.line.specs.declared.read.Line.{Line}
 use Rattle.line.specs.declared.read.LineAnswer.the-variants.{Accepted}
-use Rattle.line.proofs.Splits.{split-some, allIn}
+use Rattle.line.proofs.Splits.{split-some}
 use Rattle.line.proofs.Plain.{split-plain, plain-split, plain-bytes}
 use Rattle.line.proofs.Passing.{fine-each, each-fine}
 use Rattle.line.proofs.Accepting.{TextOk}

@@ -25,7 +25,8 @@ use Rattle.fields.proofs.Types.{named-type}
 use Rattle.line.specs.Render.{joined, textOf, render}
 use Rattle.line.specs.Walk.{walk}
 use Rattle.line.specs.Need.{lacks}
-use Rattle.line.specs.Line.{lineEnd, endsWell, textAt, afterWalk, ofKind, ofNamed, ofText, textAnswer, onText, lineAnswer, textVerdict, lineVerdict, fileLimit}
+use Rattle.line.specs.Line.{lineEnd, endsWell, textAt, afterWalk, ofKind, ofNamed, ofText, textAnswer, onText, lineAnswer}
+use Rattle.line.specs.Line.{textVerdict, lineVerdict, fileLimit}
 use Rattle.line.specs.declared.scan.TextAnswer.{TextAnswer}
 use Rattle.line.specs.declared.scan.TextAnswer.the-variants.{Ends, Refused}
 use Rattle.line.specs.declared.walk.Walk.{Walk}
@@ -88,7 +89,8 @@ module _ (told : Told) (at : ℕ) (line : List ℕ) (l : Line) where
   unfolding ofNamed
   named-ok Unknown en e = absurd (no-pass lineVerdict refl refl e)
   named-ok (Known kind) en e =
-      let a = came-else (not (mayCome (told .due) kind)) (Refused (because OutOfOrder at)) (ofKind (told .rules) kind at line) (Accepted l) (no-pass lineVerdict refl refl) e in
+      let a = came-else (not (mayCome (told .due) kind)) (Refused (because OutOfOrder at)) (ofKind (told .rules) kind at line) (Accepted l)
+      (no-pass lineVerdict refl refl) e in
       kind-ok kind en (not-false (mayCome (told .due) kind) (a .0)) (a .1)
 
   pub text-ok : ofText told at line ≡ Accepted l → TextOk told at line l
@@ -107,7 +109,8 @@ unfolding textAnswer
 text-ends s at end e =
     let well = endsWell s (lineEnd s at) in
     let found = if not well then Refused (because NoLineEnd (lineEnd s at)) else Ends (lineEnd s at) in
-    let a = came-else (ltb fileLimit (length s)) (Refused (because FileTooLong fileLimit)) (if ltb (length s) at then Refused (because NoLineEnd (length s)) else found)
+    let a = came-else (ltb fileLimit (length s)) (Refused (because FileTooLong fileLimit)) (if ltb (length s)
+    at then Refused (because NoLineEnd (length s)) else found)
     (Ends end) (no-pass textVerdict refl refl) e in
     let b = came-else (ltb (length s) at) (Refused (because NoLineEnd (length s))) found (Ends end) (no-pass textVerdict refl refl) (a .1) in
     let c = came-else (not well) (Refused (because NoLineEnd (lineEnd s at))) (Ends (lineEnd s at)) (Ends end) (no-pass textVerdict refl refl) (b .1) in

@@ -3,6 +3,7 @@ pub mod Splits
 pub mod Plain
 pub mod Walking
 pub mod Passing
+pub mod Stopping
 pub mod Needs
 pub mod Lines
 pub mod Ends

@@ -2,7 +2,7 @@
 use Prim.Native.Nat.{ℕ, _+_}
 use mathlib.Core.Path.{_≡_, refl}
 use mathlib.Core.Bool.{Bool, true, false}
-use mathlib.Core.List.{List, [], _∷_}
+use mathlib.Core.List.{List, [], _∷_, _++_}
 use lib.ListN.{length, length-append}
 use Rattle.text.specs.Choice.{if_then_else_}
 use Rattle.text.specs.Byte.{textByte}
@@ -14,8 +14,8 @@ use Rattle.fields.specs.Record.{typeOf}
 use Rattle.fields.specs.declared.record.Record.{Record}
 use Rattle.fields.specs.declared.record.Record.the-variants.{Header, Sender, Shipment, Parcel, Product, Feature}
 use Rattle.line.specs.Parts.{semicolon, intoFirst, split, inField}
-use Rattle.line.specs.Render.{joined, textOf, render, plain}
-use Rattle.line.proofs.Splits.{allIn, split-joined}
+use Rattle.line.specs.Render.{joined, textOf, render, plain, allIn}
+use Rattle.line.proofs.Splits.{split-joined}
 
 pub render-long : (kind : Record) (fs : List (List ℕ)) → length (render kind fs) ≡ length (textOf kind fs) + 2
 render-long kind fs = length-append (textOf kind fs) (bytes "\r\n")
@@ -65,13 +65,29 @@ split-plain (b ∷ line) e = go (semicolon b) refl (split-plain line (and-right 
     go true d h = h
     go false d h = into-plain b (split line) (and-both (textByte b) (inField b) (and-left (textByte b) (all textByte line) e) (rw d)) h
 
--- the text of a line whose fields are plain
+-- a text with plain parts falls into them again
+module _ (name : List ℕ) (fs : List (List ℕ)) (p : allIn plain (name ∷ fs) ≡ true) where
+  front-plain : all plain name ≡ true
+  front-plain = and-left (all plain name) (allIn plain fs) p
+
+  rest-plain : allIn plain fs ≡ true
+  rest-plain = and-right (all plain name) (allIn plain fs) p
+
+  pub parts-split : split (name ++ joined fs) ≡ name ∷ fs
+  parts-split = split-joined name fs (all-also plain inField plain-in-field name front-plain) (all-in-also plain inField plain-in-field fs rest-plain)
+
+  pub parts-bytes : all textByte (name ++ joined fs) ≡ true
+  parts-bytes =
+      all-append textByte name (joined fs) (all-also plain textByte plain-text name front-plain)
+      (joined-text fs (all-in-also plain textByte plain-text fs rest-plain))
+
+-- so does the text of a line whose fields are plain
 module _ (kind : Record) (fs : List (List ℕ)) (clean : allIn plain fs ≡ true) where
+  all-plain : allIn plain (typeOf kind ∷ fs) ≡ true
+  all-plain = and-both (all plain (typeOf kind)) (allIn plain fs) (type-plain kind) clean
+
   pub plain-split : split (textOf kind fs) ≡ typeOf kind ∷ fs
-  plain-split = split-joined (typeOf kind) fs (all-also plain inField plain-in-field (typeOf kind) (type-plain kind))
-      (all-in-also plain inField plain-in-field fs clean)
+  plain-split = parts-split (typeOf kind) fs all-plain
 
   pub plain-bytes : all textByte (textOf kind fs) ≡ true
-  plain-bytes =
-      all-append textByte (typeOf kind) (joined fs) (all-also plain textByte plain-text (typeOf kind) (type-plain kind))
-      (joined-text fs (all-in-also plain textByte plain-text fs clean))
+  plain-bytes = parts-bytes (typeOf kind) fs all-plain

@@ -1,15 +1,15 @@
 -- A line's text taken apart at its semicolons and joined again: each is the other's inverse.
 use Prim.Native.Nat.{ℕ}
 use mathlib.Core.Path.{_≡_, refl, sym, ap, _∙_}
-use mathlib.Core.Bool.{Bool, true, false, _&&_}
+use mathlib.Core.Bool.{Bool, true, false}
 use mathlib.Core.List.{List, [], _∷_, _++_, append-nil}
 use lib.ListN.{drop, getD}
 use borrow.Author.Tests.{eqb-true, not-true}
 use Rattle.text.specs.Choice.{if_then_else_}
 use Rattle.text.specs.Scan.{all}
-use Rattle.text.proofs.Choices.{and-left, and-right}
+use Rattle.text.proofs.Choices.{and-left, and-right, and-both}
 use Rattle.line.specs.Parts.{semicolon, intoFirst, split, nameOf, fieldsOf, inField}
-use Rattle.line.specs.Render.{joined}
+use Rattle.line.specs.Render.{joined, allIn}
 
 -- there is always a first part
 pub split-some : (line : List ℕ) → split line ≡ nameOf line ∷ fieldsOf line
@@ -50,13 +50,15 @@ split-front (b ∷ f) line e =
     let h : semicolon b ≡ false = not-true (semicolon b) (and-left (inField b) (all inField f) e) in
     rw (h, split-front f line (and-right (inField b) (all inField f) e))
 
--- every byte of every part passes the test
-abbrev pub allIn : (ℕ → Bool) → List (List ℕ) → Bool
-allIn ok [] = true
-allIn ok (f ∷ fs) = all ok f && allIn ok fs
-
 pub split-joined : (f : List ℕ) (fs : List (List ℕ)) → all inField f ≡ true → allIn inField fs ≡ true → split (f ++ joined fs) ≡ f ∷ fs
 split-joined f [] e d = split-front f [] e ∙ rw append-nil
 split-joined f (g ∷ fs) e d =
     split-front f (joined (g ∷ fs)) e
     ∙ rw (append-nil, split-joined g fs (and-left (all inField g) (allIn inField fs) d) (and-right (all inField g) (allIn inField fs) d))
+
+-- the parts in front
+pub all-in-front : (ok : ℕ → Bool) (xs ys : List (List ℕ)) → allIn ok (xs ++ ys) ≡ true → allIn ok xs ≡ true
+all-in-front ok [] ys e = refl
+all-in-front ok (x ∷ xs) ys e =
+    and-both (all ok x) (allIn ok xs) (and-left (all ok x) (allIn ok (xs ++ ys)) e)
+    (all-in-front ok xs ys (and-right (all ok x) (allIn ok (xs ++ ys)) e))

@@ -36,6 +36,11 @@ fieldsOf line = drop 1 (split line)
 abbrev pub fieldNo : List (List ℕ) → ℕ → List ℕ
 fieldNo fs n = getD fs (n - 1) []
 
+-- the part in front of a field: the last of the fields in front of it, or the record type
+abbrev pub partBefore : List ℕ → List (List ℕ) → List ℕ
+partBefore name [] = name
+partBefore name (f ∷ front) = partBefore f front
+
 -- where a part starts in its line
 abbrev pub startIn : List (List ℕ) → ℕ → ℕ
 startIn parts zero = 0

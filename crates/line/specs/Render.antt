@@ -1,9 +1,10 @@
 -- Document 01, 'The file': the bytes that a line has.
 use Prim.Native.Nat.{ℕ}
-use mathlib.Core.Bool.{Bool, _&&_}
+use mathlib.Core.Bool.{Bool, true, _&&_}
 use mathlib.Core.List.{List, [], _∷_, _++_}
 use Rattle.text.specs.Byte.{textByte}
 use Rattle.text.specs.Quoted.{bytes}
+use Rattle.text.specs.Scan.{all}
 use Rattle.fields.specs.Record.{typeOf}
 use Rattle.fields.specs.declared.record.Record.{Record}
 use Rattle.line.specs.Parts.{inField}
@@ -24,3 +25,8 @@ render kind fs = textOf kind fs ++ bytes "\r\n"
 -- a byte that may stand in a field: a text byte, and no semicolon, since "nothing quotes them"
 abbrev pub plain : ℕ → Bool
 plain b = textByte b && inField b
+
+-- every byte of every part passes the test
+abbrev pub allIn : (ℕ → Bool) → List (List ℕ) → Bool
+allIn ok [] = true
+allIn ok (f ∷ fs) = all ok f && allIn ok fs

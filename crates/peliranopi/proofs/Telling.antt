@@ -10,7 +10,7 @@ use Rattle.writer.specs.Write.{writtenTo}
 use Rattle.writer.specs.declared.write.WriteAnswer.{WriteAnswer}
 use Rattle.purpose.specs.Purpose.{listAfter, outputAfter}
 use Rattle.purpose.specs.declared.write.PurposeAnswer.{PurposeAnswer}
-use Rattle.peliranopi.specs.Told.{numberIn, placeIn}
+use Rattle.peliranopi.specs.Told.{numberTold, placeTold}
 
 -- a value that is told of an answer is that of the answer's definition, where the answer's case is known
 pub told : {A : Type 0} (value : A → ℕ) (answer definition known : A) (n : ℕ) → answer ≡ definition → answer ≡ known → n ≡ value known →
@@ -19,12 +19,12 @@ told value answer definition known n e k t = t ∙ ap value (sym k ∙ e)
 
 -- of every answer the number, and the place
 pub told-number : {A : Type 0} (verdict : A → Verdict) (answer definition known : A) (n : ℕ) → answer ≡ definition → answer ≡ known →
-    n ≡ numberIn (verdict known) → n ≡ numberIn (verdict definition)
-told-number verdict = told (λ a. numberIn (verdict a))
+    n ≡ numberTold (verdict known) → n ≡ numberTold (verdict definition)
+told-number verdict = told (λ a. numberTold (verdict a))
 
 pub told-place : {A : Type 0} (verdict : A → Verdict) (answer definition known : A) (n : ℕ) → answer ≡ definition → answer ≡ known →
-    n ≡ placeIn (verdict known) → n ≡ placeIn (verdict definition)
-told-place verdict = told (λ a. placeIn (verdict a))
+    n ≡ placeTold (verdict known) → n ≡ placeTold (verdict definition)
+told-place verdict = told (λ a. placeTold (verdict a))
 
 -- a buffer that an answer leaves is the buffer that its definition leaves
 pub left : {A : Type 0} (buffer : A → List ℕ) (answer definition : A) (after : List ℕ) → answer ≡ definition → after ≡ buffer answer →

@@ -11,20 +11,20 @@ use Rattle.line.specs.Line.{lineAnswer, lineVerdict, alone}
 use Rattle.line.specs.Find.{fieldAnswer, fieldVerdict}
 use Rattle.file.specs.File.{judged, listOf, fileVerdict}
 use Rattle.writer.specs.Write.{recordNumbered, between, writeAnswer, writtenTo, writeVerdict}
-use Rattle.purpose.specs.Purpose.{purposeAnswer, purposeText, listAfter, outputAfter, purposeVerdict}
-use Rattle.peliranopi.specs.Told.{numberIn, placeIn, linesIn, parcelsIn, centsIn, recordIn, countIn, nextIn, startIn}
-use Rattle.peliranopi.specs.Told.{lengthIn, writtenIn, purposeIn, issuedIn, kindIn}
+use Rattle.purpose.specs.Purpose.{purposeAnswer, purposeOf, listAfter, outputAfter, purposeVerdict}
+use Rattle.peliranopi.specs.Told.{numberTold, placeTold, linesTold, parcelsTold, centsTold, recordTold, countTold, nextTold, startTold}
+use Rattle.peliranopi.specs.Told.{lengthTold, writtenTold, purposeTold, issuedTold, kindTold}
 
 -- what every call tells: its number, and the place
 abbrev pub Tells : Verdict → ℕ → ℕ → Type 0
-Tells verdict number place = (number ≡ numberIn verdict) × (place ≡ placeIn verdict)
+Tells verdict number place = (number ≡ numberTold verdict) × (place ≡ placeTold verdict)
 
 -- judging a file with a list of so many words
 abbrev pub JudgeTells : List ℕ → ℕ → ℕ → ℕ → ℕ → ℕ → ℕ → List ℕ → Type 0
 JudgeTells file words number lines parcels cents place list =
     let said = judged file words in
     Tells (fileVerdict (said .answer)) number place
-    × (lines ≡ linesIn (said .answer)) × (parcels ≡ parcelsIn (said .answer)) × (cents ≡ centsIn (said .answer))
+    × (lines ≡ linesTold (said .answer)) × (parcels ≡ parcelsTold (said .answer)) × (cents ≡ centsTold (said .answer))
     × (list ≡ listOf words (said .starts))
 
 -- reading the line at an offset
@@ -32,20 +32,20 @@ abbrev pub LineTells : List ℕ → ℕ → ℕ → ℕ → ℕ → ℕ → ℕ 
 LineTells file offset number kind fields next place =
     let answer = lineAnswer (alone profile) file offset in
     Tells (lineVerdict answer) number place
-    × (kind ≡ recordIn answer) × (fields ≡ countIn answer) × (next ≡ nextIn answer)
+    × (kind ≡ recordTold answer) × (fields ≡ countTold answer) × (next ≡ nextTold answer)
 
 -- finding a field of it
 abbrev pub FieldTells : List ℕ → ℕ → ℕ → ℕ → ℕ → ℕ → ℕ → Type 0
 FieldTells file offset field number start long place =
     let answer = fieldAnswer profile file offset field in
-    Tells (fieldVerdict answer) number place × (start ≡ startIn answer) × (long ≡ lengthIn answer)
+    Tells (fieldVerdict answer) number place × (start ≡ startTold answer) × (long ≡ lengthTold answer)
 
 -- writing a line into an output from its fill on
 abbrev pub WriteTells : ℕ → List ℕ → List ℕ → List ℕ → ℕ → ℕ → ℕ → ℕ → List ℕ → Type 0
 WriteTells kind text ends output fill number bytes place after =
     let answer = writeAnswer kind text ends (length output) fill in
     Tells (writeVerdict answer) number place
-    × (bytes ≡ writtenIn answer)
+    × (bytes ≡ writtenTold answer)
     × (after ≡ writtenTo answer (recordNumbered kind) (between text ends) output fill)
 
 -- writing the purpose of the line with a number, with a list of so many words
@@ -53,21 +53,21 @@ abbrev pub PurposeTells : List ℕ → ℕ → ℕ → List ℕ → ℕ → ℕ 
 PurposeTells file line words output number bytes place list after =
     let answer = purposeAnswer file line words (length output) in
     Tells (purposeVerdict answer) number place
-    × (bytes ≡ purposeIn answer)
+    × (bytes ≡ purposeTold answer)
     × (list ≡ listAfter answer words (judged file words .starts))
-    × (after ≡ outputAfter answer (purposeText file line words) output)
+    × (after ≡ outputAfter answer (purposeOf file line words) output)
 
 -- checking a number
 abbrev pub NumberTells : List ℕ → ℕ → ℕ → ℕ → Type 0
 NumberTells symbols number kind place =
     let answer = checkedNumber symbols in
-    Tells (checkVerdict answer) number place × (kind ≡ kindIn answer)
+    Tells (checkVerdict answer) number place × (kind ≡ kindTold answer)
 
 -- issuing one
 abbrev pub IssueTells : List ℕ → List ℕ → ℕ → ℕ → ℕ → List ℕ → Type 0
 IssueTells body output number bytes place after =
     let answer = issueAnswer body (length output) in
-    Tells (issueVerdict answer) number place × (bytes ≡ issuedIn answer) × (after ≡ issuedTo answer body output)
+    Tells (issueVerdict answer) number place × (bytes ≡ issuedTold answer) × (after ≡ issuedTo answer body output)
 
 -- checking an IBAN
 abbrev pub IbanTells : List ℕ → ℕ → ℕ → Type 0

@@ -22,27 +22,27 @@ use Rattle.purpose.specs.declared.write.PurposeAnswer.{PurposeAnswer}
 use Rattle.purpose.specs.declared.write.PurposeAnswer.the-variants as purposed
 
 -- the paper's refusal number, 0 for accepted
-abbrev pub numberIn : Verdict → ℕ
-numberIn Verdict.passes = 0
-numberIn (Verdict.refused number place) = number
+abbrev pub numberTold : Verdict → ℕ
+numberTold Verdict.passes = 0
+numberTold (Verdict.refused number place) = number
 
 -- the refusal's place
-abbrev pub placeIn : Verdict → ℕ
-placeIn Verdict.passes = 0
-placeIn (Verdict.refused number place) = place
+abbrev pub placeTold : Verdict → ℕ
+placeTold Verdict.passes = 0
+placeTold (Verdict.refused number place) = place
 
 -- of a whole file: "number of lines, number of 040 lines, and the cash total in cents"
-abbrev pub linesIn : FileAnswer → ℕ
-linesIn (judged.Accepted totals) = totals .lines
-linesIn (judged.Refused refusal) = 0
+abbrev pub linesTold : FileAnswer → ℕ
+linesTold (judged.Accepted totals) = totals .lines
+linesTold (judged.Refused refusal) = 0
 
-abbrev pub parcelsIn : FileAnswer → ℕ
-parcelsIn (judged.Accepted totals) = totals .parcels
-parcelsIn (judged.Refused refusal) = 0
+abbrev pub parcelsTold : FileAnswer → ℕ
+parcelsTold (judged.Accepted totals) = totals .parcels
+parcelsTold (judged.Refused refusal) = 0
 
-abbrev pub centsIn : FileAnswer → ℕ
-centsIn (judged.Accepted totals) = totals .cents
-centsIn (judged.Refused refusal) = 0
+abbrev pub centsTold : FileAnswer → ℕ
+centsTold (judged.Accepted totals) = totals .cents
+centsTold (judged.Refused refusal) = 0
 
 -- "Record type as a number (10 for 010, up to 60)"
 abbrev pub recordNumber : Record → ℕ
@@ -54,45 +54,45 @@ recordNumber Product = 50
 recordNumber Feature = 60
 
 -- of one line: "the record kind, the field count and where the next line starts"
-abbrev pub recordIn : LineAnswer → ℕ
-recordIn (read.Accepted line) = recordNumber (line .kind)
-recordIn (read.Refused refusal) = 0
+abbrev pub recordTold : LineAnswer → ℕ
+recordTold (read.Accepted line) = recordNumber (line .kind)
+recordTold (read.Refused refusal) = 0
 
-abbrev pub countIn : LineAnswer → ℕ
-countIn (read.Accepted line) = line .count
-countIn (read.Refused refusal) = 0
+abbrev pub countTold : LineAnswer → ℕ
+countTold (read.Accepted line) = line .count
+countTold (read.Refused refusal) = 0
 
-abbrev pub nextIn : LineAnswer → ℕ
-nextIn (read.Accepted line) = line .next
-nextIn (read.Refused refusal) = 0
+abbrev pub nextTold : LineAnswer → ℕ
+nextTold (read.Accepted line) = line .next
+nextTold (read.Refused refusal) = 0
 
 -- of one field: "start and length"
-abbrev pub startIn : FieldAnswer → ℕ
-startIn (Found start length) = start
-startIn (Refused refusal) = 0
+abbrev pub startTold : FieldAnswer → ℕ
+startTold (Found start length) = start
+startTold (Refused refusal) = 0
 
-abbrev pub lengthIn : FieldAnswer → ℕ
-lengthIn (Found start length) = length
-lengthIn (Refused refusal) = 0
+abbrev pub lengthTold : FieldAnswer → ℕ
+lengthTold (Found start length) = length
+lengthTold (Refused refusal) = 0
 
 -- of what is written: "how many bytes were written"
-abbrev pub writtenIn : WriteAnswer → ℕ
-writtenIn (wrote.Written n) = n
-writtenIn (wrote.Refused refusal) = 0
+abbrev pub writtenTold : WriteAnswer → ℕ
+writtenTold (wrote.Written n) = n
+writtenTold (wrote.Refused refusal) = 0
 
-abbrev pub purposeIn : PurposeAnswer → ℕ
-purposeIn (purposed.Written n) = n
-purposeIn (purposed.Refused refusal) = 0
+abbrev pub purposeTold : PurposeAnswer → ℕ
+purposeTold (purposed.Written n) = n
+purposeTold (purposed.Refused refusal) = 0
 
-abbrev pub issuedIn : IssueAnswer → ℕ
-issuedIn (Issued n) = n
-issuedIn (Refused refusal) = 0
+abbrev pub issuedTold : IssueAnswer → ℕ
+issuedTold (Issued n) = n
+issuedTold (Refused refusal) = 0
 
 -- of a number: "the length (15 or 28) telling the kind"
 abbrev pub kindNumber : Kind → ℕ
 kindNumber Tracking = 1
 kindNumber Label = 2
 
-abbrev pub kindIn : NumberAnswer → ℕ
-kindIn (checked.Accepted kind) = kindNumber kind
-kindIn (checked.Refused refusal) = 0
+abbrev pub kindTold : NumberAnswer → ℕ
+kindTold (checked.Accepted kind) = kindNumber kind
+kindTold (checked.Refused refusal) = 0

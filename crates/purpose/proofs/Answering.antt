@@ -16,7 +16,7 @@ use Rattle.file.specs.declared.whole.FileAnswer.{FileAnswer}
 use Rattle.file.specs.declared.whole.FileAnswer.the-variants.{Accepted, Refused}
 use Rattle.file.proofs.Listing.{none-listed, lines-listed, lines-fit as words-fit}
 use Rattle.purpose.specs.Source.{sourceOf}
-use Rattle.purpose.specs.Purpose.{purposeLong, cut, sourceText, textFrom, onSource, onFile, purposeAnswer, purposeText, listAfter, outputAfter}
+use Rattle.purpose.specs.Purpose.{purposeLong, cut, sourceText, textFrom, onSource, onFile, purposeAnswer, purposeOf, listAfter, outputAfter}
 use Rattle.purpose.specs.declared.source.Source.{Source}
 use Rattle.purpose.specs.declared.source.Sourced.{Sourced}
 use Rattle.purpose.specs.declared.source.Sourced.the-variants.{From, Nowhere}
@@ -69,7 +69,7 @@ module _ (s : List ℕ) (m : ℕ) (a : FileAnswer) (ea : a ≡ judged s m .answe
       unfolding onSource
       was-written h r er = answered (length out) (Written r) (rw (es, le-ltb (length out) purposeLong h, er))
 
-      pub text-there : (o : List ℕ) → o ≡ written out 0 (cut (sourceText s source)) → o ≡ written out 0 (purposeText s n m)
+      pub text-there : (o : List ℕ) → o ≡ written out 0 (cut (sourceText s source)) → o ≡ written out 0 (purposeOf s n m)
       text-there o eo = eo ∙ ap (λ (x : Sourced). written out 0 (textFrom s x)) (sym es ∙ source-is)
 
 pub cleared : (m : ℕ) (list list2 : List ℕ) → length list ≡ m → list2 ≡ replicate (length list) 0 → list2 ≡ replicate m 0

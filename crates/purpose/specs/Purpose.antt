@@ -54,8 +54,8 @@ purposeSource file n words = sourceOf file (judged file words .starts) n
 abbrev pub purposeAnswer : List ℕ → ℕ → ℕ → ℕ → PurposeAnswer
 purposeAnswer file n words room = onFile (judged file words .answer) (purposeSource file n words) file room
 
-abbrev pub purposeText : List ℕ → ℕ → ℕ → List ℕ
-purposeText file n words = textFrom file (purposeSource file n words)
+abbrev pub purposeOf : List ℕ → ℕ → ℕ → List ℕ
+purposeOf file n words = textFrom file (purposeSource file n words)
 
 -- "list lent as for the whole file", and "the list's words are all 0 after 15 or 13 too"
 abbrev pub listAfter : PurposeAnswer → ℕ → List ℕ → List ℕ
@@ -72,7 +72,7 @@ abbrev pub Purposes : List ℕ → ℕ → ℕ → List ℕ → PurposeAnswer �
 Purposes file n words output answer list after =
     (answer ≡ purposeAnswer file n words (length output))
     × (list ≡ listAfter answer words (judged file words .starts))
-    × (after ≡ outputAfter answer (purposeText file n words) output)
+    × (after ≡ outputAfter answer (purposeOf file n words) output)
 
 -- the paper's number and place for each answer
 abbrev pub purposeVerdict : PurposeAnswer → Verdict

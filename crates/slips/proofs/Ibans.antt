@@ -1,11 +1,11 @@
 -- IBANs: accepted exactly when sound; no two differ in one symbol of a class, or by two swapped neighbours of a class.
-use Prim.Native.Nat.{ℕ, suc, _+_, _-_, _*_, _/_, _%_, _^_, _≤_, _<_}
+use Prim.Native.Nat.{ℕ, suc, _+_, _*_, _/_, _%_, _^_, _≤_, _<_}
 use mathlib.Core.Path.{_≡_, refl, sym, ap, _∙_}
 use mathlib.Core.Bool.{Bool, true, false, not, _&&_, _||_}
 use mathlib.Core.List.{List, [], _∷_, _++_, append-assoc}
-use mathlib.Core.Logic.{_⊎_, inl, ⊎-elim}
+use mathlib.Core.Logic.{inl, ⊎-elim}
 use native.Mathlib.Omega.{arith}
-use native.Mathlib.Nat.{pow-succ', zero-add}
+use native.Mathlib.Nat.{pow-succ'}
 use native.Mathlib.Numerals.{add-one}
 use lib.Dec.{eqb, ltb, leb}
 use lib.ListN.{length, getD, take, drop, length-append}
@@ -13,13 +13,11 @@ use lib.Seq.{split-at}
 use borrow.Author.Tests.{eqb-true, eq-eqb, ltb-false, leb-true, le-leb, le-ltb, lt-leb, not-true, not-false}
 use Rattle.refusal.specs.declared.Reason.the-variants.{WrongLength, WrongSymbol, WrongCheck}
 use Rattle.refusal.specs.Table.{because}
-use Rattle.refusal.specs.declared.Refusal.{Refusal}
 use Rattle.refusal.proofs.Verdicts.{no-pass}
 use Rattle.text.specs.Choice.{if_then_else_}
 use Rattle.text.specs.Byte.{digit, capital}
 use Rattle.text.proofs.Choices.{and-left, and-right, or-cases, came-then, came-else, clash}
 use Rattle.text.proofs.Bytes.{digit-range, capital-range, capital-low}
-use Rattle.text.proofs.Scans.{none-fails, all-pass}
 use Rattle.text.proofs.Finite.{every-at, tells, told-apart}
 use Rattle.check_characters.specs.Symbol.{valueOf}
 use Rattle.check_characters.specs.Iban.{allowedInIban, wrongInIban, digitsOf, spread, decimalFrom, moved, ibanNumber, ibanVerdict}
@@ -29,6 +27,7 @@ use Rattle.check_characters.proofs.Symbols.{value-le, value-digit, value-capita
 use Rattle.check_characters.proofs.Digits.{mod-scale, spread-append}
 use Rattle.slips.specs.Slips.{AgreeBut, OneClass, swapped}
 use Rattle.slips.specs.Exactly.{SoundIban}
+use Rattle.slips.proofs.Shaping.{shaped-all, all-shaped}
 use Rattle.slips.proofs.Places.{in-pieces, agree-there, pair-at, swap-alike}
 use Rattle.slips.proofs.Remainders.{decimal-append, weight, weighed, after, remainderFrom, remainder-spread}
 use Rattle.slips.proofs.Remainders.{remainder-append, weight-tells, cancel, tell-remainders, tell-order, tell-value}
@@ -39,14 +38,15 @@ accepted-sound s e =
     let inside = leb 15 (length s) && leb (length s) 34 in
     let wrong = ltb (wrongInIban s) (length s) in
     let tail = if soundOf s then Accepted else Refused (because WrongCheck 2) in
-    let a = came-else (not inside) (Refused (because WrongLength 0)) (if wrong then Refused (because WrongSymbol (wrongInIban s)) else tail) Accepted (no-pass ibanVerdict refl refl) e in
+    let a = came-else (not inside) (Refused (because WrongLength 0)) (if wrong then Refused (because WrongSymbol (wrongInIban s)) else tail)
+    Accepted (no-pass ibanVerdict refl refl) e in
     let b = came-else wrong (Refused (because WrongSymbol (wrongInIban s))) tail Accepted (no-pass ibanVerdict refl refl) (a .1) in
     let c = came-then (soundOf s) Accepted (Refused (because WrongCheck 2)) Accepted (no-pass ibanVerdict refl refl) (b .1) in
     let long = not-false inside (a .0) in
     record {
       long = leb-true 15 (length s) (and-left (leb 15 (length s)) (leb (length s) 34) long);
       short = leb-true (length s) 34 (and-right (leb 15 (length s)) (leb (length s) 34) long);
-      shaped = λ i l. rw zero-add at (none-fails allowedInIban 0 s (omega (arith, ltb-false (wrongInIban s) (length s) (b .0))) i l);
+      shaped = shaped-all allowedInIban s (ltb-false (wrongInIban s) (length s) (b .0));
       unbarred = not-true (barred (checkDigits s)) (and-left (not (barred (checkDigits s))) (eqb (ibanNumber s % 97) 1) (c .0));
       one = eqb-true (ibanNumber s % 97) 1 (and-right (not (barred (checkDigits s))) (eqb (ibanNumber s % 97) 1) (c .0));
     }
@@ -57,7 +57,7 @@ sound-accepted s g =
     simp (
       le-leb 15 (length s) (g .long),
       le-leb (length s) 34 (g .short),
-      le-ltb (wrongInIban s) (length s) (omega (arith, all-pass allowedInIban 0 s (λ j l. rw zero-add (g .shaped j l)))),
+      le-ltb (wrongInIban s) (length s) (all-shaped allowedInIban s (g .shaped)),
       g .unbarred,
       eq-eqb (ibanNumber s % 97) 1 (g .one),
     )

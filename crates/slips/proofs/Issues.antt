@@ -11,7 +11,6 @@ use lib.Seq.{take-at, getD-take, getD-at, append-snoc}
 use borrow.Author.Tests.{eqb-true, ltb-false}
 use Rattle.refusal.specs.declared.Reason.the-variants.{OutputTooShort, WrongLength, WrongSymbol}
 use Rattle.refusal.specs.Table.{because}
-use Rattle.refusal.specs.declared.Refusal.{Refusal}
 use Rattle.refusal.proofs.Verdicts.{no-pass}
 use Rattle.text.specs.Byte.{symbol}
 use Rattle.text.specs.Choice.{if_then_else_}
@@ -29,7 +28,8 @@ use Rattle.check_characters.proofs.Carries.{carry-of, check-value}
 use Rattle.check_characters.proofs.Shapes.{has-last, tracking-check, label-check}
 use Rattle.check_characters.proofs.Issuing.{issue-fits, issue-tracking, issue-label}
 use Rattle.slips.specs.Exactly.{Shaped, SoundNumber, bodyOf}
-use Rattle.slips.proofs.Numbers.{all-and-last, shaped-of, of-shaped, two-passes, carry-append, two-of-one, one-symbol}
+use Rattle.slips.proofs.Shaping.{shaped-all, all-shaped}
+use Rattle.slips.proofs.Numbers.{all-and-last, two-passes, carry-append, two-of-one, one-symbol}
 
 -- what an issued answer tells of the body
 pub record Body (k : Kind) (body : List ℕ) (n : ℕ) : Type 0 where
@@ -43,7 +43,7 @@ body-as k body room n long e =
     let w = came-else (ltb (wrongInNumber k body) (length body)) (Refused (because WrongSymbol (wrongInNumber k body)))
     (if ltb room (lengthOf k) then Refused (because OutputTooShort 0) else Issued (lengthOf k)) (Issued n) (no-pass issueVerdict refl refl) e in
     let r = came-else (ltb room (lengthOf k)) (Refused (because OutputTooShort 0)) (Issued (lengthOf k)) (Issued n) (no-pass issueVerdict refl refl) (w .1) in
-    record { long = long; shaped = shaped-of k body (ltb-false (wrongInNumber k body) (length body) (w .0)); whole = cc }
+    record { long = long; shaped = shaped-all (allowedInNumber k) body (ltb-false (wrongInNumber k body) (length body) (w .0)); whole = cc }
 
 body-of : (body : List ℕ) (room n : ℕ) → issueAnswer body room ≡ Issued n → (k : Kind) × Body k body n
 unfolding issueAnswer
@@ -54,7 +54,8 @@ body-of body room n e =
           (simp t at e),
     ))
     (λ (f : eqb (length body) 14 ≡ false).
-    let w = came-then (eqb (length body) 27) (issueAs Label body room) (Refused (because WrongLength 0)) (Issued n) (no-pass issueVerdict refl refl) (simp f at e) in
+    let w = came-then (eqb (length body) 27) (issueAs Label body room) (Refused (because WrongLength 0)) (Issued n) (no-pass issueVerdict refl refl)
+    (simp f at e) in
     (Label, body-as Label body room n (omega (arith, eqb-true (length body) 27 (w .0))) (w .1)))
     (true-or-false (eqb (length body) 14))
 
@@ -117,7 +118,7 @@ front-shaped k s m shaped i l =
     let r = length-take m s in
     rw (getD-take m s i 0 (omega arith)) (shaped i (omega arith))
 
-issues-as : (k : Kind) (body : List ℕ) (room : ℕ) → length body + 1 ≡ lengthOf k → issueAnswer body room ≡ issueAs k body room
+pub issues-as : (k : Kind) (body : List ℕ) (room : ℕ) → length body + 1 ≡ lengthOf k → issueAnswer body room ≡ issueAs k body room
 issues-as Tracking body room e = issue-tracking body room (omega arith)
 issues-as Label body room e = issue-label body room (λ q. omega arith) (omega arith)
 
@@ -140,7 +141,7 @@ sound-issued k s out after answer g room h = (answered, rw answered at (h .1) �
     answered =
         h .0
         ∙ issues-as k (bodyOf s) (length out) (whole ∙ g .long)
-        ∙ sym (issue-fits k (bodyOf s) (length out) (wrongInNumber k (bodyOf s)) refl (of-shaped k (bodyOf s) shaped) (whole
+        ∙ sym (issue-fits k (bodyOf s) (length out) (wrongInNumber k (bodyOf s)) refl (all-shaped (allowedInNumber k) (bodyOf s) shaped) (whole
         ∙ g .long) (omega (arith, whole)))
         ∙ ap Issued whole
 

@@ -1,3 +1,4 @@
+pub mod Shaping
 pub mod Places
 pub mod Steps
 pub mod Numbers

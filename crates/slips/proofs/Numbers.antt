@@ -5,21 +5,18 @@ use mathlib.Core.Bool.{true, false}
 use mathlib.Core.List.{List, [], _∷_, _++_}
 use mathlib.Core.Logic.{_↔_, _⊎_, inl, inr, ⊎-elim}
 use native.Mathlib.Omega.{arith}
-use native.Mathlib.Nat.{zero-add}
 use lib.Dec.{eqb, ltb}
 use lib.ListN.{length, getD, take, drop, length-append}
 use lib.Seq.{split-at, take-suc, take-all, getD-at}
 use borrow.Author.Tests.{eqb-true, eq-eqb, ltb-false, le-ltb}
 use Rattle.refusal.specs.declared.Reason.the-variants.{WrongLength, WrongSymbol, WrongCheck}
 use Rattle.refusal.specs.Table.{because}
-use Rattle.refusal.specs.declared.Refusal.{Refusal}
 use Rattle.refusal.proofs.Verdicts.{no-pass}
 use Rattle.text.specs.Byte.{digit, capital, symbol}
 use Rattle.text.specs.Choice.{if_then_else_}
 use Rattle.text.proofs.Choices.{came-then, came-else, or-cases, clash, true-or-false}
 use Rattle.text.proofs.Numbers.{le-or-lt}
 use Rattle.text.proofs.Bytes.{digit-range, capital-range}
-use Rattle.text.proofs.Scans.{none-fails, all-pass}
 use Rattle.check_characters.specs.Symbol.{valueOf}
 use Rattle.check_characters.specs.Mod37.{step, carryFrom, carry, passes}
 use Rattle.check_characters.specs.Number.{lengthOf, allowedInNumber, wrongInNumber, checkedAs, checkedNumber, checkVerdict}
@@ -32,14 +29,9 @@ use Rattle.check_characters.proofs.Shapes.{has-last, tracking-digit, tracking-c
 use Rattle.check_characters.proofs.Checking.{checked-tracking, checked-label}
 use Rattle.slips.specs.Slips.{AgreeBut, swapped, OneFollows}
 use Rattle.slips.specs.Exactly.{Shaped, SoundNumber}
+use Rattle.slips.proofs.Shaping.{shaped-all, all-shaped}
 use Rattle.slips.proofs.Places.{in-pieces, agree-there, pair-at}
 use Rattle.slips.proofs.Steps.{step-sum, step-value, step-back, swap-follows, follows-swap}
-
-pub shaped-of : (k : Kind) (s : List ℕ) → length s ≤ wrongInNumber k s → Shaped (allowedInNumber k) s
-shaped-of k s h i l = rw zero-add at (none-fails (allowedInNumber k) 0 s (omega arith) i l)
-
-pub of-shaped : (k : Kind) (s : List ℕ) → Shaped (allowedInNumber k) s → length s ≤ wrongInNumber k s
-of-shaped k s p = omega (arith, all-pass (allowedInNumber k) 0 s (λ j l. rw zero-add (p j l)))
 
 pub two-of-one : (c v : ℕ) → (c + v) % 36 ≡ 1 → step c v ≡ 2
 two-of-one c v e = step-more c v (λ z. omega arith) ∙ rw e
@@ -55,7 +47,7 @@ sound-as j k s n e =
     (if passes s then Accepted j else Refused (because WrongCheck (length s - 1))) (Accepted k) (no-pass checkVerdict refl refl) e in
     let p = came-then (passes s) (Accepted j) (Refused (because WrongCheck (length s - 1))) (Accepted k) (no-pass checkVerdict refl refl) (w .1) in
     let q : j ≡ k = cc in
-    let g : SoundNumber j s = record { long = n; shaped = shaped-of j s (ltb-false (wrongInNumber j s) (length s) (w .0)); closed = p .0 } in
+    let g : SoundNumber j s = record { long = n; shaped = shaped-all (allowedInNumber j) s (ltb-false (wrongInNumber j s) (length s) (w .0)); closed = p .0 } in
     rw q at g
 
 pub accepted-sound : (k : Kind) (s : List ℕ) → checkedNumber s ≡ Accepted k → SoundNumber k s
@@ -69,11 +61,14 @@ accepted-sound k s e =
 
 accepted-as : (k : Kind) (s : List ℕ) → SoundNumber k s → checkedAs k s ≡ Accepted k
 unfolding checkedAs
-accepted-as k s g = simp (le-ltb (wrongInNumber k s) (length s) (of-shaped k s (g .shaped)), g .closed)
+accepted-as k s g = simp (le-ltb (wrongInNumber k s) (length s) (all-shaped (allowedInNumber k) s (g .shaped)), g .closed)
+
+pub checked-kind : (k : Kind) (s : List ℕ) → length s ≡ lengthOf k → checkedNumber s ≡ checkedAs k s
+checked-kind Tracking s n = checked-tracking s n
+checked-kind Label s n = checked-label s (λ e. omega arith) n
 
 pub sound-accepted : (k : Kind) (s : List ℕ) → SoundNumber k s → checkedNumber s ≡ Accepted k
-sound-accepted Tracking s g = checked-tracking s (g .long) ∙ accepted-as Tracking s g
-sound-accepted Label s g = checked-label s (λ e. omega (arith, g .long)) (g .long) ∙ accepted-as Label s g
+sound-accepted k s g = checked-kind k s (g .long) ∙ accepted-as k s g
 
 -- a number passes exactly when the carry of the whole is 2: the check is a symbol like the others
 pub carry-append : (c : ℕ) (p q : List ℕ) → carryFrom c (p ++ q) ≡ carryFrom (carryFrom c p) q

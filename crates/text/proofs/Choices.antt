@@ -50,6 +50,11 @@ module _ {A : Type 0} (t : Bool) (a b c : A) where
       go true e = absurd (n e)
       go false e = (refl, e)
 
+-- a choice came out as c, by one arm or by the other
+pub choice : {A R : Type 0} (t : Bool) (a b c : A) → (t ≡ true → a ≡ c → R) → (t ≡ false → b ≡ c → R) → (if t then a else b) ≡ c → R
+choice true a b c then-arm else-arm e = then-arm refl e
+choice false a b c then-arm else-arm e = else-arm refl e
+
 -- tests joined, as a row of early returns meets them: the first fails, or it holds and u is the answer of the rest
 module _ (c : Bool) where
   pub test-fails : (t a : Bool) → t ≡ a → not t ≡ true → false ≡ (a && c)

@@ -1,10 +1,10 @@
 -- The first byte that fails a test, for any test: where it lies, that it fails, and the run of bytes in front of it that pass.
-use Prim.Native.Nat.{ℕ, suc, _+_, _-_, _≤_, _<_}
+use Prim.Native.Nat.{ℕ, zero, suc, _+_, _-_, _≤_, _<_}
 use mathlib.Core.Path.{_≡_, refl, sym, ap, _∙_}
 use mathlib.Core.Bool.{Bool, true, false}
-use mathlib.Core.List.{List, [], _∷_, _++_}
+use mathlib.Core.List.{List, [], _∷_, _++_, append-nil}
 use native.Mathlib.Omega.{arith}
-use native.Mathlib.Nat.{add-zero}
+use native.Mathlib.Nat.{add-zero, add-suc, suc-add}
 use lib.ListN.{length, take, drop, getD}
 use lib.Seq.{take-append-seam, drop-append-seam}
 use Rattle.text.specs.Choice.{if_then_else_}
@@ -43,6 +43,17 @@ module _ (ok : ℕ → ℕ → Bool) where
           let k : f - i ≡ suc (f - suc i) = omega (arith, first-least (suc i) s) in
           rw k (on (omega arith))
       go false e l on = let k : i - i ≡ 0 = omega arith in rw k e
+
+  -- what stands in front of the first that fails passes
+  pub first-before : (i : ℕ) (s : List ℕ) (j : ℕ) → i + j < firstFailing ok i s → ok (i + j) (getD s j 0) ≡ true
+  first-before i [] j h = absurd (omega arith)
+  first-before i (b ∷ s) j h = go (ok i b) refl j h (λ k l. first-before (suc i) s k l)
+    where
+      go : (t : Bool) → ok i b ≡ t → (j : ℕ) → i + j < (if t then firstFailing ok (suc i) s else i) →
+          ((k : ℕ) → suc i + k < firstFailing ok (suc i) s → ok (suc i + k) (getD s k 0) ≡ true) → ok (i + j) (getD (b ∷ s) j 0) ≡ true
+      go false e j h on = absurd (omega arith)
+      go true e zero h on = rw add-zero e
+      go true e (suc j) h on = rw (add-suc i j, ← suc-add i j) (on j (omega arith))
 
 -- a test that does not ask for the place
 module _ (ok : ℕ → Bool) where
@@ -95,3 +106,43 @@ run ok i (b ∷ s) = go (ok b) refl (run ok (suc i) s)
     go : (t : Bool) → ok b ≡ t → Run ok (suc i) s → Run ok i (b ∷ s)
     go true e r = record { long = suc (r .long); ends = rw e (omega (arith, r .ends)); passes = rw e (r .passes) }
     go false e r = record { long = 0; ends = rw e (sym (add-zero i)); passes = refl }
+
+-- the run of bytes that pass a test, and what stands behind it: nothing, or a byte that fails
+abbrev pub Fails : (ℕ → Bool) → List ℕ → Type 0
+Fails ok [] = Unit {0}
+Fails ok (b ∷ s) = ok b ≡ false
+
+pub record Front (ok : ℕ → Bool) (i : ℕ) (s : List ℕ) : Type 0 where
+  pub run : List ℕ
+  pub behind : List ℕ
+  pub whole : s ≡ run ++ behind
+  pub passes : all ok run ≡ true
+  pub fails : Fails ok behind
+  pub ends : firstFailing (λ _ b. ok b) i s ≡ i + length run
+
+pub front : (ok : ℕ → Bool) (i : ℕ) (s : List ℕ) → Front ok i s
+front ok i [] = record { run = []; behind = []; whole = refl; passes = refl; fails = tt; ends = sym (add-zero i) }
+front ok i (b ∷ s) = go (ok b) refl (front ok (suc i) s)
+  where
+    go : (t : Bool) → ok b ≡ t → Front ok (suc i) s → Front ok i (b ∷ s)
+    go true e r =
+        record {
+          run = b ∷ r .run;
+          behind = r .behind;
+          whole = ap (λ (l : List ℕ). b ∷ l) (r .whole);
+          passes = and-both (ok b) (all ok (r .run)) e (r .passes);
+          fails = r .fails;
+          ends = rw e (omega (arith, r .ends));
+        }
+    go false e r = record { run = []; behind = b ∷ s; whole = refl; passes = refl; fails = e; ends = rw e (sym (add-zero i)) }
+
+run-all : (ok : ℕ → Bool) (i : ℕ) (f : List ℕ) → all ok f ≡ true → firstFailing (λ _ b. ok b) i f ≡ i + length f
+run-all ok i [] e = sym (add-zero i)
+run-all ok i (b ∷ f) e =
+    let h : ok b ≡ true = and-left (ok b) (all ok f) e in
+    rw h (omega (arith, run-all ok (suc i) f (and-right (ok b) (all ok f) e)))
+
+pub run-to : (ok : ℕ → Bool) (i : ℕ) (f behind : List ℕ) → all ok f ≡ true → Fails ok behind →
+    firstFailing (λ _ b. ok b) i (f ++ behind) ≡ i + length f
+run-to ok i f [] e d = ap (λ (l : List ℕ). firstFailing (λ _ b. ok b) i l) (append-nil f) ∙ run-all ok i f e
+run-to ok i f (b ∷ behind) e d = run-past ok i f b behind e d

@@ -141,6 +141,9 @@ same-refl [] = refl
 same-refl (x ∷ a) = and-both (eqb x x) (same a a) (eq-eqb x x refl) (same-refl a)
 
 -- a run compared is the run that it is known to be
+pub unlike : (a b : List ℕ) → (a ≡ b → ⊥) → same a b ≡ false
+unlike a b n = ⊎-elim (λ t. absurd (n (same-eq a b t))) (λ f. f) (true-or-false (same a b))
+
 pub same-as : (a b name : List ℕ) (t : Bool) → a ≡ b → t ≡ same a name → t ≡ same b name
 same-as a b name t e q = q ∙ ap (λ (x : List ℕ). same x name) e
 

@@ -21,11 +21,9 @@ use Rattle.fields.specs.declared.field.Tested.{Tested}
 use Rattle.fields.specs.declared.field.Tested.the-variants.{Good, Bad}
 use Rattle.fields.proofs.Tests.{bad, good-passed}
 use Rattle.fields.proofs.Rules.{within, width-le}
-use Rattle.line.specs.Render.{joined, plain}
+use Rattle.line.specs.Render.{joined, plain, allIn}
 use Rattle.line.specs.Walk.{onTest}
-use Rattle.line.specs.declared.walk.Walk.{Walk}
 use Rattle.line.specs.declared.walk.Walk.the-variants.{Fine, Stopped}
-use Rattle.line.proofs.Splits.{allIn}
 use Rattle.line.proofs.Passing.{Each, each-le}
 use Rattle.writer.specs.Write.{risesTo, endsHold, fieldsFrom, between, ifPlain, testedToWrite, walked}
 use Rattle.writer.proofs.Ends.{end-rises, rest-rises, end-inside}

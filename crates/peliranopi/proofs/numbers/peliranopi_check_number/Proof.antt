@@ -1,16 +1,16 @@
 -- `numbers::peliranopi_check_number` meets its contract.
 use Rattle.check_characters.specs.Number.{checkVerdict}
-use Rattle.peliranopi.specs.Told.{kindIn}
+use Rattle.peliranopi.specs.Told.{kindTold}
 use Rattle.peliranopi.proofs.Telling.{told-number, told-place, told}
 use borrow.Author.Needs.{needs}
 use Rattle.peliranopi.proofs.numbers.peliranopi_check_number.Statement.{statement}
 use Rattle.peliranopi.proofs.numbers.peliranopi_check_number.Tie as tie
 
 returns : tie.Need-returns
-returns c = search (needs, told-number checkVerdict, told-place checkVerdict, told kindIn)
+returns c = search (needs, told-number checkVerdict, told-place checkVerdict, told kindTold)
 
 returns-2 : tie.Need-returns-2
-returns-2 c = search (needs, told-number checkVerdict, told-place checkVerdict, told kindIn)
+returns-2 c = search (needs, told-number checkVerdict, told-place checkVerdict, told kindTold)
 
 pub peliranopi-check-number-spec : {M : Type 1} → statement M
 peliranopi-check-number-spec =

@@ -1,16 +1,16 @@
 -- `numbers::peliranopi_issue_number` meets its contract.
 use Rattle.check_characters.specs.Number.{issueVerdict}
-use Rattle.peliranopi.specs.Told.{issuedIn}
+use Rattle.peliranopi.specs.Told.{issuedTold}
 use Rattle.peliranopi.proofs.Telling.{told-number, told-place, told, number-left}
 use borrow.Author.Needs.{needs}
 use Rattle.peliranopi.proofs.numbers.peliranopi_issue_number.Statement.{statement}
 use Rattle.peliranopi.proofs.numbers.peliranopi_issue_number.Tie as tie
 
 returns : tie.Need-returns
-returns c = search (needs, told-number issueVerdict, told-place issueVerdict, told issuedIn, number-left)
+returns c = search (needs, told-number issueVerdict, told-place issueVerdict, told issuedTold, number-left)
 
 returns-2 : tie.Need-returns-2
-returns-2 c = search (needs, told-number issueVerdict, told-place issueVerdict, told issuedIn, number-left)
+returns-2 c = search (needs, told-number issueVerdict, told-place issueVerdict, told issuedTold, number-left)
 
 pub peliranopi-issue-number-spec : {M : Type 1} → statement M
 peliranopi-issue-number-spec =

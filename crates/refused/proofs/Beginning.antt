@@ -1,0 +1,119 @@
+-- The lines with which a file begins: one of them between those in front and those behind, and one line more.
+use Prim.Native.Nat.{ℕ, _+_}
+use mathlib.Core.Path.{_≡_, refl, sym, ap, subst, _∙_}
+use mathlib.Core.Bool.{true}
+use mathlib.Core.List.{List, [], _∷_, _++_, append-assoc, append-nil}
+use lib.ListN.{length, drop, length-append}
+use lib.Seq.{drop-append-seam}
+use Rattle.text.proofs.Choices.{or-neither}
+use Rattle.fields.specs.Record.{mayCome}
+use Rattle.fields.specs.Profile.{profile}
+use Rattle.fields.specs.declared.record.Due.{Due}
+use Rattle.fields.specs.declared.record.Due.the-variants.{First, After}
+use Rattle.grammar.specs.Grammar.{LineOk}
+use Rattle.allowed.specs.Allowed.{FileLine, lineBytes, fileBytes, LinesOk, codesOn, identcodes, oneOfCodes, NoneTwice}
+use Rattle.allowed.proofs.Codes.{Fresh, codes-append}
+use Rattle.allowed.proofs.Twice.{none-more, fresh-before}
+use Rattle.refused.specs.File.{Come, dueBehind, Begins, Follows}
+
+pub bytes-append : (ls ks : List FileLine) → fileBytes (ls ++ ks) ≡ fileBytes ls ++ fileBytes ks
+bytes-append [] ks = refl
+bytes-append (l ∷ ls) ks = ap (λ (r : List ℕ). lineBytes l ++ r) (bytes-append ls ks) ∙ sym (append-assoc (lineBytes l) (fileBytes ls) (fileBytes ks))
+
+pub identcodes-append : (ls ks : List FileLine) → identcodes (ls ++ ks) ≡ identcodes ls ++ identcodes ks
+identcodes-append [] ks = refl
+identcodes-append (l ∷ ls) ks =
+    ap (λ (r : List (List ℕ)). codesOn (l .kind) (l .fields) ++ r) (identcodes-append ls ks)
+    ∙ sym (append-assoc (codesOn (l .kind) (l .fields)) (identcodes ls) (identcodes ks))
+
+-- one more
+pub bytes-more : (ls : List FileLine) (l : FileLine) (left : List ℕ) →
+    fileBytes (ls ++ (l ∷ [])) ++ left ≡ fileBytes ls ++ (lineBytes l ++ left)
+bytes-more ls l left =
+    ap (λ (r : List ℕ). r ++ left) (bytes-append ls (l ∷ []) ∙ ap (λ (r : List ℕ). fileBytes ls ++ r) (append-nil (lineBytes l)))
+    ∙ append-assoc (fileBytes ls) (lineBytes l) left
+
+pub codes-more : (ls : List FileLine) (l : FileLine) → identcodes (ls ++ (l ∷ [])) ≡ identcodes ls ++ codesOn (l .kind) (l .fields)
+codes-more ls l = identcodes-append ls (l ∷ []) ∙ ap (λ (r : List (List ℕ)). identcodes ls ++ r) (append-nil (codesOn (l .kind) (l .fields)))
+
+pub due-more : (due : Due) (ls : List FileLine) (l : FileLine) → dueBehind due (ls ++ (l ∷ [])) ≡ After (l .kind)
+due-more due [] l = refl
+due-more due (k ∷ ls) l = due-more (After (k .kind)) ls l
+
+lines-more : (ls : List FileLine) (l : FileLine) → LinesOk ls → LineOk profile (l .kind) (l .fields) → LinesOk (ls ++ (l ∷ []))
+lines-more [] l a g = (g, tt)
+lines-more (k ∷ ls) l a g = (a .0, lines-more ls l (a .1) g)
+
+come-more : (due : Due) (ls : List FileLine) (l : FileLine) → Come due ls → mayCome (dueBehind due ls) (l .kind) ≡ true →
+    Come due (ls ++ (l ∷ []))
+come-more due [] l a g = (g, tt)
+come-more due (k ∷ ls) l a g = (a .0, come-more (After (k .kind)) ls l (a .1) g)
+
+-- an allowed line behind the lines with which a file begins, none of whose codes it repeats
+pub record Next (s : List ℕ) (ls : List FileLine) (l : FileLine) (left : List ℕ) : Type 0 where
+  pub follows : Follows s ls l left
+  pub fresh : Fresh (identcodes ls) (codesOn (l .kind) (l .fields))
+
+pub begins-more : (s : List ℕ) (ls : List FileLine) (l : FileLine) (left : List ℕ) → Next s ls l left → Begins s (ls ++ (l ∷ [])) left
+begins-more s ls l left n =
+    let b = n .follows .begins in
+    record {
+      small = b .small;
+      there = b .there ∙ sym (bytes-more ls l left);
+      lines = lines-more ls l (b .lines) (n .follows .ok);
+      order = come-more First ls l (b .order) (n .follows .comes);
+      codes = subst NoneTwice (sym (codes-more ls l)) (none-more (l .kind) (l .fields) (identcodes ls) (b .codes) (n .fresh));
+    }
+
+-- a line in the middle
+lines-front : (ls ks : List FileLine) → LinesOk (ls ++ ks) → LinesOk ls
+lines-front [] ks a = tt
+lines-front (l ∷ ls) ks a = (a .0, lines-front ls ks (a .1))
+
+lines-at : (ls : List FileLine) (l : FileLine) (ks : List FileLine) → LinesOk (ls ++ l ∷ ks) → LineOk profile (l .kind) (l .fields)
+lines-at [] l ks a = a .0
+lines-at (k ∷ ls) l ks a = lines-at ls l ks (a .1)
+
+come-front : (due : Due) (ls ks : List FileLine) → Come due (ls ++ ks) → Come due ls
+come-front due [] ks a = tt
+come-front due (l ∷ ls) ks a = (a .0, come-front (After (l .kind)) ls ks (a .1))
+
+come-at : (due : Due) (ls : List FileLine) (l : FileLine) (ks : List FileLine) → Come due (ls ++ l ∷ ks) →
+    mayCome (dueBehind due ls) (l .kind) ≡ true
+come-at due [] l ks a = a .0
+come-at due (k ∷ ls) l ks a = come-at (After (k .kind)) ls l ks (a .1)
+
+none-front : (xs ys : List (List ℕ)) → NoneTwice (xs ++ ys) → NoneTwice xs
+none-front [] ys n = tt
+none-front (x ∷ xs) ys n =
+    (or-neither (oneOfCodes x xs) (oneOfCodes x ys) (sym (codes-append x xs ys) ∙ n .0) .0, none-front xs ys (n .1))
+
+pub next-at : (s : List ℕ) (ls : List FileLine) (l : FileLine) (ks : List FileLine) (left : List ℕ) → Begins s (ls ++ l ∷ ks) left →
+    Next s ls l (fileBytes ks ++ left)
+next-at s ls l ks left b =
+    let none = subst NoneTwice (identcodes-append ls (l ∷ ks)) (b .codes) in
+    record {
+      follows = record {
+        begins = record {
+          small = b .small;
+          there =
+              b .there ∙ ap (λ (r : List ℕ). r ++ left) (bytes-append ls (l ∷ ks))
+              ∙ append-assoc (fileBytes ls) (lineBytes l ++ fileBytes ks) left
+              ∙ ap (λ (r : List ℕ). fileBytes ls ++ r) (append-assoc (lineBytes l) (fileBytes ks) left);
+          lines = lines-front ls (l ∷ ks) (b .lines);
+          order = come-front First ls (l ∷ ks) (b .order);
+          codes = none-front (identcodes ls) (identcodes (l ∷ ks)) none;
+        };
+        ok = lines-at ls l ks (b .lines);
+        comes = come-at First ls l ks (b .order);
+      };
+      fresh = fresh-before (l .kind) (l .fields) (identcodes ls) (identcodes ks) none;
+    }
+
+-- where the bytes that are left stand
+module _ (s : List ℕ) (ls : List FileLine) (left : List ℕ) (b : Begins s ls left) where
+  pub left-there : drop (length (fileBytes ls)) s ≡ left
+  left-there = ap (drop (length (fileBytes ls))) (b .there) ∙ drop-append-seam (fileBytes ls) left
+
+  pub left-long : length s ≡ length (fileBytes ls) + length left
+  left-long = ap length (b .there) ∙ length-append (fileBytes ls) left

@@ -1,0 +1,90 @@
+-- The judge answers exactly what the file's own lines mean: every file is allowed or refused, never both, and refused in one way only.
+use Prim.Native.Nat.{ℕ, _≤_}
+use mathlib.Core.Path.{_≡_, refl, sym, ap, _∙_}
+use mathlib.Core.Bool.{true}
+use mathlib.Core.List.{List, [], _∷_, append-nil}
+use mathlib.Core.Logic.{_⊎_, inl, inr, _↔_}
+use lib.ListN.{length}
+use Rattle.refusal.specs.declared.Refusal.{Refusal}
+use Rattle.refusal.proofs.Verdicts.{no-pass}
+use Rattle.fields.specs.Record.{mayEnd}
+use Rattle.fields.specs.declared.record.Due.{Due}
+use Rattle.fields.specs.declared.record.Due.the-variants.{First, After}
+use Rattle.file.specs.File.{Judged, judged, listOf, Judges, fileVerdict}
+use Rattle.file.specs.declared.whole.FileAnswer.{FileAnswer}
+use Rattle.file.specs.declared.whole.FileAnswer.the-variants.{Accepted, Refused}
+use Rattle.allowed.specs.Allowed.{FileLine, fileBytes, AllowedFile, InOrder, totalsOf, lineStarts}
+use Rattle.allowed.proofs.Files.{accepted-allowed, allowed-accepted}
+use Rattle.refused.specs.File.{Come, dueBehind, Begins, RefusedFile, Means}
+use Rattle.refused.proofs.Refusing.{judged-refused}
+use Rattle.refused.proofs.Reaching.{refused-judged}
+use Rattle.refused.proofs.Files.{refused-exactly}
+
+said : FileAnswer → List ℕ → Judged
+said answer starts = record { answer = answer; starts = starts }
+
+module _ (s : List ℕ) (words : ℕ) where
+  pub judge-exactly : (answer : FileAnswer) (list : List ℕ) → Judges s words answer list ↔ Means s words answer list
+  unfolding said
+  judge-exactly (Refused refusal) list = refused-exactly s words refusal list
+  judge-exactly (Accepted totals) list = (forth, back)
+    where
+      forth : Judges s words (Accepted totals) list → Means s words (Accepted totals) list
+      forth j =
+          let g = accepted-allowed s words totals (judged s words .starts) (ap (λ (a : FileAnswer). said a (judged s words .starts)) (sym (j .0))) in
+          (g .lines, g .allowed, g .room, g .counts, j .1 ∙ ap (listOf words) (g .list))
+
+      back : Means s words (Accepted totals) list → Judges s words (Accepted totals) list
+      back g =
+          let e = allowed-accepted s words totals (lineStarts 0 (g .0))
+          (record { lines = g .0; allowed = g .1; room = g .2; counts = g .3; list = refl }) in
+          (sym (ap (λ (j : Judged). j .answer) e), g .4 ∙ sym (ap (λ (j : Judged). listOf words (j .starts)) e))
+
+  pub always-one : ((ls : List FileLine) × AllowedFile s ls × (length ls ≤ words)) ⊎ ((refusal : Refusal) × RefusedFile s words refusal)
+  always-one = go (judged s words .answer) refl
+    where
+      go : (a : FileAnswer) → judged s words .answer ≡ a →
+          ((ls : List FileLine) × AllowedFile s ls × (length ls ≤ words)) ⊎ ((refusal : Refusal) × RefusedFile s words refusal)
+      go (Accepted totals) e =
+          let g = judge-exactly (Accepted totals) (listOf words (judged s words .starts)) .0 (sym e, refl) in
+          inl (g .0, g .1, g .2)
+      go (Refused refusal) e = inr (refusal, judged-refused s words refusal e)
+
+  pub never-both : (ls : List FileLine) (refusal : Refusal) → AllowedFile s ls → length ls ≤ words → RefusedFile s words refusal → ⊥
+  never-both ls refusal a room r =
+      let g = judge-exactly (Accepted (totalsOf ls)) (listOf words (lineStarts 0 ls)) .1 (ls, a, room, refl, refl) in
+      no-pass fileVerdict refl refl (sym (refused-judged s words refusal r) ∙ sym (g .0))
+
+  pub one-refusal : (refusal other : Refusal) → RefusedFile s words refusal → RefusedFile s words other → refusal ≡ other
+  one-refusal refusal other r q =
+      let e : Refused refusal ≡ Refused other = sym (refused-judged s words refusal r) ∙ refused-judged s words other q in
+      cc
+
+-- an allowed file is one that begins with its lines, has nothing left behind them, and may end there
+order-is : (due : Due) (ls : List FileLine) → InOrder due ls ↔ (Come due ls × (mayEnd (dueBehind due ls) ≡ true))
+order-is due [] = (λ e. (tt, e), λ g. g .1)
+order-is due (l ∷ ls) = (
+  λ e. ((e .0, order-is (After (l .kind)) ls .0 (e .1) .0), order-is (After (l .kind)) ls .0 (e .1) .1),
+  λ g. (g .0 .0, order-is (After (l .kind)) ls .1 (g .0 .1, g .1)),
+)
+
+pub allowed-begins : (s : List ℕ) (ls : List FileLine) → AllowedFile s ls ↔ (Begins s ls [] × (mayEnd (dueBehind First ls) ≡ true))
+allowed-begins s ls = (
+  λ a. (
+    record {
+      small = a .small;
+      there = a .bytes ∙ sym (append-nil (fileBytes ls));
+      lines = a .lines;
+      order = order-is First ls .0 (a .order) .0;
+      codes = a .codes;
+    },
+    order-is First ls .0 (a .order) .1,
+  ),
+  λ g. record {
+    bytes = g .0 .there ∙ append-nil (fileBytes ls);
+    small = g .0 .small;
+    lines = g .0 .lines;
+    order = order-is First ls .1 (g .0 .order, g .1);
+    codes = g .0 .codes;
+  },
+)

@@ -1,0 +1,15 @@
+pub mod Fields
+pub mod Texts
+pub mod Lines
+pub mod Seeking
+pub mod Beginning
+pub mod Standing
+pub mod Refusing
+pub mod Reaching
+pub mod Files
+pub mod Deciding
+pub mod Writing
+pub mod Purposes
+pub mod Wrong
+pub mod Numbers
+pub mod Either

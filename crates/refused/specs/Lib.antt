@@ -1,0 +1,5 @@
+pub mod Line
+pub mod File
+pub mod Write
+pub mod Purpose
+pub mod Number
