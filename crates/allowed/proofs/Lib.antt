@@ -1,5 +1,6 @@
 pub mod Codes
 pub mod Twice
+pub mod Cash
 pub mod Runs
 pub mod Files
 pub mod Placed

@@ -35,6 +35,7 @@ use Rattle.file.specs.declared.whole.FileAnswer.the-variants.{Accepted, Refused
 use Rattle.file.proofs.Lists.{word-left, left-word}
 use Rattle.file.proofs.Stepping.{went}
 use Rattle.allowed.specs.Allowed.{FileLine, lineBytes, codesOn, parcelCount, cashTotal, lineStarts}
+use Rattle.allowed.proofs.Cash.{line-cash}
 use Rattle.allowed.proofs.Codes.{Seen, seen-more, Fresh, fresh-not, not-fresh}
 
 -- the lines that are left, behind lines with these codes, where this record is due
@@ -82,7 +83,7 @@ module _ (s starts : List ℕ) (state : State) (line : Line) (fs : List (List �
   unfolding said
   judged-more =
       said-same (omega arith) (omega arith)
-      (omega (arith, ap (cashOf (line .kind)) (read-parts g)))
+      (omega (arith, ap (cashOf (line .kind)) (read-parts g), line-cash (line .kind) fs (g .allowed)))
       (append-snoc starts (state .at) (lineStarts (line .next) ls) ∙ ap (λ (n : ℕ). starts ++ (state .at ∷ lineStarts n ls)) (g .next))
 
 -- what is accepted is allowed

@@ -2,22 +2,23 @@
 -- are those of the file's own lines." What an allowed file is, as a list of lines, apart from any way of judging it.
 use Prim.Native.Nat.{ℕ, _+_, _≤_}
 use mathlib.Core.Path.{_≡_}
-use mathlib.Core.Bool.{Bool, true, false, _||_}
+use mathlib.Core.Bool.{Bool, true, false, _&&_, _||_}
 use mathlib.Core.List.{List, [], _∷_, _++_}
 use lib.ListN.{length}
 use Rattle.text.specs.Choice.{if_then_else_}
+use Rattle.text.specs.Quoted.{bytes}
 use Rattle.text.specs.Scan.{same}
-use Rattle.fields.specs.Record.{typeOf, _isA_, mayCome, mayEnd}
+use Rattle.forms.specs.Amount.{cents}
+use Rattle.fields.specs.Record.{_isA_, mayCome, mayEnd}
+use Rattle.fields.specs.Form.{isCash}
 use Rattle.fields.specs.declared.record.Record.{Record}
-use Rattle.fields.specs.declared.record.Record.the-variants.{Parcel}
+use Rattle.fields.specs.declared.record.Record.the-variants.{Parcel, Feature}
 use Rattle.fields.specs.declared.record.Due.{Due}
 use Rattle.fields.specs.declared.record.Due.the-variants.{First, After}
 use Rattle.fields.specs.Profile.{profile}
 use Rattle.line.specs.Parts.{fieldNo}
 use Rattle.line.specs.Render.{render}
 use Rattle.grammar.specs.Grammar.{LineOk}
-use Rattle.file.specs.Cash.{cashOf}
-use Rattle.file.specs.Step.{parcelsIn}
 use Rattle.file.specs.declared.whole.Totals.{Totals}
 use Rattle.line.specs.Line.{fileLimit}
 
@@ -71,15 +72,19 @@ pub record AllowedFile (file : List ℕ) (ls : List FileLine) : Type 0 where
   pub order : InOrder First ls
   pub codes : NoneTwice (identcodes ls)
 
--- "number of 040 lines"
+-- "number of 040 lines": each counts one
 abbrev pub parcelCount : List FileLine → ℕ
 parcelCount [] = 0
-parcelCount (l ∷ ls) = parcelsIn (l .kind) + parcelCount ls
+parcelCount (l ∷ ls) = (if l .kind isA Parcel then 1 else 0) + parcelCount ls
 
--- "the cash total in cents"
+-- a line "with code 006 or 022 and currency `EUR`"
+abbrev pub collectsEuros : FileLine → Bool
+collectsEuros l = l .kind isA Feature && (isCash (fieldNo (l .fields) 1) && same (fieldNo (l .fields) 4) (bytes "EUR"))
+
+-- "the cash total in cents, which is the sum of 060.3 over lines with code 006 or 022 and currency `EUR`"
 abbrev pub cashTotal : List FileLine → ℕ
 cashTotal [] = 0
-cashTotal (l ∷ ls) = cashOf (l .kind) (typeOf (l .kind) ∷ l .fields) + cashTotal ls
+cashTotal (l ∷ ls) = (if collectsEuros l then cents (fieldNo (l .fields) 3) else 0) + cashTotal ls
 
 -- "Accepted: number of lines, number of 040 lines, and the cash total in cents"
 abbrev pub totalsOf : List FileLine → Totals

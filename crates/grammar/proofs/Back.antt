@@ -37,6 +37,7 @@ use Rattle.writer.proofs.Ends.{between-count}
 use Rattle.writer.proofs.Walks.{test-passes, passes-test}
 use Rattle.grammar.specs.Grammar.{FieldsOk, LineOk, Reads}
 use Rattle.grammar.specs.Written.{inOne, endsFrom, Writable, ReadsBack}
+use Rattle.grammar.proofs.Needs.{lacks-not}
 use Rattle.grammar.proofs.Fields.{good-field, field-good}
 use Rattle.grammar.proofs.Sizes.{render-reads, render-accepted}
 use Rattle.grammar.proofs.Finding.{found, field-exactly}
@@ -90,7 +91,7 @@ module _ (number : ℕ) (text ends : List ℕ) (size fill n : ℕ) where
               fields =
                   walked-fields (profile kind) 1 (typeOf kind) (between text ends)
                   (fine-each (testedToWrite (profile kind)) nextNumber 1 1 (typeOf kind) (between text ends) ew);
-              served = a .0;
+              served = lacks-not kind (between text ends) .0 (a .0);
             };
             fits = leb-true (fill + length line) size (b .0);
             long = cc;
@@ -106,7 +107,7 @@ module _ (number : ℕ) (text ends : List ℕ) (size fill n : ℕ) where
         g .allowed .counted,
         each-fine (testedToWrite (profile (g .kind))) nextNumber 1 1 (typeOf (g .kind)) (between text ends)
             (fields-walked (profile (g .kind)) 1 (typeOf (g .kind)) (between text ends) (g .allowed .fields)),
-        g .allowed .served,
+        lacks-not (g .kind) (between text ends) .1 (g .allowed .served),
         le-leb (fill + length (render (g .kind) (between text ends))) size (g .fits),
         g .long,
       )

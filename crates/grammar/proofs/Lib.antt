@@ -1,4 +1,5 @@
 pub mod Fields
+pub mod Needs
 pub mod Texts
 pub mod Lines
 pub mod Finding

@@ -26,6 +26,7 @@ use Rattle.line.proofs.Plain.{split-plain, plain-split, plain-bytes}
 use Rattle.line.proofs.Passing.{fine-each, each-fine}
 use Rattle.line.proofs.Accepting.{TextOk}
 use Rattle.grammar.specs.Grammar.{LineOk}
+use Rattle.grammar.proofs.Needs.{lacks-not}
 use Rattle.grammar.proofs.Fields.{each-fields, fields-each, fields-plain}
 
 -- the text of an allowed line
@@ -50,7 +51,7 @@ module _ {rules : Rules} (kind : Record) (fs : List (List ℕ)) (g : LineOk rule
         g .counted,
         each-fine (tested (rules kind)) behind 1 (at + length (typeOf kind) + 1) (typeOf kind) fs
             (fields-each (rules kind) 1 (typeOf kind) fs (g .fields)),
-        g .served,
+        lacks-not kind fs .1 (g .served),
       )
 
 -- an accepted text is that of an allowed line
@@ -67,5 +68,7 @@ module _ (told : Told) (at : ℕ) (text : List ℕ) (line : Line) (bytes : all t
       record {
         counted = g .fits;
         fields = rw name at fields;
-        served = ap (lacks (line .kind)) (ap (λ (n : List ℕ). n ∷ fieldsOf text) (sym name) ∙ sym (split-some text)) ∙ g .served;
+        served =
+            lacks-not (line .kind) (fieldsOf text) .0
+            (ap (lacks (line .kind)) (ap (λ (n : List ℕ). n ∷ fieldsOf text) (sym name) ∙ sym (split-some text)) ∙ g .served);
       }

@@ -1,17 +1,19 @@
 -- Document 01, 'The file': what an allowed line is, apart from any order of tests, and how it stands in a file.
 use Prim.Native.Nat.{ℕ, suc, _+_, _-_, _≤_}
+use Prim.Native.String.{String}
 use mathlib.Core.Path.{_≡_}
-use mathlib.Core.Bool.{true, false}
+use mathlib.Core.Bool.{true}
 use mathlib.Core.List.{List, [], _∷_, _++_}
+use mathlib.Core.Logic.{_⊎_}
 use lib.ListN.{length, take, drop}
 use Rattle.text.specs.Quoted.{bytes}
 use Rattle.text.specs.Scan.{all}
 use Rattle.fields.specs.Record.{typeOf, countFits, mayCome}
 use Rattle.fields.specs.Profile.{isRequired, hasForm, Row, widthOf, Rules}
 use Rattle.fields.specs.declared.record.Record.{Record}
+use Rattle.fields.specs.declared.record.Record.the-variants.{Feature}
 use Rattle.line.specs.Parts.{fieldNo}
 use Rattle.line.specs.Render.{textOf, render, plain}
-use Rattle.line.specs.Need.{lacks}
 use Rattle.line.specs.Told.{Told}
 use Rattle.line.specs.declared.read.Line.{Line}
 use Rattle.line.specs.Line.{fileLimit}
@@ -35,13 +37,32 @@ abbrev pub FieldsOk : List Row → ℕ → List ℕ → List (List ℕ) → Type
 FieldsOk rows n beside [] = Unit {0}
 FieldsOk rows n beside (f ∷ fs) = FieldOk rows n beside f × FieldsOk rows (suc n) f fs
 
+-- the code of a 060 line (060.1) is one of these
+abbrev pub Coded : List (List ℕ) → List String → Type 0
+Coded fs [] = ⊥
+Coded fs (code ∷ codes) = (fieldNo fs 1 ≡ bytes code) ⊎ Coded fs codes
+
+-- the fields with these numbers are filled
+abbrev pub AllFilled : List (List ℕ) → List ℕ → Type 0
+AllFilled fs [] = Unit {0}
+AllFilled fs (n ∷ ns) = Filled (fieldNo fs n) × AllFilled fs ns
+
+-- "What a feature needs depends on its three-digit code alone": it is there
+pub record Served (fs : List (List ℕ)) : Type 0 where
+  -- "006 and 022 need 3, 4, 5, 6, 7"
+  pub account : Coded fs ("006" ∷ "022" ∷ []) → AllFilled fs (3 ∷ 4 ∷ 5 ∷ 6 ∷ 7 ∷ [])
+  -- "011 and 063 need 3 and 4"
+  pub cash : Coded fs ("011" ∷ "063" ∷ []) → AllFilled fs (3 ∷ 4 ∷ [])
+  -- "054 needs 9 or 10; the rest need nothing"
+  pub contact : Coded fs ("054" ∷ []) → Filled (fieldNo fs 9) ⊎ Filled (fieldNo fs 10)
+
 pub record LineOk (rules : Rules) (kind : Record) (fs : List (List ℕ)) : Type 0 where
   -- "Fields per record"
   pub counted : countFits kind (length fs) ≡ true
   -- "Widths and rules"
   pub fields : FieldsOk (rules kind) 1 (typeOf kind) fs
-  -- "What a feature needs depends on its three-digit code alone"
-  pub served : lacks kind (typeOf kind ∷ fs) ≡ false
+  -- what a feature needs is there
+  pub served : kind ≡ Feature → Served fs
 
 -- at this offset of the file stands an allowed line with these fields, of a record that may come: "the answer names the record
 -- kind, the field count and where the next line starts"

@@ -20,6 +20,7 @@ use Rattle.refusal.specs.declared.Refusal.{Refusal}
 use Rattle.refusal.specs.declared.Reason.the-variants.{FileTooLong, NoLineEnd}
 use Rattle.refusal.proofs.Verdicts.{no-pass}
 use Rattle.fields.specs.Record.{typeOf}
+use Rattle.fields.specs.declared.record.Record.the-variants.{Feature}
 use Rattle.line.specs.Parts.{nameOf, fieldsOf}
 use Rattle.line.specs.Render.{joined, plain, allIn}
 use Rattle.line.specs.Told.{Told}
@@ -32,6 +33,7 @@ use Rattle.line.proofs.Splits.{split-some, join-split}
 use Rattle.line.proofs.Plain.{split-plain, parts-bytes}
 use Rattle.line.proofs.Ends.{ended, ends-well, text-there}
 use Rattle.line.proofs.Accepting.{text-ends}
+use Rattle.grammar.proofs.Needs.{lacks-some}
 use Rattle.refused.specs.Line.{NoEnd, Stands, RefusedLine, RefusedAt}
 use Rattle.refused.proofs.Texts.{of-text, text-unknown, text-order, text-count, text-lacks, text-bad}
 
@@ -149,8 +151,9 @@ module _ (told : Told) (file : List ℕ) (offset : ℕ) where
         text-answer (typeOf kind) fs g _ (text-count told offset kind fs (g .clean) m c)
     line-answer refusal (RefusedLine.bad-field kind front f more w g b) =
         text-answer (typeOf kind) (front ++ f ∷ more) (g .stands) _ (text-bad told offset (drop offset file) kind front f more w g b)
-    line-answer refusal (RefusedLine.feature-lacks kind fs g k l) =
-        text-answer (typeOf kind) fs (g .stands) _ (text-lacks told offset kind fs (g .stands .clean) (g .comes) (g .counted) k l)
+    line-answer refusal (RefusedLine.feature-lacks fs g k l) =
+        text-answer (typeOf Feature) fs (g .stands) _
+        (text-lacks told offset Feature fs (g .stands .clean) (g .comes) (g .counted) k (lacks-some fs .1 l))
 
   pub refused-answer : (refusal : Refusal) → RefusedAt told file offset refusal → lineAnswer told file offset ≡ Refused refusal
   unfolding lineAnswer textAnswer

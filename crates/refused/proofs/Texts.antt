@@ -33,6 +33,7 @@ use Rattle.line.proofs.Splits.{all-in-front}
 use Rattle.line.proofs.Plain.{parts-split}
 use Rattle.line.proofs.Passing.{fine-each, each-fine}
 use Rattle.grammar.specs.Grammar.{FieldsOk}
+use Rattle.grammar.proofs.Needs.{lacks-feature}
 use Rattle.grammar.proofs.Fields.{each-fields, fields-each}
 use Rattle.refused.specs.Line.{Stands, FirstBad, Counted, RefusedLine}
 use Rattle.line.proofs.Stopping.{stopped-stops, stops-stopped}
@@ -95,11 +96,14 @@ module _ (told : Told) (offset : ℕ) (left : List ℕ) (refusal : Refusal) wher
             ea
         go Fine ew ea =
             choice (lacks kind (split text)) (Refused (because FeatureLacks offset)) _ (Refused refusal)
-            (λ l q. same-line (because FeatureLacks offset)
-            (RefusedLine.feature-lacks kind fs good
-            (each-fields (told .rules kind) 1 (typeOf kind) fs fields-plain
-            (fine-each (tested (told .rules kind)) behind 1 (offset + length (typeOf kind) + 1) (typeOf kind) fs ew))
-            (ap (lacks kind) (sym (parts-split (typeOf kind) fs (g .clean))) ∙ l)) q)
+            (λ l q. let known =
+            lacks-feature (λ (k : Record). Counted told left k fs × FieldsOk (told .rules k) 1 (typeOf k) fs) kind fs
+            (ap (lacks kind) (sym (parts-split (typeOf kind) fs (g .clean))) ∙ l) (
+              good,
+              each-fields (told .rules kind) 1 (typeOf kind) fs fields-plain
+                  (fine-each (tested (told .rules kind)) behind 1 (offset + length (typeOf kind) + 1) (typeOf kind) fs ew),
+            ) in
+            same-line (because FeatureLacks offset) (RefusedLine.feature-lacks fs (known .0 .0) (known .0 .1) (known .1)) q)
             (λ l q. absurd (no-pass lineVerdict refl refl (sym q)))
             ea
 

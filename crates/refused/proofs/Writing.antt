@@ -19,6 +19,7 @@ use Rattle.fields.specs.Record.{typeOf, countFits}
 use Rattle.fields.specs.Profile.{Row, profile, widthOf, hasForm}
 use Rattle.fields.specs.Field.{tested}
 use Rattle.fields.specs.declared.record.Record.{Record}
+use Rattle.fields.specs.declared.record.Record.the-variants.{Feature}
 use Rattle.fields.specs.declared.record.Named.{Named}
 use Rattle.fields.specs.declared.record.Named.the-variants.{Known, Unknown}
 use Rattle.fields.specs.declared.field.Tested.{Tested}
@@ -30,6 +31,7 @@ use Rattle.line.specs.declared.walk.Walk.{Walk}
 use Rattle.line.specs.declared.walk.Walk.the-variants.{Fine, Stopped}
 use Rattle.line.proofs.Passing.{fine-each, each-fine}
 use Rattle.grammar.specs.Grammar.{FieldsOk}
+use Rattle.grammar.proofs.Needs.{lacks-not, lacks-feature, lacks-some}
 use Rattle.grammar.proofs.Back.{walked-fields, fields-walked}
 use Rattle.writer.specs.Write.{recordNumbered, endsHold, between, ifPlain, testedToWrite}
 use Rattle.writer.specs.Write.{nextNumber, walked, ofFields, afterWalk, ofRecord, writeAnswer}
@@ -85,13 +87,14 @@ module _ (number : ℕ) (text ends : List ℕ) (size fill : ℕ) where
       unfolding ofFields
       of-fields ok e =
           choice (lacks kind (typeOf kind ∷ fs)) (Refused (because FeatureLacks 0)) _ (Refused refusal)
-          (λ t q. is (because FeatureLacks 0) (RefusedWrite.feature-lacks kind fs h ok t) q)
+          (λ t q. let known = lacks-feature (λ (k : Record). Handed number text ends k fs × FieldsOk (profile k) 1 (typeOf k) fs) kind fs t (h, ok) in
+          is (because FeatureLacks 0) (RefusedWrite.feature-lacks fs (known .0 .0) (known .0 .1) (known .1)) q)
           (λ t. choice (leb (fill + length (render kind fs)) size) (Written (length (render kind fs))) (Refused (because OutputTooShort 0)) (Refused refusal)
           (λ u q. absurd (no-pass writeVerdict refl refl (sym q)))
           (λ u q. is (because OutputTooShort 0) (RefusedWrite.too-short kind fs h (record {
             counted = ap (countFits kind) (between-count text ends) ∙ h .counted;
             fields = ok;
-            served = t;
+            served = lacks-not kind fs .0 t;
           }) (leb-false (fill + length (render kind fs)) size u)) q)) e
 
       of-walk : (w : Walk) → walked (profile kind) 1 (typeOf kind) fs ≡ w → afterWalk w kind fs size fill ≡ Refused refusal → Goal
@@ -146,9 +149,10 @@ module _ (number : ℕ) (text ends : List ℕ) (size fill : ℕ) where
       handed-answer kind (front ++ f ∷ more) h (Stopped (because why (1 + length front)))
       (stops-stopped (testedToWrite rows) nextNumber 1 1 (typeOf kind) front f more why (fields-walked rows 1 (typeOf kind) front b)
       (bad-write rows (1 + length front) _ f why g) ∙ ap (λ (p : ℕ). Stopped (because why p)) (number-behind rows 1 front))
-  write-answer refusal (RefusedWrite.feature-lacks kind fs h g l) = handed-answer kind fs h Fine (fine-walk kind fs g) ∙ rw l
+  write-answer refusal (RefusedWrite.feature-lacks fs h g l) =
+      handed-answer Feature fs h Fine (fine-walk Feature fs g) ∙ rw (lacks-some fs .1 l)
   write-answer refusal (RefusedWrite.too-short kind fs h g s) =
-      handed-answer kind fs h Fine (fine-walk kind fs (g .fields)) ∙ rw (g .served, lt-leb (fill + length (render kind fs)) size s)
+      handed-answer kind fs h Fine (fine-walk kind fs (g .fields)) ∙ rw (lacks-not kind fs .1 (g .served), lt-leb (fill + length (render kind fs)) size s)
 
 -- a line is not written, by this number and at this place, exactly then; the output is then as it was
 pub write-refused-exactly : (number : ℕ) (text ends output : List ℕ) (fill : ℕ) (refusal : Refusal) (after : List ℕ) →

@@ -25,13 +25,13 @@ use Rattle.refusal.specs.declared.Reason.the-variants.{
 use Rattle.fields.specs.Record.{typeOf, countFits, mayCome}
 use Rattle.fields.specs.Profile.{Row, Rules, widthOf, isRequired, hasForm}
 use Rattle.fields.specs.declared.record.Record.{Record}
+use Rattle.fields.specs.declared.record.Record.the-variants.{Feature}
 use Rattle.line.specs.Parts.{partBefore}
 use Rattle.line.specs.Render.{joined, textOf, plain, allIn}
-use Rattle.line.specs.Need.{lacks}
 use Rattle.line.specs.Told.{Told}
 use Rattle.line.specs.Line.{fileLimit, alone}
 use Rattle.line.specs.declared.read.Line.{Line}
-use Rattle.grammar.specs.Grammar.{Filled, FieldsOk, Reads}
+use Rattle.grammar.specs.Grammar.{Filled, FieldsOk, Served, Reads}
 
 -- these bytes, behind the text of a line, do not end it: "a line's first non-text byte is missing or not CR LF"
 abbrev pub NoEnd : List ℕ → Type 0
@@ -90,8 +90,8 @@ pub data RefusedLine (told : Told) (offset : ℕ) (left : List ℕ) : Refusal �
       RefusedLine told offset left (because why (offset + length (textOf kind front ++ bytes ";")))
   -- 9: "feature lacks a needed field", at "line start"
   feature-lacks :
-      (kind : Record) (fs : List (List ℕ)) → Counted told left kind fs → FieldsOk (told .rules kind) 1 (typeOf kind) fs →
-      lacks kind (typeOf kind ∷ fs) ≡ true → RefusedLine told offset left (because FeatureLacks offset)
+      (fs : List (List ℕ)) → Counted told left Feature fs → FieldsOk (told .rules Feature) 1 (typeOf Feature) fs → (Served fs → ⊥) →
+      RefusedLine told offset left (because FeatureLacks offset)
 
 -- "One line at an offset, judged alone (1, 2, 3, 5 to 9)", and in a file where a record is due
 pub data RefusedAt (told : Told) (file : List ℕ) (offset : ℕ) : Refusal → Type 0 where

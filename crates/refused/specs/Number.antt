@@ -15,7 +15,7 @@ use Rattle.check_characters.specs.Iban.{ibanNumber, checkDigits, barred, allowe
 use Rattle.check_characters.specs.declared.number.Kind.{Kind}
 use Rattle.slips.specs.Exactly.{Shaped}
 
--- "first such symbol": it is not allowedInNumber at its place, and each in front of it is
+-- "first such symbol": it is not allowed at its place, and each in front of it is
 pub record FirstWrong (ok : ℕ → ℕ → Bool) (s : List ℕ) (i : ℕ) : Type 0 where
   pub inside : i < length s
   pub before : (j : ℕ) → j < i → ok j (getD s j 0) ≡ true
@@ -24,7 +24,7 @@ pub record FirstWrong (ok : ℕ → ℕ → Bool) (s : List ℕ) (i : ℕ) : Typ
 pub data RefusedNumber (s : List ℕ) : Refusal → Type 0 where
   -- 16: "wrong length of a number"
   wrong-length : ((kind : Kind) → length s ≡ lengthOf kind → ⊥) → RefusedNumber s (because WrongLength 0)
-  -- 17: "symbol not allowedInNumber at its place", at "first such symbol"
+  -- 17: "symbol not allowed at its place", at "first such symbol"
   wrong-symbol :
       (kind : Kind) (i : ℕ) → length s ≡ lengthOf kind → FirstWrong (allowedInNumber kind) s i → RefusedNumber s (because WrongSymbol i)
   -- 18: "check wrong", at "last symbol"
@@ -35,7 +35,7 @@ pub data RefusedNumber (s : List ℕ) : Refusal → Type 0 where
 pub data RefusedIban (s : List ℕ) : Refusal → Type 0 where
   -- 16: "15 to 34 long"
   wrong-length : (15 ≤ length s → length s ≤ 34 → ⊥) → RefusedIban s (because WrongLength 0)
-  -- 17: "symbol not allowedInNumber at its place", at "first such symbol"
+  -- 17: "symbol not allowed at its place", at "first such symbol"
   wrong-symbol : (i : ℕ) → 15 ≤ length s → length s ≤ 34 → FirstWrong allowedInIban s i → RefusedIban s (because WrongSymbol i)
   -- 18, at "for an IBAN 2": "Check digits 00, 01 and 99 are 18", and so is a remainder by 97 that is not 1
   wrong-check :
@@ -46,7 +46,7 @@ pub data RefusedIban (s : List ℕ) : Refusal → Type 0 where
 pub data RefusedIssue (body : List ℕ) (room : ℕ) : Refusal → Type 0 where
   -- 16: "wrong length of a number"
   wrong-length : ((kind : Kind) → length body + 1 ≡ lengthOf kind → ⊥) → RefusedIssue body room (because WrongLength 0)
-  -- 17: "symbol not allowedInNumber at its place", at "first such symbol"
+  -- 17: "symbol not allowed at its place", at "first such symbol"
   wrong-symbol :
       (kind : Kind) (i : ℕ) → length body + 1 ≡ lengthOf kind → FirstWrong (allowedInNumber kind) body i →
       RefusedIssue body room (because WrongSymbol i)

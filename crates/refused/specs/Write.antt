@@ -13,11 +13,11 @@ use Rattle.refusal.specs.declared.Reason.the-variants.{UnknownRecord, FieldEnds
 use Rattle.fields.specs.Record.{typeOf, countFits}
 use Rattle.fields.specs.Profile.{Row, profile, widthOf}
 use Rattle.fields.specs.declared.record.Record.{Record}
+use Rattle.fields.specs.declared.record.Record.the-variants.{Feature}
 use Rattle.fields.specs.declared.record.Named.the-variants.{Known, Unknown}
 use Rattle.line.specs.Parts.{partBefore}
 use Rattle.line.specs.Render.{render, plain}
-use Rattle.line.specs.Need.{lacks}
-use Rattle.grammar.specs.Grammar.{FieldsOk, LineOk}
+use Rattle.grammar.specs.Grammar.{FieldsOk, Served, LineOk}
 use Rattle.writer.specs.Write.{recordNumbered, endsHold, between}
 use Rattle.refused.specs.Line.{RefusedField}
 
@@ -54,8 +54,8 @@ pub data RefusedWrite (number : ℕ) (text ends : List ℕ) (size fill : ℕ) : 
       RefusedWrite number text ends size fill (because why (1 + length front))
   -- 9: "feature lacks a needed field"
   feature-lacks :
-      (kind : Record) (fs : List (List ℕ)) → Handed number text ends kind fs → FieldsOk (profile kind) 1 (typeOf kind) fs →
-      lacks kind (typeOf kind ∷ fs) ≡ true → RefusedWrite number text ends size fill (because FeatureLacks 0)
+      (fs : List (List ℕ)) → Handed number text ends Feature fs → FieldsOk (profile Feature) 1 (typeOf Feature) fs → (Served fs → ⊥) →
+      RefusedWrite number text ends size fill (because FeatureLacks 0)
   -- 13: "output too short"; "A fill past the output is 13."
   too-short :
       (kind : Record) (fs : List (List ℕ)) → Handed number text ends kind fs → LineOk profile kind fs →
