@@ -1,7 +1,7 @@
 """Holds the contracts of all functions that leave their crates to two rules, so that a weaker one fails the gate.
 
 No such function has a `requires`. Its `ensures` is an equation with a definition, for its answer and for what each lent buffer holds
-afterwards, or a named relation that is made of such equations.
+afterwards, or a named relation that is made of such equations. And each statement of the demands has a proof under its name.
 """
 
 import glob
@@ -110,6 +110,18 @@ def relations_of(specs):
     return {name: (parameters.split(), body) for name, parameters, body in found}
 
 
+def unproved(statements, proofs):
+    """The statements that no proof names: `FileExactly` is proved as `file-exactly`."""
+    for name in statements:
+        proof = "-".join(re.findall(r"[A-Z][a-z0-9]*", name)).lower()
+        if not re.search(r"^pub %s : %s$" % (proof, name), proofs, re.M):
+            yield name
+
+
+def statements_of(specs):
+    return re.findall(r"^abbrev pub ([A-Z]\w*) : Type 0$", specs, re.M)
+
+
 # Contracts that the rules must find wrong, lest they find nothing.
 WEAK = (
     "pub fn f(n: usize) -> usize",
@@ -142,6 +154,20 @@ def main():
     if wrong:
         sys.exit("\n".join(wrong))
     print("test: %d exported contracts: equations with definitions, without a requires" % count)
+    proved_statements()
+
+
+def proved_statements():
+    if list(unproved(["FileExactly"], "pub file-exactly : FileExactly\n")) or not list(unproved(["FileExactly"], "")):
+        sys.exit("tests/contracts.py: cannot tell whether a statement is proved")
+    count = 0
+    for path in sorted(glob.glob("crates/demands/specs/*.antt")):
+        statements = statements_of(open(path, encoding="utf-8").read())
+        proofs = open(path.replace("/specs/", "/proofs/"), encoding="utf-8").read()
+        for name in unproved(statements, proofs):
+            sys.exit("tests/contracts.py: %s: no proof of %s" % (path, name))
+        count += len(statements)
+    print("test: %d statements of the demands: each has its proof" % count)
 
 
 main()

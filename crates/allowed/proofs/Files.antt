@@ -71,7 +71,7 @@ few-lines : (ls : List FileLine) → length ls ≤ length (fileBytes ls)
 few-lines [] = omega arith
 few-lines (l ∷ ls) = omega (arith, few-lines ls, line-some l, length-append (lineBytes l) (fileBytes ls))
 
-pub record Accepts (s : List ℕ) (words : ℕ) (totals : Totals) (starts : List ℕ) : Type 0 where
+pub record AllowedWith (s : List ℕ) (words : ℕ) (totals : Totals) (starts : List ℕ) : Type 0 where
   pub lines : List FileLine
   pub allowed : AllowedFile s lines
   pub room : length lines ≤ words
@@ -85,7 +85,7 @@ totals-told : {a b : Totals} → Accepted a ≡ Accepted b → a ≡ b
 totals-told e = cc
 
 module _ (s : List ℕ) (words : ℕ) (totals : Totals) (starts : List ℕ) where
-  pub accepted-allowed : judged s words ≡ record { answer = Accepted totals; starts = starts } → Accepts s words totals starts
+  pub accepted-allowed : judged s words ≡ record { answer = Accepted totals; starts = starts } → AllowedWith s words totals starts
   unfolding judged
   accepted-allowed e =
       let a = came-else (ltb fileLimit (length s)) (record { answer = Refused (because FileTooLong fileLimit); starts = [] })
@@ -97,19 +97,19 @@ module _ (s : List ℕ) (words : ℕ) (totals : Totals) (starts : List ℕ) wher
       let same = r .same ∙ from-begin (r .lines) in
       record {
         lines = r .lines;
-        allowed = record { bytes = w .bytes; small = small; lines = w .lines; order = w .order; codes = w .none };
+        allowed = record { bytes = w .bytes; in-limit = small; lines = w .lines; order = w .order; codes = w .none };
         room = omega (arith, r .room);
         counts = totals-told (ap (λ (j : Judged). j .answer) same);
         list = ap (λ (j : Judged). j .starts) same;
       }
 
-  pub allowed-accepted : Accepts s words totals starts → judged s words ≡ record { answer = Accepted totals; starts = starts }
+  pub allowed-accepted : AllowedWith s words totals starts → judged s words ≡ record { answer = Accepted totals; starts = starts }
   unfolding judged
   allowed-accepted g =
       let ls = g .lines in
       let a = g .allowed in
-      rw (le-ltb fileLimit (length s) (a .small))
-      (runs s words (a .small) ls (length s + 1) [] [] begin (omega (arith, few-lines ls, ap length (a .bytes))) (omega arith)
+      rw (le-ltb fileLimit (length s) (a .in-limit))
+      (runs s words (a .in-limit) ls (length s + 1) [] [] begin (omega (arith, few-lines ls, ap length (a .bytes))) (omega arith)
       (omega (arith, g .room)) (λ at. refl)
       (each ls s [] First (record { bytes = a .bytes; lines = a .lines; order = a .order; none = a .codes }))
       ∙ from-begin ls

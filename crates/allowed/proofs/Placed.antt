@@ -44,7 +44,7 @@ module _ (s : List ℕ) (small : length s ≤ fileLimit) where
       line = record { kind = l .kind; count = length (l .fields); next = at + length (lineBytes l) }
 
       reads : Reads (alone profile) s at line (l .fields)
-      reads = record { small = small; comes = refl; allowed = ok; rest = rest; stands = e; count = refl; next = refl }
+      reads = record { in-limit = small; comes = refl; allowed = ok; rest = rest; stands = e; count = refl; next = refl }
 
   -- lines that stand from here on
   parts-from :
@@ -58,7 +58,7 @@ module _ (s : List ℕ) (small : length s ≤ fileLimit) where
 
 module _ (s : List ℕ) (ls : List FileLine) (g : AllowedFile s ls) where
   pub parts-at : (i : ℕ) (l : FileLine) → LineNo ls i l → split (textAt s (getD (lineStarts 0 ls) i 0)) ≡ typeOf (l .kind) ∷ l .fields
-  parts-at i l h = parts-from s (g .small) ls 0 (g .lines) (g .bytes) i l h
+  parts-at i l h = parts-from s (g .in-limit) ls 0 (g .lines) (g .bytes) i l h
 
   module _ (i : ℕ) (l : FileLine) (h : LineNo ls i l) (kind : Record) where
     typed : isTyped s (getD (lineStarts 0 ls) i 0) (typeOf kind) ≡ same (typeOf (l .kind)) (typeOf kind)

@@ -192,7 +192,7 @@ module _ (s : List ℕ) (m : ℕ) (small : length s ≤ fileLimit) where
         next =
             state .at + length (lineBytes l);
       }) (l .fields) =
-      record { small = small; comes = a .3; allowed = a .2; rest = a .0; stands = a .1; count = refl; next = refl } in
+      record { in-limit = small; comes = a .3; allowed = a .2; rest = a .0; stands = a .1; count = refl; next = refl } in
       let far = next-far g in
       let in-file = next-inside g in
       let on = runs ls turns (starts ++ (state .at ∷ [])) (codes ++ codesOn (l .kind) (l .fields)) (behind s state line)

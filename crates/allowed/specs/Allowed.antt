@@ -19,6 +19,7 @@ use Rattle.fields.specs.Profile.{profile}
 use Rattle.line.specs.Parts.{fieldNo}
 use Rattle.line.specs.Render.{render}
 use Rattle.grammar.specs.Grammar.{LineOk}
+use Rattle.file.specs.File.{listOf}
 use Rattle.file.specs.declared.whole.Totals.{Totals}
 use Rattle.line.specs.Line.{fileLimit}
 
@@ -67,7 +68,7 @@ NoneTwice (c ∷ cs) = (oneOfCodes c cs ≡ false) × NoneTwice cs
 pub record AllowedFile (file : List ℕ) (ls : List FileLine) : Type 0 where
   pub bytes : file ≡ fileBytes ls
   -- "At most 65,535 bytes."
-  pub small : length file ≤ fileLimit
+  pub in-limit : length file ≤ fileLimit
   pub lines : LinesOk ls
   pub order : InOrder First ls
   pub codes : NoneTwice (identcodes ls)
@@ -94,3 +95,13 @@ totalsOf ls = record { lines = length ls; parcels = parcelCount ls; cents = cash
 abbrev pub lineStarts : ℕ → List FileLine → List ℕ
 lineStarts offset [] = []
 lineStarts offset (l ∷ ls) = offset ∷ lineStarts (offset + length (lineBytes l)) ls
+
+-- what it means that a file is accepted, with these totals and this list of so many words
+pub record Accepts (file : List ℕ) (words : ℕ) (totals : Totals) (list : List ℕ) : Type 0 where
+  pub lines : List FileLine
+  pub allowed : AllowedFile file lines
+  -- 11 would be "line list too short"
+  pub room : length lines ≤ words
+  pub counts : totals ≡ totalsOf lines
+  -- "every word below the line count holds that line's first offset, and every other word is 0"
+  pub starts : list ≡ listOf words (lineStarts 0 lines)

@@ -9,7 +9,7 @@ use Rattle.check_characters.specs.Iban.{digitsOf, barred, soundOf, allowedInIba
 use Rattle.forms.specs.Shape.{allDigits, digits, identcode, capitals, customer, version, bic, mail, purposeText}
 use Rattle.forms.specs.Amount.{cents, pointed, leadingZero, amount}
 use Rattle.forms.specs.Date.{standsFor, like, leap, daysIn, calendar, goodDay, goodTime, dateTime}
-use Rattle.forms.specs.Feature.{featureCodes, isFeature, codeOf, needOf}
+use Rattle.forms.specs.Feature.{featureCodes, isFeature, codeOf}
 use Rattle.fields.specs.Record.{named, mayFollow, mayCome, mayEnd}
 use Rattle.fields.specs.Form.{isCash}
 use Rattle.fields.specs.Profile.{profile, widthInTable, widthOf, isRequired, hasForm}
@@ -22,14 +22,13 @@ use Rattle.file.specs.Identcode.{sameParcel, repeats}
 use Rattle.file.specs.Step.{hasWord, onLine, stepAnswer}
 use Rattle.file.specs.File.{judged}
 use Rattle.purpose.specs.Source.{isCashLine, fromShipment, forFeature, sourceOf}
-use Rattle.allowed.specs.Allowed.{FileLine, AllowedFile}
 use Rattle.allowed.proofs.Files.{accepted-allowed}
-use Rattle.demands.specs.Marked.{example, lent, AllHold, marked}
+use Rattle.demands.specs.Marked.{example, lent, MarkedHold, AFileIsAllowed}
 
-pub marked-hold : AllHold marked
+pub marked-hold : MarkedHold
 unfolding valueOf step passes shapeOf allowedInNumber checkedAs checkedNumber digitsOf barred soundOf allowedInIban checkedIban amount
     pointed leadingZero cents digits allDigits dateTime like standsFor goodDay goodTime calendar daysIn leap identcode capitals customer
-    version bic mail purposeText featureCodes isFeature codeOf needOf named mayFollow mayCome mayEnd isCash profile widthInTable widthOf
+    version bic mail purposeText featureCodes isFeature codeOf named mayFollow mayCome mayEnd isCash profile widthInTable widthOf
     isRequired hasForm tested isFilled serves isServed lacks endsWell textAnswer afterWalk ofKind ofNamed ofText lineAnswer isTyped cashIn
     cashOf sameParcel repeats hasWord onLine stepAnswer judged isCashLine fromShipment forFeature sourceOf
 marked-hold = (
@@ -82,8 +81,7 @@ marked-hold = (
   ),
 )
 
--- the example is an allowed file: the rules contradict nobody
-pub a-file-is-allowed : (ls : List FileLine) × AllowedFile example ls
+pub a-file-is-allowed : AFileIsAllowed
 a-file-is-allowed =
     let g = accepted-allowed example lent (record { lines = 6; parcels = 1; cents = 1250 }) (0 ∷ 74 ∷ 116 ∷ 178 ∷ 208 ∷ 216 ∷ [])
     (marked-hold .1 .1 .1 .1 .1 .1 .1 .1 .1 .1 .1 .1 .1 .1 .1 .1 .0) in

@@ -1,1 +1,6 @@
+pub mod Demand1
+pub mod Refusals
+pub mod Demand2
+pub mod Purpose
+pub mod Demand3
 pub mod Marked

@@ -15,6 +15,7 @@ use Rattle.file.specs.File.{judged}
 use Rattle.file.specs.declared.whole.FileAnswer.{FileAnswer}
 use Rattle.file.specs.declared.whole.FileAnswer.the-variants.{Accepted, Refused}
 use Rattle.purpose.specs.Purpose.{purposeOf}
+use Rattle.allowed.specs.Allowed.{FileLine, AllowedFile}
 
 -- "This file (each line ended by CR LF)"
 abbrev pub lines : List String → List ℕ
@@ -81,3 +82,10 @@ marked =
     ∷ Case.file (lines ("" ∷ [])) (Refused (because UnknownRecord 0)) []
     ∷ Case.file (lines ("010;" ∷ [])) (Refused (because FieldCount 0)) []
     ∷ []
+
+abbrev pub MarkedHold : Type 0
+MarkedHold = AllHold marked
+
+-- the example is an allowed file: the rules contradict nobody
+abbrev pub AFileIsAllowed : Type 0
+AFileIsAllowed = (ls : List FileLine) × AllowedFile example ls

@@ -5,15 +5,12 @@ use mathlib.Core.Bool.{Bool, true, false}
 use mathlib.Core.List.{List}
 use native.Mathlib.Omega.{arith}
 use lib.ListN.{length, drop, getD}
-use borrow.Author.Tests.{ne-eqb}
 use Rattle.text.specs.Decimal.{number}
 use Rattle.text.specs.Scan.{among}
 use Rattle.text.proofs.Choices.{and-left}
 use Rattle.text.proofs.Scans.{among-on, among-here, among-ends}
 use Rattle.forms.specs.Shape.{digits}
-use Rattle.forms.specs.Feature.{featureCodes, isFeature, needOf}
-use Rattle.forms.specs.declared.feature.Need.{Need}
-use Rattle.forms.specs.declared.feature.Need.the-variants.{Nothing}
+use Rattle.forms.specs.Feature.{featureCodes, isFeature}
 use Rattle.forms.proofs.Shapes.{digits-parts}
 
 module _ (s : List ℕ) where
@@ -44,12 +41,3 @@ code-ends code i z h f = among-ends code featureCodes i z (omega (arith, thirty)
 -- the number n of the code
 pub code-told : (t : Bool) (n code : ℕ) → t ≡ among n featureCodes → n ≡ code → t ≡ among code featureCodes
 code-told t n code e f = rw (← f) e
-
--- an arm of the match is a case of the rule
-pub need-arm : (code case : ℕ) (need : Need) → code ≡ case → need ≡ needOf case → need ≡ needOf code
-need-arm code case need e f = rw e f
-
-pub need-rest :
-    (code : ℕ) → (code ≡ 6 → ⊥) → (code ≡ 11 → ⊥) → (code ≡ 22 → ⊥) → (code ≡ 54 → ⊥) → (code ≡ 63 → ⊥) → Nothing ≡ needOf code
-unfolding needOf
-need-rest code a b c d e = simp (ne-eqb code 6 a, ne-eqb code 11 b, ne-eqb code 22 c, ne-eqb code 54 d, ne-eqb code 63 e)

@@ -1,14 +1,11 @@
--- Document 01, 'The file': the feature codes, and what each needs.
+-- Document 01, 'The file': the feature codes.
 use Prim.Native.Nat.{ℕ}
 use mathlib.Core.Bool.{Bool, _&&_}
 use mathlib.Core.List.{List, [], _∷_}
-use lib.Dec.{eqb}
 use Rattle.text.specs.Choice.{if_then_else_}
 use Rattle.text.specs.Decimal.{number}
 use Rattle.text.specs.Scan.{among}
 use Rattle.forms.specs.Shape.{digits}
-use Rattle.forms.specs.declared.feature.Need.{Need}
-use Rattle.forms.specs.declared.feature.Need.the-variants.{CashAccount, Cash, Contact, Nothing}
 
 -- "Feature codes (002): 004 006 007 011 019 022 024 027 029 045 052 053 054 061 062 063 065 066 072 074 081 082 083 116 122
 -- 123 142 143 186 187."
@@ -24,12 +21,3 @@ isFeature s = digits 3 s && among (number s) featureCodes
 -- the number of a feature code, 0 for anything else
 unfoldable pub codeOf : List ℕ → ℕ
 codeOf s = if isFeature s then number s else 0
-
--- "What a feature needs depends on its three-digit code alone: 006 and 022 need 3, 4, 5, 6, 7; 011 and 063 need 3 and 4; 054
--- needs 9 or 10; the rest need nothing."
-unfoldable pub needOf : ℕ → Need
-needOf code =
-    if among code (6 ∷ 22 ∷ []) then CashAccount
-    else if among code (11 ∷ 63 ∷ []) then Cash
-    else if eqb code 54 then Contact
-    else Nothing

@@ -1,22 +1,11 @@
-// Feature codes: which there are, and what each needs.
+// Feature codes: which there are.
 ghost use mathlib.Core.Path.{_≡_};
 ghost use Prim.Native.Nat.{_<_};
 ghost use lib.ListN.{getD};
 ghost use Rattle.text.specs.Scan.{among};
-ghost use Rattle.forms.specs.Feature.{featureCodes, isFeature, codeOf, needOf};
+ghost use Rattle.forms.specs.Feature.{featureCodes, isFeature, codeOf};
 use crate::decimal::number;
 use crate::shape::is_digits;
-
-// Fields of a 060 line that a feature needs filled.
-pub enum Need {
-    // 3, 4, 5, 6 and 7
-    CashAccount,
-    // 3 and 4
-    Cash,
-    // 9 or 10
-    Contact,
-    Nothing,
-}
 
 const CODES: [u32; 30] = [
     4,
@@ -69,20 +58,6 @@ pub fn code_of(s: &[u8]) -> u32
         return 0;
     }
     number(s)
-}
-
-// What the feature with this code needs.
-pub fn need_of(code: u32) -> Need
-    ensures { λ r. ⌜ r ≡ needOf code ⌝ }
-{
-    match code {
-        6 => Need::CashAccount,
-        11 => Need::Cash,
-        22 => Need::CashAccount,
-        54 => Need::Contact,
-        63 => Need::Cash,
-        _ => Need::Nothing,
-    }
 }
 
 // Whether there is a feature with this code.

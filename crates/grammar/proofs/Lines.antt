@@ -40,7 +40,7 @@ accepted-reads told s at line e =
     let g = line-ok told s at line e in
     let d = ended s at (g .well) in
     record {
-      small = g .short;
+      in-limit = g .short;
       comes = g .text .comes;
       allowed = text-allowed told at text line (d .text) (g .text);
       rest = d .rest;
@@ -107,7 +107,7 @@ module _ {told : Told} {s : List ℕ} {at : ℕ} {line : Line} {fs : List (List 
   reads-accepted =
       let n : at + length (textOf (line .kind) fs) + 2 ≡ line .next = omega (arith, g .next, render-long (line .kind) fs) in
       rw (
-        le-ltb fileLimit (length s) (g .small),
+        le-ltb fileLimit (length s) (g .in-limit),
         le-ltb (length s) at read-inside,
         ends-well s at (textOf (line .kind) fs) (g .rest) bytes-of (g .stands),
         read-text,
@@ -135,7 +135,7 @@ one-line kind other fs gs rest more g h e =
 pub reads-alone : {told : Told} {s : List ℕ} {at : ℕ} {line : Line} {fs : List (List ℕ)} → Reads told s at line fs → Reads (alone (told .rules)) s at line fs
 unfolding mayCome
 reads-alone g = record {
-  small = g .small;
+  in-limit = g .in-limit;
   comes = refl;
   allowed = g .allowed;
   rest = g .rest;

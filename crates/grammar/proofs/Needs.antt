@@ -1,5 +1,5 @@
 -- What a feature needs, by the tests of the code and by the line's own fields: one is the other.
-use Prim.Native.Nat.{ℕ, suc, _≤_, _<_}
+use Prim.Native.Nat.{ℕ, zero, suc, _-_, _≤_, _<_}
 use mathlib.Core.Path.{_≡_, refl, sym, ap, _∙_}
 use mathlib.Core.Bool.{Bool, true, false, not, _&&_, _||_}
 use mathlib.Core.List.{List, [], _∷_}
@@ -15,9 +15,7 @@ use Rattle.text.specs.Quoted.{bytes}
 use Rattle.text.specs.Scan.{all, among}
 use Rattle.text.proofs.Choices.{and-left, and-right, and-both, or-cases, true-or-false, came-then, clash}
 use Rattle.forms.specs.Shape.{allDigits, digits}
-use Rattle.forms.specs.Feature.{featureCodes, isFeature, codeOf, needOf}
-use Rattle.forms.specs.declared.feature.Need.{Need}
-use Rattle.forms.specs.declared.feature.Need.the-variants.{CashAccount, Cash, Contact, Nothing}
+use Rattle.forms.specs.Feature.{featureCodes, isFeature, codeOf}
 use Rattle.fields.specs.Record.{typeOf, rowOf}
 use Rattle.fields.specs.declared.record.Record.{Record}
 use Rattle.fields.specs.declared.record.Record.the-variants.{Header, Sender, Shipment, Parcel, Product, Feature}
@@ -79,72 +77,64 @@ module _ (fs : List (List ℕ)) where
   abbrev parts : List (List ℕ)
   parts = typeOf Feature ∷ fs
 
-  at-filled : (n : ℕ) → isFilled parts (suc n) ≡ true → Filled (getD fs n [])
+  -- the part with a field's number is that field
+  part-field : (n : ℕ) → 1 ≤ n → getD parts n [] ≡ fieldNo fs n
+  part-field zero h = absurd (omega arith)
+  part-field (suc n) h = let same : n ≡ suc n - 1 = omega arith in ap (λ (i : ℕ). getD fs i []) same
+
+  part-filled : (n : ℕ) → leb 1 n ≡ true → isFilled parts n ≡ true → Filled (fieldNo fs n)
   unfolding isFilled
-  at-filled n e z = let f = getD fs n [] in clash (eq-eqb (length f) 0 z) (not-true (eqb (length f) 0) e)
+  part-filled n h e z =
+      let long = length (getD parts n []) in
+      clash (eq-eqb long 0 (ap length (part-field n (leb-true 1 n h)) ∙ z)) (not-true (eqb long 0) e)
 
-  filled-at : (n : ℕ) → Filled (getD fs n []) → isFilled parts (suc n) ≡ true
+  filled-part : (n : ℕ) → leb 1 n ≡ true → Filled (fieldNo fs n) → isFilled parts n ≡ true
   unfolding isFilled
-  filled-at n e = ap not (ne-eqb (length (getD fs n [])) 0 e)
+  filled-part n h e =
+      let long = length (getD parts n []) in
+      ap not (ne-eqb long 0 (λ z. e (sym (ap length (part-field n (leb-true 1 n h))) ∙ z)))
 
-  -- what is needed is there
-  serves-account : serves CashAccount parts ≡ true → AllFilled fs (3 ∷ 4 ∷ 5 ∷ 6 ∷ 7 ∷ [])
-  unfolding serves
-  serves-account e =
-      let e₄ = and-right (isFilled parts 3) _ e in
-      let e₅ = and-right (isFilled parts 4) _ e₄ in
-      let e₆ = and-right (isFilled parts 5) _ e₅ in (
-        at-filled 2 (and-left (isFilled parts 3) _ e),
-        (
-          at-filled 3 (and-left (isFilled parts 4) _ e₄),
-          (
-            at-filled 4 (and-left (isFilled parts 5) _ e₅),
-            (at-filled 5 (and-left (isFilled parts 6) _ e₆), (at-filled 6 (and-right (isFilled parts 6) _ e₆), tt)),
-          ),
-        ),
-      )
+  all-filled : (ns : List ℕ) → all (leb 1) ns ≡ true → all (isFilled parts) ns ≡ true → AllFilled fs ns
+  all-filled [] h e = tt
+  all-filled (n ∷ ns) h e = (
+    part-filled n (and-left (leb 1 n) (all (leb 1) ns) h) (and-left (isFilled parts n) (all (isFilled parts) ns) e),
+    all-filled ns (and-right (leb 1 n) (all (leb 1) ns) h) (and-right (isFilled parts n) (all (isFilled parts) ns) e),
+  )
 
-  serves-cash : serves Cash parts ≡ true → AllFilled fs (3 ∷ 4 ∷ [])
-  unfolding serves
-  serves-cash e = (at-filled 2 (and-left (isFilled parts 3) _ e), (at-filled 3 (and-right (isFilled parts 3) _ e), tt))
+  filled-all : (ns : List ℕ) → all (leb 1) ns ≡ true → AllFilled fs ns → all (isFilled parts) ns ≡ true
+  filled-all [] h g = refl
+  filled-all (n ∷ ns) h g =
+      and-both (isFilled parts n) (all (isFilled parts) ns) (filled-part n (and-left (leb 1 n) (all (leb 1) ns) h) (g .0))
+      (filled-all ns (and-right (leb 1 n) (all (leb 1) ns) h) (g .1))
 
-  serves-contact : serves Contact parts ≡ true → Filled (fieldNo fs 9) ⊎ Filled (fieldNo fs 10)
-  unfolding serves
-  serves-contact e = ⊎-elim (λ p. inl (at-filled 8 p)) (λ p. inr (at-filled 9 p)) (or-cases (isFilled parts 9) (isFilled parts 10) e)
-
-  account-serves : AllFilled fs (3 ∷ 4 ∷ 5 ∷ 6 ∷ 7 ∷ []) → serves CashAccount parts ≡ true
-  unfolding serves
-  account-serves g = rw (filled-at 2 (g .0), filled-at 3 (g .1 .0), filled-at 4 (g .1 .1 .0), filled-at 5 (g .1 .1 .1 .0), filled-at 6 (g .1 .1 .1 .1 .0))
-
-  cash-serves : AllFilled fs (3 ∷ 4 ∷ []) → serves Cash parts ≡ true
-  unfolding serves
-  cash-serves g = rw (filled-at 2 (g .0), filled-at 3 (g .1 .0))
-
-  contact-serves : Filled (fieldNo fs 9) ⊎ Filled (fieldNo fs 10) → serves Contact parts ≡ true
-  unfolding serves
-  contact-serves (inl p) = rw (filled-at 8 p)
-  contact-serves (inr p) = rw (filled-at 9 p) (or-true (isFilled parts 9))
+  filled-either : Filled (fieldNo fs 9) ⊎ Filled (fieldNo fs 10) → (isFilled parts 9 || isFilled parts 10) ≡ true
+  filled-either (inl p) = rw (filled-part 9 refl p)
+  filled-either (inr p) = rw (filled-part 10 refl p) (or-true (isFilled parts 9))
     where
       or-true : (t : Bool) → (t || true) ≡ true
       or-true true = refl
       or-true false = refl
 
-  -- a line with this code has what its need asks for
-  need-served : (need : Need) (c : List ℕ) → needOf (codeOf c) ≡ need → isServed parts ≡ true → code ≡ c → serves need parts ≡ true
+  -- a line with this code has what the code asks for
+  by-code : isServed parts ≡ true → (c : List ℕ) → code ≡ c → serves (codeOf c) parts ≡ true
   unfolding isServed
-  need-served need c n h e = ap (λ (x : Need). serves x parts) (sym (ap (λ (f : List ℕ). needOf (codeOf f)) e ∙ n)) ∙ h
+  by-code h c e = ap (λ (f : List ℕ). serves (codeOf f) parts) (sym e) ∙ h
 
   served-fields : isServed parts ≡ true → Served fs
-  unfolding needOf codeOf isFeature featureCodes digits allDigits
+  unfolding serves codeOf isFeature featureCodes digits allDigits
   served-fields h =
       record {
         account =
-            ⊎-elim (λ e. serves-account (need-served CashAccount (bytes "006") refl h e))
-            (⊎-elim (λ e. serves-account (need-served CashAccount (bytes "022") refl h e)) absurd);
+            ⊎-elim (λ e. all-filled (3 ∷ 4 ∷ 5 ∷ 6 ∷ 7 ∷ []) refl (by-code h (bytes "006") e))
+            (⊎-elim (λ e. all-filled (3 ∷ 4 ∷ 5 ∷ 6 ∷ 7 ∷ []) refl (by-code h (bytes "022") e)) absurd);
         cash =
-            ⊎-elim (λ e. serves-cash (need-served Cash (bytes "011") refl h e))
-            (⊎-elim (λ e. serves-cash (need-served Cash (bytes "063") refl h e)) absurd);
-        contact = ⊎-elim (λ e. serves-contact (need-served Contact (bytes "054") refl h e)) absurd;
+            ⊎-elim (λ e. all-filled (3 ∷ 4 ∷ []) refl (by-code h (bytes "011") e))
+            (⊎-elim (λ e. all-filled (3 ∷ 4 ∷ []) refl (by-code h (bytes "063") e)) absurd);
+        contact =
+            ⊎-elim
+            (λ e. ⊎-elim (λ p. inl (part-filled 9 refl p)) (λ p. inr (part-filled 10 refl p))
+            (or-cases (isFilled parts 9) (isFilled parts 10) (by-code h (bytes "054") e)))
+            absurd;
       }
 
   either-of : (m n : ℕ) → among (codeOf code) (m ∷ n ∷ []) ≡ true → (codeOf code ≡ m) ⊎ (codeOf code ≡ n)
@@ -154,18 +144,23 @@ module _ (fs : List (List ℕ)) where
       (or-cases (eqb (codeOf code) m) (eqb (codeOf code) n || false) e)
 
   fields-served : Served fs → isServed parts ≡ true
-  unfolding isServed needOf serves digits allDigits
+  unfolding isServed serves digits allDigits
   fields-served g = go (among (codeOf code) (6 ∷ 22 ∷ [])) (among (codeOf code) (11 ∷ 63 ∷ [])) (eqb (codeOf code) 54) refl refl refl
     where
       go : (t u v : Bool) → among (codeOf code) (6 ∷ 22 ∷ []) ≡ t → among (codeOf code) (11 ∷ 63 ∷ []) ≡ u → eqb (codeOf code) 54 ≡ v →
-          serves (if t then CashAccount else (if u then Cash else (if v then Contact else Nothing))) parts ≡ true
+          (if t then all (isFilled parts) (3 ∷ 4 ∷ 5 ∷ 6 ∷ 7 ∷ [])
+          else if u then all (isFilled parts) (3 ∷ 4 ∷ [])
+          else if v then (isFilled parts 9 || isFilled parts 10)
+          else true) ≡ true
       go true u v et eu ev =
-          account-serves (g .account (⊎-elim (λ e. inl (coded code 48 48 54 5 refl refl e)) (λ e. inr (inl (coded code 48 50 50 21 refl refl e)))
+          filled-all (3 ∷ 4 ∷ 5 ∷ 6 ∷ 7 ∷ []) refl
+          (g .account (⊎-elim (λ e. inl (coded code 48 48 54 5 refl refl e)) (λ e. inr (inl (coded code 48 50 50 21 refl refl e)))
           (either-of 6 22 et)))
       go false true v et eu ev =
-          cash-serves (g .cash (⊎-elim (λ e. inl (coded code 48 49 49 10 refl refl e)) (λ e. inr (inl (coded code 48 54 51 62 refl refl e)))
+          filled-all (3 ∷ 4 ∷ []) refl
+          (g .cash (⊎-elim (λ e. inl (coded code 48 49 49 10 refl refl e)) (λ e. inr (inl (coded code 48 54 51 62 refl refl e)))
           (either-of 11 63 eu)))
-      go false false true et eu ev = contact-serves (g .contact (inl (coded code 48 53 52 53 refl refl (eqb-true (codeOf code) 54 ev))))
+      go false false true et eu ev = filled-either (g .contact (inl (coded code 48 53 52 53 refl refl (eqb-true (codeOf code) 54 ev))))
       go false false false et eu ev = refl
 
 -- of every record

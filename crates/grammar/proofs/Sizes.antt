@@ -44,7 +44,7 @@ pub render-reads : {rules : Rules} → Sound rules → (kind : Record) (fs : Lis
 unfolding mayCome
 render-reads {rules = rules} w kind fs g =
     record {
-      small = omega (arith, render-le w kind fs g);
+      in-limit = omega (arith, render-le w kind fs g);
       comes = refl;
       allowed = g;
       rest = [];

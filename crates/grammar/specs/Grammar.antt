@@ -16,7 +16,7 @@ use Rattle.line.specs.Parts.{fieldNo}
 use Rattle.line.specs.Render.{textOf, render, plain}
 use Rattle.line.specs.Told.{Told}
 use Rattle.line.specs.declared.read.Line.{Line}
-use Rattle.line.specs.Line.{fileLimit}
+use Rattle.line.specs.Line.{fileLimit, alone}
 
 -- "only zero bytes is empty"
 abbrev pub Filled : List ℕ → Type 0
@@ -68,7 +68,7 @@ pub record LineOk (rules : Rules) (kind : Record) (fs : List (List ℕ)) : Type 
 -- kind, the field count and where the next line starts"
 pub record Reads (told : Told) (file : List ℕ) (offset : ℕ) (line : Line) (fs : List (List ℕ)) : Type 0 where
   -- "At most 65,535 bytes."
-  pub small : length file ≤ fileLimit
+  pub in-limit : length file ≤ fileLimit
   -- "Record order"
   pub comes : mayCome (told .due) (line .kind) ≡ true
   pub allowed : LineOk (told .rules) (line .kind) fs
@@ -85,3 +85,8 @@ pub record Finds (kind : Record) (fs : List (List ℕ)) (file : List ℕ) (offse
   pub starts : start ≡ offset + length (textOf kind (take (n - 1) fs) ++ bytes ";")
   pub measures : long ≡ length (fieldNo fs n)
   pub there : take long (drop start file) ≡ fieldNo fs n
+
+-- the field with this number of the allowed line at this offset, from start on and so long
+abbrev pub FieldStands : Rules → List ℕ → ℕ → ℕ → ℕ → ℕ → Type 0
+FieldStands rules file offset n start long =
+    (line : Line) × ((fs : List (List ℕ)) × (Reads (alone rules) file offset line fs × Finds (line .kind) fs file offset n start long))

@@ -13,7 +13,7 @@ use refusal::Reason;
 use refusal::Refusal;
 
 pub enum FieldAnswer {
-    Found { start: usize, length: usize },
+    Found { start: usize, long: usize },
     Refused(Refusal),
 }
 
@@ -63,6 +63,6 @@ fn in_text(offset: usize, line: &[u8], number: usize) -> FieldAnswer
     let field = part::field_in(line, number);
     FieldAnswer::Found {
         start: offset + start,
-        length: field.len(),
+        long: field.len(),
     }
 }

@@ -1,10 +1,11 @@
 // What a feature needs: the fields of its line that must be filled.
 ghost use mathlib.Core.Path.{_≡_};
 ghost use Rattle.line.specs.Parts.{split};
-ghost use Rattle.line.specs.Need.{isFilled, serves, isServed, lacks};
+ghost use mathlib.Core.Bool.{_||_};
+ghost use Rattle.text.specs.Scan.{all};
+ghost use Rattle.line.specs.Need.{isFilled, isServed, lacks};
 use crate::part::field_in;
 use fields::Record;
-use forms::Need;
 
 // Whether a line lacks a field that its feature needs.
 pub fn lacks_field(kind: Record, line: &[u8]) -> bool
@@ -24,49 +25,39 @@ pub fn lacks_field(kind: Record, line: &[u8]) -> bool
 fn is_served(line: &[u8]) -> bool
     ensures { λ r. ⌜ r ≡ isServed (split (now (line .entry))) ⌝ }
 {
-    let need = forms::need_of(forms::code_of(field_in(line, 1)));
-    match need {
-        Need::CashAccount => has_account(line),
-        Need::Cash => has_cash(line),
-        Need::Contact => has_contact(line),
-        Need::Nothing => true,
+    let code = forms::code_of(field_in(line, 1));
+    match code {
+        6 => all_filled(line, &[3, 4, 5, 6, 7]),
+        11 => all_filled(line, &[3, 4]),
+        22 => all_filled(line, &[3, 4, 5, 6, 7]),
+        54 => either_filled(line, 9, 10),
+        63 => all_filled(line, &[3, 4]),
+        _ => true,
     }
 }
 
-fn has_account(line: &[u8]) -> bool
-    ensures { λ r. ⌜ r ≡ serves Need.CashAccount (split (now (line .entry))) ⌝ }
+// Whether the parts with these numbers are filled.
+fn all_filled(line: &[u8], numbers: &[usize]) -> bool
+    ensures { λ r. ⌜ r ≡ all (isFilled (split (now (line .entry)))) (now (numbers .entry)) ⌝ }
 {
-    if !is_filled(line, 3) {
-        return false;
+    let mut i: usize = 0;
+    while i < numbers.len() {
+        if !is_filled(line, numbers[i]) {
+            return false;
+        }
+        i += 1;
     }
-    if !is_filled(line, 4) {
-        return false;
-    }
-    if !is_filled(line, 5) {
-        return false;
-    }
-    if !is_filled(line, 6) {
-        return false;
-    }
-    is_filled(line, 7)
+    true
 }
 
-fn has_cash(line: &[u8]) -> bool
-    ensures { λ r. ⌜ r ≡ serves Need.Cash (split (now (line .entry))) ⌝ }
+// Whether one of two parts is filled.
+fn either_filled(line: &[u8], number: usize, other: usize) -> bool
+    ensures { λ r. ⌜ r ≡ isFilled (split (now (line .entry))) number || isFilled (split (now (line .entry))) other ⌝ }
 {
-    if !is_filled(line, 3) {
-        return false;
-    }
-    is_filled(line, 4)
-}
-
-fn has_contact(line: &[u8]) -> bool
-    ensures { λ r. ⌜ r ≡ serves Need.Contact (split (now (line .entry))) ⌝ }
-{
-    if is_filled(line, 9) {
+    if is_filled(line, number) {
         return true;
     }
-    is_filled(line, 10)
+    is_filled(line, other)
 }
 
 // Whether the part with this number is filled.

@@ -43,24 +43,24 @@ pub extern "C" fn peliranopi_find_field(
     offset: usize,
     number: usize,
     start: &mut usize,
-    length: &mut usize,
+    long: &mut usize,
     place: &mut usize,
 ) -> u32
-    ensures { λ r. ⌜ FieldTells (now (file .entry)) offset number r (now (start .exit)) (now (length .exit)) (now (place .exit)) ⌝ }
+    ensures { λ r. ⌜ FieldTells (now (file .entry)) offset number r (now (start .exit)) (now (long .exit)) (now (place .exit)) ⌝ }
 {
     let answer = line::find_field(file, offset, number);
     match answer {
         FieldAnswer::Found {
             start: from,
-            length: long,
+            long: found,
         } => {
             *start = from;
-            *length = long;
+            *long = found;
             tell::accepted(place)
         }
         FieldAnswer::Refused(refusal) => {
             *start = 0;
-            *length = 0;
+            *long = 0;
             tell::refused(refusal, place)
         }
     }

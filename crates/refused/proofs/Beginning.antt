@@ -58,7 +58,7 @@ pub begins-more : (s : List ℕ) (ls : List FileLine) (l : FileLine) (left : Lis
 begins-more s ls l left n =
     let b = n .follows .begins in
     record {
-      small = b .small;
+      in-limit = b .in-limit;
       there = b .there ∙ sym (bytes-more ls l left);
       lines = lines-more ls l (b .lines) (n .follows .ok);
       order = come-more First ls l (b .order) (n .follows .comes);
@@ -95,7 +95,7 @@ next-at s ls l ks left b =
     record {
       follows = record {
         begins = record {
-          small = b .small;
+          in-limit = b .in-limit;
           there =
               b .there ∙ ap (λ (r : List ℕ). r ++ left) (bytes-append ls (l ∷ ks))
               ∙ append-assoc (fileBytes ls) (lineBytes l ++ fileBytes ks) left

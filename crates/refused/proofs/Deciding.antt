@@ -32,13 +32,13 @@ module _ (s : List ℕ) (words : ℕ) where
       forth : Judges s words (Accepted totals) list → Means s words (Accepted totals) list
       forth j =
           let g = accepted-allowed s words totals (judged s words .starts) (ap (λ (a : FileAnswer). said a (judged s words .starts)) (sym (j .0))) in
-          (g .lines, g .allowed, g .room, g .counts, j .1 ∙ ap (listOf words) (g .list))
+          record { lines = g .lines; allowed = g .allowed; room = g .room; counts = g .counts; starts = j .1 ∙ ap (listOf words) (g .list) }
 
       back : Means s words (Accepted totals) list → Judges s words (Accepted totals) list
       back g =
-          let e = allowed-accepted s words totals (lineStarts 0 (g .0))
-          (record { lines = g .0; allowed = g .1; room = g .2; counts = g .3; list = refl }) in
-          (sym (ap (λ (j : Judged). j .answer) e), g .4 ∙ sym (ap (λ (j : Judged). listOf words (j .starts)) e))
+          let e = allowed-accepted s words totals (lineStarts 0 (g .lines))
+          (record { lines = g .lines; allowed = g .allowed; room = g .room; counts = g .counts; list = refl }) in
+          (sym (ap (λ (j : Judged). j .answer) e), g .starts ∙ sym (ap (λ (j : Judged). listOf words (j .starts)) e))
 
   pub always-one : ((ls : List FileLine) × AllowedFile s ls × (length ls ≤ words)) ⊎ ((refusal : Refusal) × RefusedFile s words refusal)
   always-one = go (judged s words .answer) refl
@@ -47,12 +47,13 @@ module _ (s : List ℕ) (words : ℕ) where
           ((ls : List FileLine) × AllowedFile s ls × (length ls ≤ words)) ⊎ ((refusal : Refusal) × RefusedFile s words refusal)
       go (Accepted totals) e =
           let g = judge-exactly (Accepted totals) (listOf words (judged s words .starts)) .0 (sym e, refl) in
-          inl (g .0, g .1, g .2)
+          inl (g .lines, g .allowed, g .room)
       go (Refused refusal) e = inr (refusal, judged-refused s words refusal e)
 
   pub never-both : (ls : List FileLine) (refusal : Refusal) → AllowedFile s ls → length ls ≤ words → RefusedFile s words refusal → ⊥
   never-both ls refusal a room r =
-      let g = judge-exactly (Accepted (totalsOf ls)) (listOf words (lineStarts 0 ls)) .1 (ls, a, room, refl, refl) in
+      let g = judge-exactly (Accepted (totalsOf ls)) (listOf words (lineStarts 0 ls)) .1
+      (record { lines = ls; allowed = a; room = room; counts = refl; starts = refl }) in
       no-pass fileVerdict refl refl (sym (refused-judged s words refusal r) ∙ sym (g .0))
 
   pub one-refusal : (refusal other : Refusal) → RefusedFile s words refusal → RefusedFile s words other → refusal ≡ other
@@ -72,7 +73,7 @@ pub allowed-begins : (s : List ℕ) (ls : List FileLine) → AllowedFile s ls �
 allowed-begins s ls = (
   λ a. (
     record {
-      small = a .small;
+      in-limit = a .in-limit;
       there = a .bytes ∙ sym (append-nil (fileBytes ls));
       lines = a .lines;
       order = order-is First ls .0 (a .order) .0;
@@ -82,7 +83,7 @@ allowed-begins s ls = (
   ),
   λ g. record {
     bytes = g .0 .there ∙ append-nil (fileBytes ls);
-    small = g .0 .small;
+    in-limit = g .0 .in-limit;
     lines = g .0 .lines;
     order = order-is First ls .1 (g .0 .order, g .1);
     codes = g .0 .codes;

@@ -114,9 +114,9 @@ module _ (s : List ℕ) (words : ℕ) where
   refused-judged refusal (RefusedFile.line-refused ls left other b room some g) =
       let r = reached ls left b room in
       let h = r .here in
-      let e = line-answer (toldBy (r .state)) s (r .state .at) (b .small) (inside s ls (r .starts) (r .state) h left b) other
+      let e = line-answer (toldBy (r .state)) s (r .state .at) (b .in-limit) (inside s ls (r .starts) (r .state) h left b) other
       (here-line s ls (r .starts) (r .state) h left b other g) in
-      answer-there ls r (b .small) other (left-some left some (omega (arith, h .place, left-long s ls left b))) (rw e)
+      answer-there ls r (b .in-limit) other (left-some left some (omega (arith, h .place, left-long s ls left b))) (rw e)
     where
       left-some : (left : List ℕ) → (left ≡ [] → ⊥) → {at : ℕ} → length s ≡ at + length left → at < length s
       left-some [] n e = absurd (n refl)
@@ -127,17 +127,17 @@ module _ (s : List ℕ) (words : ℕ) where
       let at-line = there s ls (r .starts) (r .state) h (lineBytes l ++ left) (f .begins) in
       let t = repeats-code (l .kind) s (r .starts) (r .state .at) (identcodes ls) (l .fields) left (h .seen) k at-line (f .ok) ∙ e in
       let p : r .state .at + 4 ≡ length (fileBytes ls ++ bytes "040;") = omega (arith, h .place, length-append (fileBytes ls) (bytes "040;")) in
-      answer-there ls r (f .begins .small) (because IdentcodeRepeated (r .state .at + 4)) (before-end s ls (r .starts) (r .state) h l left f)
+      answer-there ls r (f .begins .in-limit) (because IdentcodeRepeated (r .state .at + 4)) (before-end s ls (r .starts) (r .state) h l left f)
       (step-repeats s ls (r .starts) (r .state) h l left f words t) ∙ ap (λ (x : ℕ). Refused (because IdentcodeRepeated x)) p
   refused-judged refusal (RefusedFile.list-full ls l left b full) =
       let n = next-at s ls l [] left b in
       let r = reached ls (lineBytes l ++ left) (n .follows .begins) (omega arith) in
       let h = r .here in
-      answer-there ls r (b .small) (because ListFull (r .state .at)) (before-end s ls (r .starts) (r .state) h l left (n .follows))
+      answer-there ls r (b .in-limit) (because ListFull (r .state .at)) (before-end s ls (r .starts) (r .state) h l left (n .follows))
       (step-full s ls (r .starts) (r .state) h l left (n .follows) words (n .fresh) (omega (arith, h .count)))
       ∙ ap (λ (x : ℕ). Refused (because ListFull x)) (h .place)
   refused-judged refusal (RefusedFile.file-ends ls b room e) =
       let r = reached ls [] b room in
       let h = r .here in
-      ap (λ (j : Judged). j .answer) (from-begin (b .small) ∙ r .same)
+      ap (λ (j : Judged). j .answer) (from-begin (b .in-limit) ∙ r .same)
       ∙ ends-there (r .turns) (r .starts) (r .state) (omega (arith, h .place, left-long s ls [] b)) (ap mayEnd (h .next) ∙ e)

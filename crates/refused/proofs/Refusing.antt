@@ -129,7 +129,7 @@ module _ (s : List ℕ) (words : ℕ) where
           RefusedFile s words refusal
       unfolding onLine
       step-refused (RefusedAnswer other) ea e =
-          let r = in-line (toldBy state) s (state .at) (b .small) (inside s ls starts state h left b) other
+          let r = in-line (toldBy state) s (state .at) (b .in-limit) (inside s ls starts state h left b) other
           (answer-refused (toldBy state) s (state .at) other ea) in
           is other e (RefusedFile.line-refused ls left other b room (λ z. omega (arith, h .place, left-long s ls left b, ap length z))
           (line-here s ls starts state h left b other r))
@@ -182,5 +182,5 @@ module _ (s : List ℕ) (words : ℕ) where
         go true t q = is (because FileTooLong fileLimit) q (RefusedFile.file-too-long (ltb-true fileLimit (length s) t))
         go false t q =
             from-refused (length s + 1) [] s [] begin (omega arith)
-            (record { small = ltb-false fileLimit (length s) t; there = refl; lines = tt; order = tt; codes = tt }) (omega arith)
+            (record { in-limit = ltb-false fileLimit (length s) t; there = refl; lines = tt; order = tt; codes = tt }) (omega arith)
             (record { place = refl; count = refl; next = refl; seen = λ at. refl }) q

@@ -77,7 +77,7 @@ module _ (s : List ℕ) (ls : List FileLine) (starts : List ℕ) (state : State)
     unfolding line-of
     reads =
         record {
-          small = f .begins .small;
+          in-limit = f .begins .in-limit;
           comes = ap (λ (d : Due). mayCome d (l .kind)) (h .next) ∙ f .comes;
           allowed = f .ok;
           rest = left;

@@ -16,12 +16,11 @@ use Rattle.fields.specs.declared.record.Due.the-variants.{First, After}
 use Rattle.line.specs.Parts.{fieldNo}
 use Rattle.line.specs.Told.{Told}
 use Rattle.line.specs.Line.{fileLimit}
-use Rattle.file.specs.File.{listOf}
 use Rattle.file.specs.declared.whole.FileAnswer.{FileAnswer}
 use Rattle.file.specs.declared.whole.FileAnswer.the-variants.{Accepted, Refused}
 use Rattle.grammar.specs.Grammar.{LineOk}
 use Rattle.allowed.specs.Allowed.{FileLine, lineBytes, fileBytes, LinesOk, identcodes, oneOfCodes, NoneTwice}
-use Rattle.allowed.specs.Allowed.{AllowedFile, totalsOf, lineStarts}
+use Rattle.allowed.specs.Allowed.{Accepts}
 use Rattle.refused.specs.Line.{RefusedLine}
 
 -- "Record order": each of these records may come where it comes
@@ -41,7 +40,7 @@ toldBehind ls = record { rules = profile; due = dueBehind First ls }
 -- the file begins with these lines, which are allowed; these bytes are left
 pub record Begins (file : List ℕ) (ls : List FileLine) (left : List ℕ) : Type 0 where
   -- "At most 65,535 bytes."
-  pub small : length file ≤ fileLimit
+  pub in-limit : length file ≤ fileLimit
   pub there : file ≡ fileBytes ls ++ left
   pub lines : LinesOk ls
   pub order : Come First ls
@@ -77,8 +76,6 @@ pub data RefusedFile (file : List ℕ) (words : ℕ) : Refusal → Type 0 where
 
 -- what the judge's answer and the list behind it mean, for every file
 abbrev pub Means : List ℕ → ℕ → FileAnswer → List ℕ → Type 0
--- "every word below the line count holds that line's first offset, and every other word is 0"
-Means file words (Accepted totals) list =
-    (ls : List FileLine) × AllowedFile file ls × (length ls ≤ words) × (totals ≡ totalsOf ls) × (list ≡ listOf words (lineStarts 0 ls))
+Means file words (Accepted totals) list = Accepts file words totals list
 -- "On a refusal all words are 0."
 Means file words (Refused refusal) list = RefusedFile file words refusal × (list ≡ replicate words 0)

@@ -5,7 +5,7 @@ use mathlib.Core.Path.{_≡_}
 use mathlib.Core.Bool.{Bool, true, false}
 use mathlib.Core.List.{List}
 use mathlib.Core.Logic.{_⊎_}
-use lib.ListN.{length, getD}
+use lib.ListN.{length}
 use Rattle.refusal.specs.Table.{because}
 use Rattle.refusal.specs.declared.Refusal.{Refusal}
 use Rattle.refusal.specs.declared.Reason.the-variants.{OutputTooShort, WrongLength, WrongSymbol, WrongCheck}
@@ -13,13 +13,13 @@ use Rattle.check_characters.specs.Mod37.{passes}
 use Rattle.check_characters.specs.Number.{lengthOf, allowedInNumber}
 use Rattle.check_characters.specs.Iban.{ibanNumber, checkDigits, barred, allowedInIban}
 use Rattle.check_characters.specs.declared.number.Kind.{Kind}
-use Rattle.slips.specs.Exactly.{Shaped}
+use Rattle.slips.specs.Exactly.{symbolAt, Shaped}
 
 -- "first such symbol": it is not allowed at its place, and each in front of it is
 pub record FirstWrong (ok : ℕ → ℕ → Bool) (s : List ℕ) (i : ℕ) : Type 0 where
   pub inside : i < length s
-  pub before : (j : ℕ) → j < i → ok j (getD s j 0) ≡ true
-  pub here : ok i (getD s i 0) ≡ false
+  pub before : (j : ℕ) → j < i → ok j (symbolAt s j) ≡ true
+  pub here : ok i (symbolAt s i) ≡ false
 
 pub data RefusedNumber (s : List ℕ) : Refusal → Type 0 where
   -- 16: "wrong length of a number"

@@ -9,9 +9,13 @@ use Rattle.check_characters.specs.Number.{lengthOf, allowedInNumber}
 use Rattle.check_characters.specs.Iban.{ibanNumber, checkDigits, barred, allowedInIban}
 use Rattle.check_characters.specs.declared.number.Kind.{Kind}
 
+-- the symbol at a place, counted from 0
+abbrev pub symbolAt : List ℕ → ℕ → ℕ
+symbolAt s i = getD s i 0
+
 -- "the shape holds": each symbol is allowed where it stands
 abbrev pub Shaped : (ℕ → ℕ → Bool) → List ℕ → Type 0
-Shaped ok s = (i : ℕ) → i < length s → ok i (getD s i 0) ≡ true
+Shaped ok s = (i : ℕ) → i < length s → ok i (symbolAt s i) ≡ true
 
 -- the body of a number: all but its check
 abbrev pub bodyOf : List ℕ → List ℕ

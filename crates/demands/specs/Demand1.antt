@@ -1,0 +1,132 @@
+-- Demand 1: "Each entry point takes every input, of every length, ends, and never reads or writes outside the buffers lent to
+-- it." That is what the checker shows of every function, and no entry point has a `requires`. "It refuses by the numbers in our
+-- table, at the first place the table's order gives, and what each buffer then holds is fixed": of each entry point, two outcomes
+-- that its contract allows are equal.
+use Prim.Native.Nat.{ℕ}
+use mathlib.Core.Path.{_≡_}
+use mathlib.Core.List.{List}
+use lib.ListN.{length, replicate}
+use Rattle.text.specs.Placed.{placed}
+use Rattle.check_characters.specs.Number.{Issues, checkedNumber}
+use Rattle.check_characters.specs.Iban.{checkedIban}
+use Rattle.check_characters.specs.declared.number.NumberAnswer.{NumberAnswer}
+use Rattle.check_characters.specs.declared.number.IssueAnswer.{IssueAnswer}
+use Rattle.check_characters.specs.declared.iban.IbanAnswer.{IbanAnswer}
+use Rattle.identcodes.specs.Tree.{Finds}
+use Rattle.identcodes.specs.declared.CodeAnswer.{CodeAnswer}
+use Rattle.fields.specs.Profile.{profile}
+use Rattle.fields.specs.Field.{tested}
+use Rattle.fields.specs.declared.record.Record.{Record}
+use Rattle.fields.specs.declared.field.Tested.{Tested}
+use Rattle.line.specs.Line.{lineAnswer, alone}
+use Rattle.line.specs.Find.{fieldAnswer}
+use Rattle.line.specs.declared.read.LineAnswer.{LineAnswer}
+use Rattle.line.specs.declared.find.FieldAnswer.{FieldAnswer}
+use Rattle.file.specs.File.{Judges}
+use Rattle.writer.specs.Write.{Writes}
+use Rattle.writer.specs.declared.write.WriteAnswer.{WriteAnswer}
+use Rattle.purpose.specs.Purpose.{Purposes}
+use Rattle.purpose.specs.declared.write.PurposeAnswer.{PurposeAnswer}
+use Rattle.file.specs.declared.whole.FileAnswer.{FileAnswer}
+use Rattle.peliranopi.specs.Calls.{JudgeTells, LineTells, FieldTells, WriteTells, PurposeTells, NumberTells, IssueTells, IbanTells}
+
+abbrev pub CheckNumberUnique : Type 0
+CheckNumberUnique =
+    (symbols : List ℕ) (a b : NumberAnswer) → a ≡ checkedNumber symbols → b ≡ checkedNumber symbols → a ≡ b
+
+abbrev pub IssueNumberUnique : Type 0
+IssueNumberUnique =
+    (body output : List ℕ) (a b : IssueAnswer) (x y : List ℕ) → Issues body output a x → Issues body output b y →
+    (a ≡ b) × (x ≡ y)
+
+abbrev pub CheckIbanUnique : Type 0
+CheckIbanUnique =
+    (symbols : List ℕ) (a b : IbanAnswer) → a ≡ checkedIban symbols → b ≡ checkedIban symbols → a ≡ b
+
+abbrev pub ReadLineUnique : Type 0
+ReadLineUnique =
+    (file : List ℕ) (offset : ℕ) (a b : LineAnswer) → a ≡ lineAnswer (alone profile) file offset → b ≡ lineAnswer (alone profile) file offset → a ≡ b
+
+abbrev pub FindFieldUnique : Type 0
+FindFieldUnique =
+    (file : List ℕ) (offset n : ℕ) (a b : FieldAnswer) → a ≡ fieldAnswer profile file offset n → b ≡ fieldAnswer profile file offset n → a ≡ b
+
+abbrev pub TestFieldUnique : Type 0
+TestFieldUnique =
+    (kind : Record) (n : ℕ) (beside f : List ℕ) (a b : Tested) → a ≡ tested (profile kind) n beside f →
+    b ≡ tested (profile kind) n beside f → a ≡ b
+
+abbrev pub JudgeUnique : Type 0
+JudgeUnique =
+    (file : List ℕ) (words : ℕ) (a b : FileAnswer) (x y : List ℕ) → Judges file words a x → Judges file words b y → (a ≡ b) × (x ≡ y)
+
+-- a run placed in an output
+abbrev pub PlaceUnique : Type 0
+PlaceUnique =
+    (output : List ℕ) (place : ℕ) (run x y : List ℕ) → x ≡ placed output place run → y ≡ placed output place run → x ≡ y
+
+-- an identcode looked for, and the tree then
+abbrev pub FindOrGrowUnique : Type 0
+FindOrGrowUnique =
+    (file tree : List ℕ) (parcels offset : ℕ) (a b : CodeAnswer) (x y : List ℕ) →
+    Finds file tree parcels offset a x → Finds file tree parcels offset b y → (a ≡ b) × (x ≡ y)
+
+-- a list cleared
+abbrev pub ClearUnique : Type 0
+ClearUnique =
+    (words x y : List ℕ) → x ≡ replicate (length words) 0 → y ≡ replicate (length words) 0 → x ≡ y
+
+abbrev pub WriteLineUnique : Type 0
+WriteLineUnique =
+    (number : ℕ) (text ends output : List ℕ) (fill : ℕ) (a b : WriteAnswer) (x y : List ℕ) →
+    Writes number text ends output fill a x → Writes number text ends output fill b y → (a ≡ b) × (x ≡ y)
+
+abbrev pub WritePurposeUnique : Type 0
+WritePurposeUnique =
+    (file : List ℕ) (n words : ℕ) (output : List ℕ) (a b : PurposeAnswer) (list list₂ x y : List ℕ) →
+    Purposes file n words output a list x → Purposes file n words output b list₂ y → (a ≡ b) × (list ≡ list₂) × (x ≡ y)
+
+-- The same calls for C and Rust (crate peliranopi): the number returned, each number behind a pointer, each lent buffer.
+abbrev pub JudgeCallUnique : Type 0
+JudgeCallUnique =
+    (file : List ℕ) (words n lines parcels cents place n₂ lines₂ parcels₂ cents₂ place₂ : ℕ) (list list₂ : List ℕ) →
+    JudgeTells file words n lines parcels cents place list → JudgeTells file words n₂ lines₂ parcels₂ cents₂ place₂ list₂ →
+    (n ≡ n₂) × (lines ≡ lines₂) × (parcels ≡ parcels₂) × (cents ≡ cents₂) × (place ≡ place₂) × (list ≡ list₂)
+
+abbrev pub ReadLineCallUnique : Type 0
+ReadLineCallUnique =
+    (file : List ℕ) (offset n kind fields next place n₂ kind₂ fields₂ next₂ place₂ : ℕ) →
+    LineTells file offset n kind fields next place → LineTells file offset n₂ kind₂ fields₂ next₂ place₂ →
+    (n ≡ n₂) × (kind ≡ kind₂) × (fields ≡ fields₂) × (next ≡ next₂) × (place ≡ place₂)
+
+abbrev pub FindFieldCallUnique : Type 0
+FindFieldCallUnique =
+    (file : List ℕ) (offset field n start long place n₂ start₂ long₂ place₂ : ℕ) →
+    FieldTells file offset field n start long place → FieldTells file offset field n₂ start₂ long₂ place₂ →
+    (n ≡ n₂) × (start ≡ start₂) × (long ≡ long₂) × (place ≡ place₂)
+
+abbrev pub WriteLineCallUnique : Type 0
+WriteLineCallUnique =
+    (kind : ℕ) (text ends output : List ℕ) (fill n bytes place n₂ bytes₂ place₂ : ℕ) (x y : List ℕ) →
+    WriteTells kind text ends output fill n bytes place x → WriteTells kind text ends output fill n₂ bytes₂ place₂ y →
+    (n ≡ n₂) × (bytes ≡ bytes₂) × (place ≡ place₂) × (x ≡ y)
+
+abbrev pub WritePurposeCallUnique : Type 0
+WritePurposeCallUnique =
+    (file : List ℕ) (line words : ℕ) (output : List ℕ) (n bytes place n₂ bytes₂ place₂ : ℕ) (list list₂ x y : List ℕ) →
+    PurposeTells file line words output n bytes place list x → PurposeTells file line words output n₂ bytes₂ place₂ list₂ y →
+    (n ≡ n₂) × (bytes ≡ bytes₂) × (place ≡ place₂) × (list ≡ list₂) × (x ≡ y)
+
+abbrev pub CheckNumberCallUnique : Type 0
+CheckNumberCallUnique =
+    (symbols : List ℕ) (n kind place n₂ kind₂ place₂ : ℕ) → NumberTells symbols n kind place → NumberTells symbols n₂ kind₂ place₂ →
+    (n ≡ n₂) × (kind ≡ kind₂) × (place ≡ place₂)
+
+abbrev pub IssueNumberCallUnique : Type 0
+IssueNumberCallUnique =
+    (body output : List ℕ) (n bytes place n₂ bytes₂ place₂ : ℕ) (x y : List ℕ) → IssueTells body output n bytes place x →
+    IssueTells body output n₂ bytes₂ place₂ y → (n ≡ n₂) × (bytes ≡ bytes₂) × (place ≡ place₂) × (x ≡ y)
+
+abbrev pub CheckIbanCallUnique : Type 0
+CheckIbanCallUnique =
+    (symbols : List ℕ) (n place n₂ place₂ : ℕ) → IbanTells symbols n place → IbanTells symbols n₂ place₂ → (n ≡ n₂) × (place ≡ place₂)

@@ -1,0 +1,119 @@
+-- Demand 2: "A file is accepted exactly when our profile of the pre-advice manual allows it. Line list, parcel count and cash total
+-- are those of the file's own lines. A written line reads back to its fields, and an accepted line written again gives its own bytes.
+-- DPD numbers and IBANs pass exactly by ISO 7064."
+use Prim.Native.Nat.{ℕ, _+_, _-_, _≤_}
+use mathlib.Core.Path.{_≡_}
+use mathlib.Core.List.{List, _++_}
+use mathlib.Core.Logic.{_↔_}
+use lib.ListN.{length, take, drop}
+use Rattle.check_characters.specs.Number.{Issues, checkedNumber}
+use Rattle.check_characters.specs.Iban.{checkedIban}
+use Rattle.check_characters.specs.declared.number.Kind.{Kind}
+use Rattle.check_characters.specs.declared.number.NumberAnswer.the-variants.{Accepted}
+use Rattle.check_characters.specs.declared.number.IssueAnswer.{IssueAnswer}
+use Rattle.check_characters.specs.declared.number.IssueAnswer.the-variants.{Issued}
+use Rattle.check_characters.specs.declared.iban.IbanAnswer.the-variants.{Accepted as AcceptedIban}
+use Rattle.fields.specs.Profile.{profile}
+use Rattle.line.specs.Line.{lineAnswer, alone}
+use Rattle.line.specs.Find.{fieldAnswer}
+use Rattle.line.specs.declared.read.Line.{Line}
+use Rattle.line.specs.declared.read.LineAnswer.the-variants.{Accepted as AcceptedLine}
+use Rattle.line.specs.declared.find.FieldAnswer.the-variants.{Found}
+use Rattle.grammar.specs.Grammar.{Reads, Finds, FieldStands}
+use Rattle.file.specs.File.{Judges}
+use Rattle.file.specs.declared.whole.Totals.{Totals}
+use Rattle.file.specs.declared.whole.FileAnswer.the-variants.{Accepted as AcceptedFile}
+use Rattle.fields.specs.declared.record.Due.{Due}
+use Rattle.fields.specs.declared.record.Record.{Record}
+use Rattle.fields.specs.declared.record.Named.the-variants.{Known}
+use Rattle.text.specs.Placed.{written}
+use Rattle.writer.specs.Write.{recordNumbered, between, writeAnswer, Writes}
+use Rattle.grammar.specs.Written.{inOne, endsFrom, Writable, ReadsBack}
+use Rattle.writer.specs.declared.write.WriteAnswer.{WriteAnswer}
+use Rattle.writer.specs.declared.write.WriteAnswer.the-variants.{Written}
+use Rattle.allowed.specs.Allowed.{FileLine, AllowedFile, Accepts}
+use Rattle.slips.specs.Exactly.{SoundNumber, SoundIban, bodyOf}
+
+-- A file is accepted, with these totals and this list, exactly when it is allowed, the list has a word for each of its lines, the
+-- totals are those of its lines, and each word is where that line starts, every other 0. So a judge that refuses everything, one
+-- with a constant answer and invented counts are shut out.
+abbrev pub FileExactly : Type 0
+FileExactly =
+    (file : List ℕ) (words : ℕ) (totals : Totals) (list : List ℕ) → Judges file words (AcceptedFile totals) list ↔ Accepts file words totals list
+
+-- No other division of the bytes into lines exists: the lines of an allowed file are its own.
+abbrev pub OneDivisionIntoLines : Type 0
+OneDivisionIntoLines =
+    (file : List ℕ) (ls ks : List FileLine) → AllowedFile file ls → AllowedFile file ks → ls ≡ ks
+
+-- A line alone is accepted exactly when the bytes from the offset on are the rendering of an allowed line; the answer names its
+-- record, its count and where the next line starts.
+abbrev pub LineExactly : Type 0
+LineExactly =
+    (file : List ℕ) (offset : ℕ) (line : Line) → (lineAnswer (alone profile) file offset ≡ AcceptedLine line) ↔
+    ((fs : List (List ℕ)) × Reads (alone profile) file offset line fs)
+
+-- Of an accepted line each field is found where it stands, and no other.
+abbrev pub FieldExactly : Type 0
+FieldExactly =
+    (file : List ℕ) (offset : ℕ) (line : Line) (fs : List (List ℕ)) (n start long : ℕ) → Reads (alone profile) file offset line fs →
+    (fieldAnswer profile file offset n ≡ Found start long) ↔ Finds (line .kind) fs file offset n start long
+
+-- A field is found exactly when an allowed line stands at the offset and the field stands in it.
+abbrev pub FoundExactly : Type 0
+FoundExactly =
+    (file : List ℕ) (offset n start long : ℕ) → (fieldAnswer profile file offset n ≡ Found start long) ↔
+    FieldStands profile file offset n start long
+
+-- At one offset stands one line with one list of fields, whichever record is due.
+abbrev pub OneReading : Type 0
+OneReading =
+    (due late : Due) (file : List ℕ) (offset : ℕ) (line other : Line) (fs gs : List (List ℕ)) →
+    Reads (record { rules = profile; due = due }) file offset line fs → Reads (record { rules = profile; due = late }) file offset other gs →
+    (line ≡ other) × (fs ≡ gs)
+
+-- "A written line reads back to its fields": the bytes that were written, by themselves, are accepted as the line of that record and
+-- of those fields, and each field is found again.
+abbrev pub WrittenReadsBack : Type 0
+WrittenReadsBack =
+    (number : ℕ) (text ends output : List ℕ) (fill n : ℕ) (after : List ℕ) → Writes number text ends output fill (Written n) after →
+    (kind : Record) × ((recordNumbered number ≡ Known kind) × ((length (take n (drop fill after)) ≡ n) ×
+    ReadsBack kind (between text ends) (take n (drop fill after))))
+
+-- "an accepted line written again gives its own bytes", wherever there is room for it
+abbrev pub AcceptedWritesAgain : Type 0
+AcceptedWritesAgain =
+    (file : List ℕ) (offset : ℕ) (line : Line) (fs : List (List ℕ)) → Reads (alone profile) file offset line fs →
+    (number : ℕ) (output : List ℕ) (fill : ℕ) → recordNumbered number ≡ Known (line .kind) → fill + (line .next - offset) ≤ length output →
+    (answer : WriteAnswer) (after : List ℕ) → Writes number (inOne fs) (endsFrom 0 fs) output fill answer after →
+    (answer ≡ Written (line .next - offset)) × (after ≡ written output fill (take (line .next - offset) (drop offset file)))
+
+-- a line is written exactly when its record is known, its ends hold, it is allowed and there is room; so a writer that writes nothing
+-- is shut out
+abbrev pub WrittenExactly : Type 0
+WrittenExactly =
+    (number : ℕ) (text ends : List ℕ) (size fill n : ℕ) → (writeAnswer number text ends size fill ≡ Written n) ↔
+    Writable number text ends size fill n
+
+-- a tracking number or label code is accepted exactly when it has its kind's length and shape and its check closes the carry
+abbrev pub NumberExactly : Type 0
+NumberExactly =
+    (kind : Kind) (symbols : List ℕ) → (checkedNumber symbols ≡ Accepted kind) ↔ SoundNumber kind symbols
+
+-- an IBAN is accepted exactly when it has the length and shape of one, its check digits may stand, and the remainder by 97 is 1
+abbrev pub IbanExactly : Type 0
+IbanExactly =
+    (symbols : List ℕ) → (checkedIban symbols ≡ AcceptedIban) ↔ SoundIban symbols
+
+-- what issuing writes is accepted
+abbrev pub IssuedIsAccepted : Type 0
+IssuedIsAccepted =
+    (body output after : List ℕ) (n : ℕ) → Issues body output (Issued n) after →
+    (kind : Kind) × (checkedNumber (take n after) ≡ Accepted kind)
+
+-- an accepted number is what issuing its body writes, wherever there is room for it: its check is the only one
+abbrev pub AcceptedIsIssued : Type 0
+AcceptedIsIssued =
+    (kind : Kind) (symbols output after : List ℕ) (answer : IssueAnswer) → checkedNumber symbols ≡ Accepted kind → length symbols ≤ length output →
+    Issues (bodyOf symbols) output answer after
+    → (answer ≡ Issued (length symbols)) × (after ≡ symbols ++ drop (length symbols) output)

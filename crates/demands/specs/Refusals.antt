@@ -1,0 +1,172 @@
+-- Demand 1: "It refuses by the numbers in our table, at the first place the table's order gives". Document 01, 'Refusal numbers': "Each is
+-- given exactly then." Each call refuses, with this number and place, exactly when the input's own lines, fields and symbols say so; and
+-- what the lent buffers then hold.
+use Prim.Native.Nat.{ℕ, _≤_}
+use mathlib.Core.Path.{_≡_}
+use mathlib.Core.Bool.{true}
+use mathlib.Core.List.{List, []}
+use mathlib.Core.Logic.{_⊎_, _↔_}
+use lib.ListN.{length, replicate}
+use Rattle.refusal.specs.declared.Refusal.{Refusal}
+use Rattle.check_characters.specs.Number.{Issues, checkedNumber}
+use Rattle.check_characters.specs.Iban.{checkedIban}
+use Rattle.check_characters.specs.declared.number.Kind.{Kind}
+use Rattle.check_characters.specs.declared.number.NumberAnswer.the-variants.{Refused as RefusedAsNumber}
+use Rattle.check_characters.specs.declared.number.IssueAnswer.the-variants.{Refused as NotIssued}
+use Rattle.check_characters.specs.declared.iban.IbanAnswer.the-variants.{Refused as RefusedAsIban}
+use Rattle.fields.specs.Record.{mayEnd}
+use Rattle.fields.specs.Profile.{profile}
+use Rattle.fields.specs.declared.record.Due.the-variants.{First}
+use Rattle.line.specs.Line.{lineAnswer, alone}
+use Rattle.line.specs.Find.{fieldAnswer}
+use Rattle.line.specs.declared.read.Line.{Line}
+use Rattle.line.specs.declared.read.LineAnswer.the-variants.{Refused as RefusedAsLine}
+use Rattle.line.specs.declared.find.FieldAnswer.the-variants.{Refused as NotFound}
+use Rattle.file.specs.File.{Judges}
+use Rattle.file.specs.declared.whole.FileAnswer.{FileAnswer}
+use Rattle.file.specs.declared.whole.FileAnswer.the-variants.{Refused as RefusedAsFile}
+use Rattle.writer.specs.Write.{Writes}
+use Rattle.writer.specs.declared.write.WriteAnswer.the-variants.{Refused as NotWritten}
+use Rattle.purpose.specs.Purpose.{Purposes}
+use Rattle.purpose.specs.declared.write.PurposeAnswer.the-variants.{Refused as NoPurpose}
+use Rattle.grammar.specs.Grammar.{Reads, FieldStands}
+use Rattle.grammar.specs.Written.{Writable}
+use Rattle.allowed.specs.Allowed.{FileLine, AllowedFile}
+use Rattle.slips.specs.Exactly.{SoundNumber, SoundIban}
+use Rattle.refused.specs.Line.{RefusedAt, RefusedFind}
+use Rattle.refused.specs.File.{Begins, dueBehind, RefusedFile, Means}
+use Rattle.refused.specs.Write.{RefusedWrite}
+use Rattle.refused.specs.Purpose.{RefusedPurpose}
+use Rattle.refused.specs.Number.{RefusedNumber, RefusedIban, RefusedIssue}
+
+-- A file is refused exactly when it is too long; or it begins with lines that are allowed, and the next one is refused by its own rule,
+-- repeats an identcode, or finds no word in the list; or its lines are all fine and it ends where a record is due. "On a refusal all words
+-- are 0."
+abbrev pub FileRefusedExactly : Type 0
+FileRefusedExactly =
+    (file : List ℕ) (words : ℕ) (refusal : Refusal) (list : List ℕ) →
+    Judges file words (RefusedAsFile refusal) list ↔ (RefusedFile file words refusal × (list ≡ replicate words 0))
+
+-- Accepted or refused, the judge's answer and the list mean what the paper says of the file's own lines, and no other answer does.
+abbrev pub JudgeExactly : Type 0
+JudgeExactly =
+    (file : List ℕ) (words : ℕ) (answer : FileAnswer) (list : List ℕ) →
+    Judges file words answer list ↔ Means file words answer list
+
+-- Every file is allowed, with a word for each line, or refused;
+abbrev pub AlwaysOne : Type 0
+AlwaysOne =
+    (file : List ℕ) (words : ℕ) →
+    ((ls : List FileLine) × AllowedFile file ls × (length ls ≤ words)) ⊎ ((refusal : Refusal) × RefusedFile file words refusal)
+
+-- never both;
+abbrev pub NeverBoth : Type 0
+NeverBoth =
+    (file : List ℕ) (words : ℕ) (ls : List FileLine) (refusal : Refusal) →
+    AllowedFile file ls → length ls ≤ words → RefusedFile file words refusal → ⊥
+
+-- and by one number at one place.
+abbrev pub OneRefusal : Type 0
+OneRefusal =
+    (file : List ℕ) (words : ℕ) (refusal other : Refusal) →
+    RefusedFile file words refusal → RefusedFile file words other → refusal ≡ other
+
+-- The lines with which a refused file begins are those of an allowed one: they only lack the end.
+abbrev pub AllowedBegins : Type 0
+AllowedBegins =
+    (file : List ℕ) (ls : List FileLine) →
+    AllowedFile file ls ↔ (Begins file ls [] × (mayEnd (dueBehind First ls) ≡ true))
+
+-- One line at an offset: "1, 2, 3, 5 to 9"; 4 is the file's, where a record is due.
+abbrev pub LineRefusedExactly : Type 0
+LineRefusedExactly =
+    (file : List ℕ) (offset : ℕ) (refusal : Refusal) →
+    (lineAnswer (alone profile) file offset ≡ RefusedAsLine refusal) ↔ RefusedAt (alone profile) file offset refusal
+
+-- One field of it: the line's refusals, then 15.
+abbrev pub FieldRefusedExactly : Type 0
+FieldRefusedExactly =
+    (file : List ℕ) (offset n : ℕ) (refusal : Refusal) →
+    (fieldAnswer profile file offset n ≡ NotFound refusal) ↔ RefusedFind profile file offset n refusal
+
+-- The writer; "a refusal changes none" of the output's bytes.
+abbrev pub WriteRefusedExactly : Type 0
+WriteRefusedExactly =
+    (number : ℕ) (text ends output : List ℕ) (fill : ℕ) (refusal : Refusal) (after : List ℕ) →
+    Writes number text ends output fill (NotWritten refusal) after ↔
+    (RefusedWrite number text ends (length output) fill refusal × (after ≡ output))
+
+-- The payment purpose; "The output's other bytes stay, and all of them on a refusal; the list's words are all 0 after 15 or 13 too."
+abbrev pub PurposeRefusedExactly : Type 0
+PurposeRefusedExactly =
+    (file : List ℕ) (n words : ℕ) (output : List ℕ) (refusal : Refusal) (list after : List ℕ) →
+    Purposes file n words output (NoPurpose refusal) list after ↔
+    (RefusedPurpose file n words (length output) refusal × (list ≡ replicate words 0) × (after ≡ output))
+
+-- A tracking number or label code, an IBAN, and the body of a number to be issued: "a refusal writes nothing".
+abbrev pub NumberRefusedExactly : Type 0
+NumberRefusedExactly =
+    (symbols : List ℕ) (refusal : Refusal) →
+    (checkedNumber symbols ≡ RefusedAsNumber refusal) ↔ RefusedNumber symbols refusal
+
+abbrev pub IbanRefusedExactly : Type 0
+IbanRefusedExactly =
+    (symbols : List ℕ) (refusal : Refusal) →
+    (checkedIban symbols ≡ RefusedAsIban refusal) ↔ RefusedIban symbols refusal
+
+abbrev pub IssueRefusedExactly : Type 0
+IssueRefusedExactly =
+    (body output : List ℕ) (refusal : Refusal) (after : List ℕ) →
+    Issues body output (NotIssued refusal) after ↔ (RefusedIssue body (length output) refusal × (after ≡ output))
+
+-- A line, a field, a writing, a number and an IBAN pass or are refused, never both.
+abbrev pub LineAlwaysOne : Type 0
+LineAlwaysOne =
+    (file : List ℕ) (offset : ℕ) →
+    ((line : Line) × ((fs : List (List ℕ)) × Reads (alone profile) file offset line fs)) ⊎
+    ((refusal : Refusal) × RefusedAt (alone profile) file offset refusal)
+
+abbrev pub LineNeverBoth : Type 0
+LineNeverBoth =
+    (file : List ℕ) (offset : ℕ) (refusal : Refusal) →
+    (line : Line) × ((fs : List (List ℕ)) × Reads (alone profile) file offset line fs) →
+    RefusedAt (alone profile) file offset refusal → ⊥
+
+abbrev pub FieldAlwaysOne : Type 0
+FieldAlwaysOne =
+    (file : List ℕ) (offset n : ℕ) →
+    ((start : ℕ) × ((long : ℕ) × FieldStands profile file offset n start long)) ⊎
+    ((refusal : Refusal) × RefusedFind profile file offset n refusal)
+
+abbrev pub FieldNeverBoth : Type 0
+FieldNeverBoth =
+    (file : List ℕ) (offset n start long : ℕ) (refusal : Refusal) →
+    FieldStands profile file offset n start long → RefusedFind profile file offset n refusal → ⊥
+
+abbrev pub WriteAlwaysOne : Type 0
+WriteAlwaysOne =
+    (number : ℕ) (text ends : List ℕ) (size fill : ℕ) →
+    ((n : ℕ) × Writable number text ends size fill n) ⊎ ((refusal : Refusal) × RefusedWrite number text ends size fill refusal)
+
+abbrev pub WriteNeverBoth : Type 0
+WriteNeverBoth =
+    (number : ℕ) (text ends : List ℕ) (size fill n : ℕ) (refusal : Refusal) →
+    Writable number text ends size fill n → RefusedWrite number text ends size fill refusal → ⊥
+
+abbrev pub NumberAlwaysOne : Type 0
+NumberAlwaysOne =
+    (symbols : List ℕ) →
+    ((kind : Kind) × SoundNumber kind symbols) ⊎ ((refusal : Refusal) × RefusedNumber symbols refusal)
+
+abbrev pub NumberNeverBoth : Type 0
+NumberNeverBoth =
+    (symbols : List ℕ) (kind : Kind) (refusal : Refusal) →
+    SoundNumber kind symbols → RefusedNumber symbols refusal → ⊥
+
+abbrev pub IbanAlwaysOne : Type 0
+IbanAlwaysOne =
+    (symbols : List ℕ) → SoundIban symbols ⊎ ((refusal : Refusal) × RefusedIban symbols refusal)
+
+abbrev pub IbanNeverBoth : Type 0
+IbanNeverBoth =
+    (symbols : List ℕ) (refusal : Refusal) → SoundIban symbols → RefusedIban symbols refusal → ⊥
