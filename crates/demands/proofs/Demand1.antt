@@ -18,8 +18,7 @@ use Rattle.purpose.specs.Purpose.{purposeOf, listAfter, outputAfter}
 use Rattle.purpose.specs.declared.write.PurposeAnswer.{PurposeAnswer}
 use Rattle.demands.specs.Demand1.{CheckNumberUnique, IssueNumberUnique, CheckIbanUnique, ReadLineUnique, FindFieldUnique, TestFieldUnique, JudgeUnique, PlaceUnique, FindOrGrowUnique, ClearUnique, WriteLineUnique, WritePurposeUnique, JudgeCallUnique, ReadLineCallUnique, FindFieldCallUnique, WriteLineCallUnique, WritePurposeCallUnique, CheckNumberCallUnique, IssueNumberCallUnique, CheckIbanCallUnique}
 
--- A contract `answer ≡ definition of the inputs` leaves one answer. That is the contract of every public function but those that
--- write into a buffer, which follow below one by one.
+-- two answers that equal one definition of one input are equal
 pub one-answer : {A B : Type 0} (definition : A → B) (input : A) (a b : B) → a ≡ definition input → b ≡ definition input → a ≡ b
 one-answer definition input a b p q = p ∙ sym q
 

@@ -30,6 +30,8 @@ use Rattle.purpose.specs.declared.write.PurposeAnswer.{PurposeAnswer}
 use Rattle.file.specs.declared.whole.FileAnswer.{FileAnswer}
 use Rattle.peliranopi.specs.Calls.{JudgeTells, LineTells, FieldTells, WriteTells, PurposeTells, NumberTells, IssueTells, IbanTells}
 
+-- A contract `answer ≡ definition of the inputs` leaves one answer. That is the contract of every public function but those that
+-- write into a buffer, which have relations of their own (`Issues`, `Judges` and so on).
 abbrev pub CheckNumberUnique : Type 0
 CheckNumberUnique =
     (symbols : List ℕ) (a b : NumberAnswer) → a ≡ checkedNumber symbols → b ≡ checkedNumber symbols → a ≡ b
