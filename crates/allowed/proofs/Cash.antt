@@ -16,7 +16,7 @@ use Rattle.fields.specs.Profile.{profile, hasForm}
 use Rattle.fields.specs.declared.record.Record.{Record}
 use Rattle.fields.specs.declared.record.Record.the-variants.{Header, Sender, Shipment, Parcel, Product, Feature}
 use Rattle.line.specs.Parts.{fieldNo}
-use Rattle.grammar.specs.Grammar.{Filled, FieldsOk, Coded, LineOk}
+use Rattle.grammar.specs.Grammar.{Filled, FieldsOk, CodeAmong, LineOk}
 use Rattle.file.specs.Cash.{centsOf, cashIn, cashOf}
 use Rattle.allowed.specs.Allowed.{collectsEuros}
 
@@ -28,7 +28,7 @@ amount-there (a ∷ []) g h = absurd (h refl)
 amount-there (a ∷ b ∷ []) g h = absurd (h refl)
 amount-there (a ∷ b ∷ c ∷ fs) g h = g .1 .1 .0 .formed h
 
-cash-coded : (fs : List (List ℕ)) → isCash (fieldNo fs 1) ≡ true → Coded fs ("006" ∷ "022" ∷ [])
+cash-coded : (fs : List (List ℕ)) → isCash (fieldNo fs 1) ≡ true → CodeAmong fs ("006" ∷ "022" ∷ [])
 unfolding isCash
 cash-coded fs e =
     ⊎-elim (λ t. inl (same-eq (fieldNo fs 1) (bytes "006") t)) (λ t. inr (inl (same-eq (fieldNo fs 1) (bytes "022") t)))

@@ -13,7 +13,6 @@ use borrow.Author.Tests.{ltb-false, lt-ltb, le-ltb}
 use Rattle.text.proofs.Choices.{came-then, true-or-false}
 use Rattle.refusal.specs.declared.Reason.the-variants.{FileEnds}
 use Rattle.refusal.specs.Table.{because}
-use Rattle.refusal.specs.declared.Refusal.{Refusal}
 use Rattle.refusal.proofs.Verdicts.{no-pass}
 use Rattle.fields.specs.Record.{mayCome, mayEnd}
 use Rattle.fields.specs.declared.record.Due.{Due}

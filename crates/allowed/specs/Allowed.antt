@@ -100,7 +100,7 @@ lineStarts offset (l ∷ ls) = offset ∷ lineStarts (offset + length (lineBytes
 pub record Accepts (file : List ℕ) (words : ℕ) (totals : Totals) (list : List ℕ) : Type 0 where
   pub lines : List FileLine
   pub allowed : AllowedFile file lines
-  -- 11 would be "line list too short"
+  -- else 11: "no word left in the line list"
   pub room : length lines ≤ words
   pub counts : totals ≡ totalsOf lines
   -- "every word below the line count holds that line's first offset, and every other word is 0"

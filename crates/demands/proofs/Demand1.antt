@@ -16,7 +16,28 @@ use Rattle.writer.specs.Write.{recordNumbered, between, writtenTo}
 use Rattle.writer.specs.declared.write.WriteAnswer.{WriteAnswer}
 use Rattle.purpose.specs.Purpose.{purposeOf, listAfter, outputAfter}
 use Rattle.purpose.specs.declared.write.PurposeAnswer.{PurposeAnswer}
-use Rattle.demands.specs.Demand1.{CheckNumberUnique, IssueNumberUnique, CheckIbanUnique, ReadLineUnique, FindFieldUnique, TestFieldUnique, JudgeUnique, PlaceUnique, FindOrGrowUnique, ClearUnique, WriteLineUnique, WritePurposeUnique, JudgeCallUnique, ReadLineCallUnique, FindFieldCallUnique, WriteLineCallUnique, WritePurposeCallUnique, CheckNumberCallUnique, IssueNumberCallUnique, CheckIbanCallUnique}
+use Rattle.demands.specs.Demand1.{
+  CheckNumberUnique,
+  IssueNumberUnique,
+  CheckIbanUnique,
+  ReadLineUnique,
+  FindFieldUnique,
+  TestFieldUnique,
+  JudgeUnique,
+  PlaceUnique,
+  FindOrGrowUnique,
+  ClearUnique,
+  WriteLineUnique,
+  WritePurposeUnique,
+  JudgeCallUnique,
+  ReadLineCallUnique,
+  FindFieldCallUnique,
+  WriteLineCallUnique,
+  WritePurposeCallUnique,
+  CheckNumberCallUnique,
+  IssueNumberCallUnique,
+  CheckIbanCallUnique,
+}
 
 -- two answers that equal one definition of one input are equal
 pub one-answer : {A B : Type 0} (definition : A → B) (input : A) (a b : B) → a ≡ definition input → b ≡ definition input → a ≡ b

@@ -12,7 +12,21 @@ use Rattle.refused.proofs.Deciding.{judge-exactly}
 use Rattle.slips.proofs.Numbers as numbers
 use Rattle.slips.proofs.Ibans as ibans
 use Rattle.slips.proofs.Issues.{issued-sound, sound-issued}
-use Rattle.demands.specs.Demand2.{FileExactly, OneDivisionIntoLines, LineExactly, FieldExactly, FoundExactly, OneReading, WrittenReadsBack, AcceptedWritesAgain, WrittenExactly, NumberExactly, IbanExactly, IssuedIsAccepted, AcceptedIsIssued}
+use Rattle.demands.specs.Demand2.{
+  FileExactly,
+  OneDivisionIntoLines,
+  LineExactly,
+  FieldExactly,
+  FoundExactly,
+  OneReading,
+  WrittenReadsBack,
+  AcceptedWritesAgain,
+  WrittenExactly,
+  NumberExactly,
+  IbanExactly,
+  IssuedIsAccepted,
+  AcceptedIsIssued,
+}
 
 pub file-exactly : FileExactly
 file-exactly s words totals list = judge-exactly s words (AcceptedFile totals) list

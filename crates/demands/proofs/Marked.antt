@@ -1,7 +1,6 @@
 -- The marked cases of document 01 hold, all of them. So the promises are not empty: a file is allowed.
-use Prim.Native.Nat.{ℕ}
 use mathlib.Core.Path.{_≡_, refl}
-use mathlib.Core.List.{List, [], _∷_}
+use mathlib.Core.List.{[], _∷_}
 use Rattle.check_characters.specs.Symbol.{valueOf}
 use Rattle.check_characters.specs.Mod37.{step, passes}
 use Rattle.check_characters.specs.Number.{shapeOf, checkedAs, allowedInNumber, checkedNumber}

@@ -9,7 +9,31 @@ use Rattle.refused.proofs.Writing as writing
 use Rattle.refused.proofs.Purposes as purposes
 use Rattle.refused.proofs.Numbers as numbers
 use Rattle.refused.proofs.Either as either
-use Rattle.demands.specs.Refusals.{FileRefusedExactly, JudgeExactly, AlwaysOne, NeverBoth, OneRefusal, AllowedBegins, LineRefusedExactly, FieldRefusedExactly, WriteRefusedExactly, PurposeRefusedExactly, NumberRefusedExactly, IbanRefusedExactly, IssueRefusedExactly, LineAlwaysOne, LineNeverBoth, FieldAlwaysOne, FieldNeverBoth, WriteAlwaysOne, WriteNeverBoth, NumberAlwaysOne, NumberNeverBoth, IbanAlwaysOne, IbanNeverBoth}
+use Rattle.demands.specs.Refusals.{
+  FileRefusedExactly,
+  JudgeExactly,
+  AlwaysOne,
+  NeverBoth,
+  OneRefusal,
+  AllowedBegins,
+  LineRefusedExactly,
+  FieldRefusedExactly,
+  WriteRefusedExactly,
+  PurposeRefusedExactly,
+  NumberRefusedExactly,
+  IbanRefusedExactly,
+  IssueRefusedExactly,
+  LineAlwaysOne,
+  LineNeverBoth,
+  FieldAlwaysOne,
+  FieldNeverBoth,
+  WriteAlwaysOne,
+  WriteNeverBoth,
+  NumberAlwaysOne,
+  NumberNeverBoth,
+  IbanAlwaysOne,
+  IbanNeverBoth,
+}
 
 pub file-refused-exactly : FileRefusedExactly
 file-refused-exactly = files.refused-exactly

@@ -19,7 +19,7 @@ use Rattle.line.specs.Find.{fieldAnswer}
 use Rattle.line.specs.declared.read.Line.{Line}
 use Rattle.line.specs.declared.read.LineAnswer.the-variants.{Accepted as AcceptedLine}
 use Rattle.line.specs.declared.find.FieldAnswer.the-variants.{Found}
-use Rattle.grammar.specs.Grammar.{Reads, Finds, FieldStands}
+use Rattle.grammar.specs.Grammar.{Reads, FieldStands, StandsInLine}
 use Rattle.file.specs.File.{Judges}
 use Rattle.file.specs.declared.whole.Totals.{Totals}
 use Rattle.file.specs.declared.whole.FileAnswer.the-variants.{Accepted as AcceptedFile}
@@ -57,13 +57,13 @@ LineExactly =
 abbrev pub FieldExactly : Type 0
 FieldExactly =
     (file : List ℕ) (offset : ℕ) (line : Line) (fs : List (List ℕ)) (n start long : ℕ) → Reads (alone profile) file offset line fs →
-    (fieldAnswer profile file offset n ≡ Found start long) ↔ Finds (line .kind) fs file offset n start long
+    (fieldAnswer profile file offset n ≡ Found start long) ↔ FieldStands (line .kind) fs file offset n start long
 
 -- A field is found exactly when an allowed line stands at the offset and the field stands in it.
 abbrev pub FoundExactly : Type 0
 FoundExactly =
     (file : List ℕ) (offset n start long : ℕ) → (fieldAnswer profile file offset n ≡ Found start long) ↔
-    FieldStands profile file offset n start long
+    StandsInLine profile file offset n start long
 
 -- At one offset stands one line with one list of fields, whichever record is due.
 abbrev pub OneReading : Type 0

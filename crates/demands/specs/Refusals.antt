@@ -29,7 +29,7 @@ use Rattle.writer.specs.Write.{Writes}
 use Rattle.writer.specs.declared.write.WriteAnswer.the-variants.{Refused as NotWritten}
 use Rattle.purpose.specs.Purpose.{Purposes}
 use Rattle.purpose.specs.declared.write.PurposeAnswer.the-variants.{Refused as NoPurpose}
-use Rattle.grammar.specs.Grammar.{Reads, FieldStands}
+use Rattle.grammar.specs.Grammar.{Reads, StandsInLine}
 use Rattle.grammar.specs.Written.{Writable}
 use Rattle.allowed.specs.Allowed.{FileLine, AllowedFile}
 use Rattle.slips.specs.Exactly.{SoundNumber, SoundIban}
@@ -135,13 +135,13 @@ LineNeverBoth =
 abbrev pub FieldAlwaysOne : Type 0
 FieldAlwaysOne =
     (file : List ℕ) (offset n : ℕ) →
-    ((start : ℕ) × ((long : ℕ) × FieldStands profile file offset n start long)) ⊎
+    ((start : ℕ) × ((long : ℕ) × StandsInLine profile file offset n start long)) ⊎
     ((refusal : Refusal) × RefusedFind profile file offset n refusal)
 
 abbrev pub FieldNeverBoth : Type 0
 FieldNeverBoth =
     (file : List ℕ) (offset n start long : ℕ) (refusal : Refusal) →
-    FieldStands profile file offset n start long → RefusedFind profile file offset n refusal → ⊥
+    StandsInLine profile file offset n start long → RefusedFind profile file offset n refusal → ⊥
 
 abbrev pub WriteAlwaysOne : Type 0
 WriteAlwaysOne =

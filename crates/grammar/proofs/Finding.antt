@@ -25,7 +25,7 @@ use Rattle.line.specs.declared.read.Line.{Line}
 use Rattle.line.specs.declared.read.LineAnswer.{LineAnswer}
 use Rattle.line.specs.declared.read.LineAnswer.the-variants.{Accepted, Refused}
 use Rattle.line.specs.declared.find.FieldAnswer.the-variants.{Found, Refused}
-use Rattle.grammar.specs.Grammar.{Reads, Finds}
+use Rattle.grammar.specs.Grammar.{Reads, FieldStands, StandsInLine}
 use Rattle.grammar.proofs.Lines.{accepted-reads, reads-accepted, reads-alone, read-parts, read-field}
 
 -- the bytes in front of a field
@@ -94,7 +94,7 @@ module _ {told : Told} {s : List ℕ} {at : ℕ} {line : Line} {fs : List (List 
         (le-or-lt 1 n)
 
     module _ (start long : ℕ) where
-      found-finds : fieldAnswer (told .rules) s at n ≡ Found start long → Finds (line .kind) fs s at n start long
+      found-finds : fieldAnswer (told .rules) s at n ≡ Found start long → FieldStands (line .kind) fs s at n start long
       found-finds e =
           ⊎-elim
           (λ (l : 1 ≤ n). ⊎-elim (λ (m : n ≤ length fs). go l m (sym (found l m) ∙ e))
@@ -103,17 +103,17 @@ module _ {told : Told} {s : List ℕ} {at : ℕ} {line : Line} {fs : List (List 
           (le-or-lt 1 n)
         where
           go : 1 ≤ n → n ≤ length fs → Found (at + length (front (n - 1))) (length (fieldNo fs n)) ≡ Found start long →
-              Finds (line .kind) fs s at n start long
+              FieldStands (line .kind) fs s at n start long
           go l m e =
               let a : start ≡ at + length (front (n - 1)) = cc in
               let b : long ≡ length (fieldNo fs n) = cc in
               record { first = l; last = m; starts = a; measures = b; there = rw (a, b) (there (n - 1) (omega arith)) }
 
-      finds-found : Finds (line .kind) fs s at n start long → fieldAnswer (told .rules) s at n ≡ Found start long
+      finds-found : FieldStands (line .kind) fs s at n start long → fieldAnswer (told .rules) s at n ≡ Found start long
       finds-found f = found (f .first) (f .last) ∙ rw (f .starts, f .measures)
 
       -- a field of an accepted line is found exactly where it stands
-      pub field-exactly : (fieldAnswer (told .rules) s at n ≡ Found start long) ↔ Finds (line .kind) fs s at n start long
+      pub field-exactly : (fieldAnswer (told .rules) s at n ≡ Found start long) ↔ FieldStands (line .kind) fs s at n start long
       field-exactly = (found-finds, finds-found)
 
 -- "hands its refusal on"
@@ -125,10 +125,10 @@ field-refused rules s at n refusal e = rw e
 -- a field is found exactly when an allowed line stands at the offset and the field stands in it
 pub found-exactly :
     (rules : Rules) (s : List ℕ) (at n start long : ℕ) → (fieldAnswer rules s at n ≡ Found start long) ↔
-    ((line : Line) × ((fs : List (List ℕ)) × (Reads (alone rules) s at line fs × Finds (line .kind) fs s at n start long)))
+    StandsInLine rules s at n start long
 found-exactly rules s at n start long = (λ e. go (lineAnswer (alone rules) s at) refl e, λ g. finds-found (g .1 .1 .0) n start long (g .1 .1 .1))
   where
     go : (a : LineAnswer) → lineAnswer (alone rules) s at ≡ a → fieldAnswer rules s at n ≡ Found start long →
-        (line : Line) × ((fs : List (List ℕ)) × (Reads (alone rules) s at line fs × Finds (line .kind) fs s at n start long))
+        StandsInLine rules s at n start long
     go (Refused refusal) q e = absurd (no-pass fieldVerdict refl refl (sym (field-refused rules s at n refusal q) ∙ e))
     go (Accepted line) q e = let g = accepted-reads (alone rules) s at line q in (line, (fieldsOf (textAt s at), (g, found-finds g n start long e)))

@@ -20,14 +20,14 @@ use Rattle.fields.specs.declared.record.Record.{Record}
 use Rattle.fields.specs.declared.record.Record.the-variants.{Parcel}
 use Rattle.fields.proofs.Types.{type-long, type-tells}
 use Rattle.fields.proofs.Rules.{Sound}
-use Rattle.line.specs.Parts.{split, partAt, nameOf, fieldsOf, fieldNo}
+use Rattle.line.specs.Parts.{split, partAt, fieldsOf, fieldNo}
 use Rattle.line.specs.Render.{joined, textOf, render}
-use Rattle.line.specs.Line.{lineEnd, textAt, textAnswer, lineAnswer, alone, fileLimit}
+use Rattle.line.specs.Line.{textAt, textAnswer, lineAnswer, alone, fileLimit}
 use Rattle.line.specs.Told.{Told}
 use Rattle.line.specs.declared.read.Line.{Line}
 use Rattle.line.specs.declared.read.LineAnswer.the-variants.{Accepted}
 use Rattle.line.proofs.Plain.{render-long}
-use Rattle.line.proofs.Ends.{ended, ends-at, ends-well, text-there}
+use Rattle.line.proofs.Ends.{ended, ends-well, text-there}
 use Rattle.line.proofs.Accepting.{line-ok, text-written, line-stands}
 use Rattle.grammar.specs.Grammar.{LineOk, Reads}
 use Rattle.grammar.proofs.Texts.{text-split, text-bytes, text-accepted, text-allowed}
@@ -81,17 +81,8 @@ module _ {told : Told} {s : List ℕ} {at : ℕ} {line : Line} {fs : List (List 
   pub read-text : textAt s at ≡ textOf (line .kind) fs
   read-text = text-there s at (textOf (line .kind) fs) (g .rest) bytes-of (g .stands)
 
-  pub read-text-bytes : all textByte (textAt s at) ≡ true
-  read-text-bytes = ap (all textByte) read-text ∙ bytes-of
-
-  pub read-end : lineEnd s at + 2 ≡ line .next
-  read-end = omega (arith, ends-at s at (textOf (line .kind) fs) (g .rest) bytes-of (g .stands), g .next, render-long (line .kind) fs)
-
   pub read-parts : split (textAt s at) ≡ typeOf (line .kind) ∷ fs
   read-parts = ap split read-text ∙ text-split (line .kind) fs (g .allowed)
-
-  pub read-name : nameOf (textAt s at) ≡ typeOf (line .kind)
-  read-name = rw read-parts
 
   pub read-fields : fieldsOf (textAt s at) ≡ fs
   read-fields = rw read-parts

@@ -41,7 +41,8 @@ module _ {rules : Rules} (kind : Record) (fs : List (List ℕ)) (g : LineOk rule
   text-bytes = plain-bytes kind fs clean
 
   pub text-accepted : (due : Due) (at : ℕ) → mayCome due kind ≡ true →
-      ofText (record { rules = rules; due = due }) at (textOf kind fs) ≡ Accepted (record { kind = kind; count = length fs; next = at + length (textOf kind fs) + 2 })
+      ofText (record { rules = rules; due = due }) at (textOf kind fs) ≡
+      Accepted (record { kind = kind; count = length fs; next = at + length (textOf kind fs) + 2 })
   unfolding ofText ofNamed ofKind afterWalk
   text-accepted due at m =
       simp (

@@ -38,9 +38,9 @@ FieldsOk rows n beside [] = Unit {0}
 FieldsOk rows n beside (f ∷ fs) = FieldOk rows n beside f × FieldsOk rows (suc n) f fs
 
 -- the code of a 060 line (060.1) is one of these
-abbrev pub Coded : List (List ℕ) → List String → Type 0
-Coded fs [] = ⊥
-Coded fs (code ∷ codes) = (fieldNo fs 1 ≡ bytes code) ⊎ Coded fs codes
+abbrev pub CodeAmong : List (List ℕ) → List String → Type 0
+CodeAmong fs [] = ⊥
+CodeAmong fs (code ∷ codes) = (fieldNo fs 1 ≡ bytes code) ⊎ CodeAmong fs codes
 
 -- the fields with these numbers are filled
 abbrev pub AllFilled : List (List ℕ) → List ℕ → Type 0
@@ -50,11 +50,11 @@ AllFilled fs (n ∷ ns) = Filled (fieldNo fs n) × AllFilled fs ns
 -- "What a feature needs depends on its three-digit code alone": it is there
 pub record Served (fs : List (List ℕ)) : Type 0 where
   -- "006 and 022 need 3, 4, 5, 6, 7"
-  pub account : Coded fs ("006" ∷ "022" ∷ []) → AllFilled fs (3 ∷ 4 ∷ 5 ∷ 6 ∷ 7 ∷ [])
+  pub account : CodeAmong fs ("006" ∷ "022" ∷ []) → AllFilled fs (3 ∷ 4 ∷ 5 ∷ 6 ∷ 7 ∷ [])
   -- "011 and 063 need 3 and 4"
-  pub cash : Coded fs ("011" ∷ "063" ∷ []) → AllFilled fs (3 ∷ 4 ∷ [])
+  pub cash : CodeAmong fs ("011" ∷ "063" ∷ []) → AllFilled fs (3 ∷ 4 ∷ [])
   -- "054 needs 9 or 10; the rest need nothing"
-  pub contact : Coded fs ("054" ∷ []) → Filled (fieldNo fs 9) ⊎ Filled (fieldNo fs 10)
+  pub contact : CodeAmong fs ("054" ∷ []) → Filled (fieldNo fs 9) ⊎ Filled (fieldNo fs 10)
 
 pub record LineOk (rules : Rules) (kind : Record) (fs : List (List ℕ)) : Type 0 where
   -- "Fields per record"
@@ -78,7 +78,7 @@ pub record Reads (told : Told) (file : List ℕ) (offset : ℕ) (line : Line) (f
   pub next : line .next ≡ offset + length (render (line .kind) fs)
 
 -- "One field adds a field number, then 15 for 0 or above the count, and answers start and length."
-pub record Finds (kind : Record) (fs : List (List ℕ)) (file : List ℕ) (offset n start long : ℕ) : Type 0 where
+pub record FieldStands (kind : Record) (fs : List (List ℕ)) (file : List ℕ) (offset n start long : ℕ) : Type 0 where
   pub first : 1 ≤ n
   pub last : n ≤ length fs
   -- in front of it stand the record type, the fields before it, and its own semicolon
@@ -87,6 +87,6 @@ pub record Finds (kind : Record) (fs : List (List ℕ)) (file : List ℕ) (offse
   pub there : take long (drop start file) ≡ fieldNo fs n
 
 -- the field with this number of the allowed line at this offset, from start on and so long
-abbrev pub FieldStands : Rules → List ℕ → ℕ → ℕ → ℕ → ℕ → Type 0
-FieldStands rules file offset n start long =
-    (line : Line) × ((fs : List (List ℕ)) × (Reads (alone rules) file offset line fs × Finds (line .kind) fs file offset n start long))
+abbrev pub StandsInLine : Rules → List ℕ → ℕ → ℕ → ℕ → ℕ → Type 0
+StandsInLine rules file offset n start long =
+    (line : Line) × ((fs : List (List ℕ)) × (Reads (alone rules) file offset line fs × FieldStands (line .kind) fs file offset n start long))

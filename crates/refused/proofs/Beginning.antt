@@ -14,7 +14,7 @@ use Rattle.grammar.specs.Grammar.{LineOk}
 use Rattle.allowed.specs.Allowed.{FileLine, lineBytes, fileBytes, LinesOk, codesOn, identcodes, oneOfCodes, NoneTwice}
 use Rattle.allowed.proofs.Codes.{Fresh, codes-append}
 use Rattle.allowed.proofs.Twice.{none-more, fresh-before}
-use Rattle.refused.specs.File.{Come, dueBehind, Begins, Follows}
+use Rattle.refused.specs.File.{Come, dueBehind, Begins, NextLine}
 
 pub bytes-append : (ls ks : List FileLine) → fileBytes (ls ++ ks) ≡ fileBytes ls ++ fileBytes ks
 bytes-append [] ks = refl
@@ -51,7 +51,7 @@ come-more due (k ∷ ls) l a g = (a .0, come-more (After (k .kind)) ls l (a .1) 
 
 -- an allowed line behind the lines with which a file begins, none of whose codes it repeats
 pub record Next (s : List ℕ) (ls : List FileLine) (l : FileLine) (left : List ℕ) : Type 0 where
-  pub follows : Follows s ls l left
+  pub follows : NextLine s ls l left
   pub fresh : Fresh (identcodes ls) (codesOn (l .kind) (l .fields))
 
 pub begins-more : (s : List ℕ) (ls : List FileLine) (l : FileLine) (left : List ℕ) → Next s ls l left → Begins s (ls ++ (l ∷ [])) left

@@ -27,7 +27,7 @@ use Rattle.line.specs.declared.find.FieldAnswer.the-variants.{Found, Refused as
 use Rattle.writer.specs.Write.{writeAnswer, writeVerdict}
 use Rattle.writer.specs.declared.write.WriteAnswer.{WriteAnswer}
 use Rattle.writer.specs.declared.write.WriteAnswer.the-variants.{Written, Refused as NotWritten}
-use Rattle.grammar.specs.Grammar.{Reads, Finds}
+use Rattle.grammar.specs.Grammar.{Reads, StandsInLine}
 use Rattle.grammar.specs.Written.{Writable}
 use Rattle.grammar.proofs.Lines.{line-exactly}
 use Rattle.grammar.proofs.Finding.{found-exactly}
@@ -57,7 +57,7 @@ module _ (told : Told) (s : List ℕ) (at : ℕ) where
 
 module _ (rules : Rules) (s : List ℕ) (at n : ℕ) where
   abbrev IsThere : ℕ → ℕ → Type 0
-  IsThere start long = (line : Line) × ((fs : List (List ℕ)) × (Reads (alone rules) s at line fs × Finds (line .kind) fs s at n start long))
+  IsThere start long = StandsInLine rules s at n start long
 
   pub field-always-one : ((start : ℕ) × ((long : ℕ) × IsThere start long)) ⊎ ((refusal : Refusal) × RefusedFind rules s at n refusal)
   field-always-one = go (fieldAnswer rules s at n) refl

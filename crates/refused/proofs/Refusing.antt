@@ -34,7 +34,7 @@ use Rattle.allowed.specs.Allowed.{FileLine, fileBytes, identcodes}
 use Rattle.allowed.proofs.Files.{line-some}
 use Rattle.allowed.proofs.Codes.{fresh-not}
 use Rattle.refused.specs.Line.{RefusedLine, RefusedAt}
-use Rattle.refused.specs.File.{Begins, Follows, RefusedFile}
+use Rattle.refused.specs.File.{Begins, NextLine, RefusedFile}
 use Rattle.refused.proofs.Lines.{answer-refused}
 use Rattle.refused.proofs.Beginning.{Next, begins-more, left-long}
 use Rattle.refused.proofs.Standing.{Here, line-of, there, inside, line-here, behind-line}
@@ -77,7 +77,7 @@ module _ (s : List ℕ) (words : ℕ) where
         abbrev l : FileLine
         l = record { kind = line .kind; fields = fieldsOf (textAt s (state .at)) }
 
-        follows : Follows s ls l (g .rest)
+        follows : NextLine s ls l (g .rest)
         follows =
             record {
               begins = subst (Begins s ls) (sym (there s ls starts state h left b) ∙ g .stands) b;

@@ -29,7 +29,7 @@ use Rattle.allowed.specs.Allowed.{FileLine, lineBytes, fileBytes, codesOn, iden
 use Rattle.allowed.proofs.Files.{line-some}
 use Rattle.allowed.proofs.Codes.{Seen, seen-more, Fresh, not-fresh, code-here}
 use Rattle.refused.specs.Line.{RefusedLine}
-use Rattle.refused.specs.File.{dueBehind, toldBehind, Begins, Follows}
+use Rattle.refused.specs.File.{dueBehind, toldBehind, Begins, NextLine}
 use Rattle.refused.proofs.Beginning.{bytes-more, codes-more, due-more, left-there, left-long}
 
 -- the judge behind these lines
@@ -69,7 +69,7 @@ module _ (s : List ℕ) (ls : List FileLine) (starts : List ℕ) (state : State)
         let r₂ = subst (λ (x : List ℕ). RefusedLine (toldBehind ls) (state .at) x refusal) (sym there) r₁ in
         subst (λ (t : Told). RefusedLine t (state .at) (drop (state .at) s) refusal) (sym told-is) r₂
 
-  module _ (l : FileLine) (left : List ℕ) (f : Follows s ls l left) where
+  module _ (l : FileLine) (left : List ℕ) (f : NextLine s ls l left) where
     stands : drop (state .at) s ≡ render (l .kind) (l .fields) ++ left
     stands = there (lineBytes l ++ left) (f .begins)
 

@@ -47,7 +47,7 @@ pub record Begins (file : List ℕ) (ls : List FileLine) (left : List ℕ) : Typ
   pub codes : NoneTwice (identcodes ls)
 
 -- behind them stands this line, which keeps its rules and may come there
-pub record Follows (file : List ℕ) (ls : List FileLine) (l : FileLine) (left : List ℕ) : Type 0 where
+pub record NextLine (file : List ℕ) (ls : List FileLine) (l : FileLine) (left : List ℕ) : Type 0 where
   pub begins : Begins file ls (lineBytes l ++ left)
   pub ok : LineOk profile (l .kind) (l .fields)
   pub comes : mayCome (dueBehind First ls) (l .kind) ≡ true
@@ -62,7 +62,7 @@ pub data RefusedFile (file : List ℕ) (words : ℕ) : Refusal → Type 0 where
       RefusedLine (toldBehind ls) (length (fileBytes ls)) left refusal → RefusedFile file words refusal
   -- 10: "identcode already on an earlier line", at "field start"
   identcode-repeated :
-      (ls : List FileLine) (l : FileLine) (left : List ℕ) → Follows file ls l left → length ls ≤ words → l .kind ≡ Parcel →
+      (ls : List FileLine) (l : FileLine) (left : List ℕ) → NextLine file ls l left → length ls ≤ words → l .kind ≡ Parcel →
       oneOfCodes (fieldNo (l .fields) 1) (identcodes ls) ≡ true →
       RefusedFile file words (because IdentcodeRepeated (length (fileBytes ls ++ bytes "040;")))
   -- 11: "no word left in the line list", at "line start"

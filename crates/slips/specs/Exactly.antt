@@ -13,7 +13,7 @@ use Rattle.check_characters.specs.declared.number.Kind.{Kind}
 abbrev pub symbolAt : List ℕ → ℕ → ℕ
 symbolAt s i = getD s i 0
 
--- "the shape holds": each symbol is allowed where it stands
+-- "where the shape still holds": each symbol is allowed where it stands
 abbrev pub Shaped : (ℕ → ℕ → Bool) → List ℕ → Type 0
 Shaped ok s = (i : ℕ) → i < length s → ok i (symbolAt s i) ≡ true
 

@@ -17,7 +17,7 @@ pub record AgreeBut (i : ℕ) (s t : List ℕ) : Type 0 where
 abbrev pub OneClass : ℕ → ℕ → Type 0
 OneClass a b = ((digit a ≡ true) × (digit b ≡ true)) ⊎ ((capital a ≡ true) × (capital b ≡ true))
 
--- "swapping two neighbours": those at the places i and i + 1
+-- "Swapping two unlike neighbours", or two "neighbouring digits": those at the places i and i + 1
 abbrev pub swapped : ℕ → List ℕ → List ℕ
 swapped i s = take i s ++ symbolAt s (i + 1) ∷ symbolAt s i ∷ drop (i + 2) s
 
