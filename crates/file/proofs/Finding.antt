@@ -11,10 +11,10 @@ use Rattle.identcodes.specs.declared.CodeAnswer.the-variants.{Known, New, NoRoo
 use Rattle.identcodes.specs.Tree.{isThere, grown, hasRoom, codeAnswer, treeAfter}
 use Rattle.identcodes.proofs.Answers.{room-there, answer-tells, room-answers, room-grows}
 use Rattle.line.specs.Line.{fileLimit}
-use Rattle.file.specs.Identcode.{isThereFor, grownFor}
+use Rattle.file.specs.Identcode.{isThereFor, grownFor, parcelsMost, treeWords}
 
 -- a file's tree has room for every parcel
-module _ (s codes : List ℕ) (parcels at : ℕ) (long : 4681 ≤ length codes) (few : parcels ≤ 2340) (small : at ≤ fileLimit) where
+module _ (s codes : List ℕ) (parcels at : ℕ) (long : treeWords ≤ length codes) (few : parcels ≤ parcelsMost) (in-limit : at ≤ fileLimit) where
   room : hasRoom codes parcels at ≡ true
   room = room-there codes parcels at (omega arith) (omega arith) (omega arith)
 

@@ -23,7 +23,7 @@ use Rattle.file.specs.declared.step.Step.{Step}
 use Rattle.file.specs.declared.step.Step.the-variants.{Next, Stopped}
 use Rattle.file.specs.declared.whole.FileAnswer.{FileAnswer}
 use Rattle.file.specs.declared.whole.FileAnswer.the-variants.{Accepted, Refused}
-use Rattle.file.specs.Identcode.{Sown}
+use Rattle.file.specs.Identcode.{parcelsMost, treeWords, Sown}
 use Rattle.file.proofs.Cashing.{cash-below}
 use Rattle.file.proofs.Codes.{accepted-far}
 use Rattle.file.proofs.Sowing.{sown-none}
@@ -31,7 +31,7 @@ use Rattle.file.proofs.Stepping.{Went, went}
 use Rattle.file.proofs.Lists.{word-left, listed-none, listed-more, unlisted-more, list-whole}
 
 pub record Going (s : List ℕ) (m : ℕ) (words codes : List ℕ) (state : State) : Type 0 where
-  pub small : length s ≤ fileLimit
+  pub in-limit : length s ≤ fileLimit
   pub long : length words ≡ m
   pub lines : state .lines ≤ state .at
   pub room : state .lines ≤ m
@@ -49,7 +49,7 @@ pub going-none : (s words codes : List ℕ) → length s ≤ fileLimit → words
 unfolding judged
 going-none s words codes h e =
     record {
-      small = h;
+      in-limit = h;
       long = refl;
       lines = omega arith;
       room = omega arith;
@@ -92,8 +92,8 @@ long-judged s m h = all-clear s m (Refused (because FileTooLong fileLimit)) (rw 
 
 module _ (s : List ℕ) (m : ℕ) (words codes : List ℕ) (state : State) (g : Going s m words codes state) where
   -- so few parcels have room in a file
-  pub few-parcels : state .at < length s → state .parcels ≤ 2340
-  few-parcels h = omega (arith, g .small, g .far)
+  pub few-parcels : state .at < length s → state .parcels ≤ parcelsMost
+  few-parcels h = omega (arith, g .in-limit, g .far)
 
   -- the turn that is due
   turn : state .at < length s → onStep (stepAnswer s m (listedSoFar (state .lines) words) state)
@@ -131,7 +131,7 @@ module _ (s : List ℕ) (m : ℕ) (words codes : List ℕ) (state : State) (g : 
         let more-listed = listed-more words (state .lines) m (state .at) (g .long) (w .room) (g .cleared) in
         let more : Going s m (set words (state .lines) (state .at)) after now =
         record {
-          small = g .small;
+          in-limit = g .in-limit;
           long = length-set words (state .lines) (state .at) ∙ g .long;
           lines = omega (arith, g .lines, behind-it);
           room = omega (arith, word-left m (state .lines) (w .room));
@@ -182,5 +182,5 @@ pub clear-now : (words words₀ : List ℕ) → length words ≡ length words₀
 clear-now words words₀ long e = e ∙ ap (λ (k : ℕ). replicate k 0) (sym long)
 
 -- the tree keeps its room
-pub room-kept : (codes codes₀ : List ℕ) → length codes ≡ length codes₀ → 4681 ≤ length codes₀ → 4681 ≤ length codes
+pub room-kept : (codes codes₀ : List ℕ) → length codes ≡ length codes₀ → treeWords ≤ length codes₀ → treeWords ≤ length codes
 room-kept codes codes₀ long room = omega arith

@@ -15,7 +15,7 @@ use Rattle.fields.specs.Record.{typeOf}
 use Rattle.fields.specs.declared.record.Record.{Record}
 use Rattle.fields.specs.declared.record.Record.the-variants.{Header, Sender, Shipment, Parcel, Product, Feature}
 use Rattle.line.specs.Line.{fileLimit}
-use Rattle.file.specs.Identcode.{sameParcel, onEarlier, repeats, isThereFor, grownFor, Sown}
+use Rattle.file.specs.Identcode.{sameParcel, onEarlier, repeats, isThereFor, grownFor, Sown, parcelsMost, treeWords}
 use Rattle.file.specs.Step.{parcelsIn}
 
 -- one line more among those that start at some places
@@ -49,10 +49,10 @@ module _ (s starts : List ℕ) (parcels : ℕ) (tree : List ℕ) (g : Sown s sta
             ∙ or-false (onEarlier s starts z) ∙ g .tells z dz;
       })
 
-  parcel-sown : 4681 ≤ length tree → parcels ≤ 2340 → at ≤ fileLimit → identcode (identcodeAt s at) ≡ true → take 3 (drop at s) ≡ typeOf Parcel →
+  parcel-sown : treeWords ≤ length tree → parcels ≤ parcelsMost → at ≤ fileLimit → identcode (identcodeAt s at) ≡ true → take 3 (drop at s) ≡ typeOf Parcel →
       isThere s tree parcels at ≡ false →
       Sown s (starts ++ (at ∷ [])) (parcels + 1) (grown s tree parcels at)
-  parcel-sown long few small d type e =
+  parcel-sown long few in-limit d type e =
       let room = room-there tree parcels at (omega arith) (omega arith) (omega arith) in
       let more = one-more s parcels tree at (g .whole) room d e in
       record {
@@ -61,16 +61,16 @@ module _ (s starts : List ℕ) (parcels : ℕ) (tree : List ℕ) (g : Sown s sta
             ∙ ap (λ (t : Bool). isThere s tree parcels z || t) (parcel-code s at z Parcel type refl) ∙ sym (more .tells z dz);
       }
 
-  pub sown-line : (kind : Record) → 4681 ≤ length tree → parcels ≤ 2340 → at ≤ fileLimit → (kind ≡ Parcel → identcode (identcodeAt s at) ≡ true) →
+  pub sown-line : (kind : Record) → treeWords ≤ length tree → parcels ≤ parcelsMost → at ≤ fileLimit → (kind ≡ Parcel → identcode (identcodeAt s at) ≡ true) →
       take 3 (drop at s) ≡ typeOf kind →
       isThereFor kind s tree parcels at ≡ false → Sown s (starts ++ (at ∷ [])) (parcels + parcelsIn kind) (grownFor kind s tree parcels at)
   unfolding isThereFor grownFor
-  sown-line Header long few small d type e = other-sown Header type refl
-  sown-line Sender long few small d type e = other-sown Sender type refl
-  sown-line Shipment long few small d type e = other-sown Shipment type refl
-  sown-line Parcel long few small d type e = parcel-sown long few small (d refl) type e
-  sown-line Product long few small d type e = other-sown Product type refl
-  sown-line Feature long few small d type e = other-sown Feature type refl
+  sown-line Header long few in-limit d type e = other-sown Header type refl
+  sown-line Sender long few in-limit d type e = other-sown Sender type refl
+  sown-line Shipment long few in-limit d type e = other-sown Shipment type refl
+  sown-line Parcel long few in-limit d type e = parcel-sown long few in-limit (d refl) type e
+  sown-line Product long few in-limit d type e = other-sown Product type refl
+  sown-line Feature long few in-limit d type e = other-sown Feature type refl
 
   pub sown-tells : (kind : Record) → (kind ≡ Parcel → identcode (identcodeAt s at) ≡ true) →
       isThereFor kind s tree parcels at ≡ repeats kind s starts at

@@ -23,7 +23,7 @@ use Rattle.line.proofs.Accepting.{text-starts, text-inside, next-least, text-is
 use Rattle.file.proofs.Codes.{accepted-type, accepted-code}
 use Rattle.file.proofs.Lists.{word-left}
 use Rattle.file.proofs.Sowing.{sown-line, sown-tells}
-use Rattle.file.specs.Identcode.{repeats, isThereFor, grownFor, Sown}
+use Rattle.file.specs.Identcode.{repeats, isThereFor, grownFor, Sown, parcelsMost, treeWords}
 use Rattle.file.specs.Cash.{cashOf}
 use Rattle.fields.proofs.Rules.{sound}
 use Rattle.file.specs.Step.{toldBy, parcelsIn, behind, hasWord, onLine, stepAnswer}
@@ -65,13 +65,13 @@ module _ (s : List ℕ) (words : ℕ) (starts : List ℕ) (state : State) (a : L
         line-next h next en = stepped (Next next) (rw (el, ← er, fresh, ← eu, h, en))
 
       -- the tree behind the line
-      pub line-sown : 4681 ≤ length codes → state .parcels ≤ 2340 → state .at ≤ fileLimit → (after : List ℕ) → after ≡ grownFor (line .kind)
+      pub line-sown : treeWords ≤ length codes → state .parcels ≤ parcelsMost → state .at ≤ fileLimit → (after : List ℕ) → after ≡ grownFor (line .kind)
           s codes (state .parcels) (state .at) →
           (now : State) → now ≡ behind s state line → (next : State) → Next now ≡ Next next →
           Sown s (starts ++ (state .at ∷ [])) (next .parcels) after
-      line-sown long few small after ef now en next e =
+      line-sown long few in-limit after ef now en next e =
           let q : now ≡ next = cc in
-          rw (ef, ← q, en) (sown-line s starts (state .parcels) codes g (state .at) (line .kind) long few small
+          rw (ef, ← q, en) (sown-line s starts (state .parcels) codes g (state .at) (line .kind) long few in-limit
           (λ k. accepted-code (toldBy state) s (state .at) a ea line el sound k) (accepted-type (toldBy state) s (state .at) a ea line el)
           (sym et ∙ fresh))
 

@@ -33,6 +33,13 @@ isThereFor kind file tree parcels offset = kind isA Parcel && isThere file tree 
 unfoldable pub grownFor : Record → List ℕ → List ℕ → ℕ → ℕ → List ℕ
 grownFor kind file tree parcels offset = if kind isA Parcel then grown file tree parcels offset else tree
 
+-- "At most 65,535 bytes", and a parcel line has at least 28: more parcels no file has, and a tree of so many has room in so many words
+abbrev pub parcelsMost : ℕ
+parcelsMost = 2340
+
+abbrev pub treeWords : ℕ
+treeWords = 4681
+
 -- the tree of so many parcels tells which identcodes stand on the lines that start at these places. No promise to a caller speaks of
 -- it: it holds from line to line.
 pub record Sown (file starts : List ℕ) (parcels : ℕ) (tree : List ℕ) : Type 0 where

@@ -4,9 +4,12 @@ ghost use Prim.Native.Nat.{_≤_};
 ghost use lib.ListN.{length};
 ghost use Rattle.line.specs.Line.{fileLimit};
 ghost use Rattle.identcodes.specs.Tree.{isThere, grown};
-ghost use Rattle.file.specs.Identcode.{isThereFor, grownFor};
+ghost use Rattle.file.specs.Identcode.{isThereFor, grownFor, parcelsMost, treeWords};
 use fields::Record;
 use identcodes::CodeAnswer;
+
+// Room for the tree of the most parcels that a file can have, 2,340.
+pub const TREE_WORDS: usize = 4681;
 
 // Whether the line of this record that starts here repeats an identcode of the tree; one that is new is put into it.
 pub fn is_repeated(
@@ -16,7 +19,7 @@ pub fn is_repeated(
     parcels: usize,
     offset: usize,
 ) -> bool
-    requires { ⌜ (4681 ≤ length (now codes)) × (parcels ≤ 2340) × (offset ≤ fileLimit) ⌝ }
+    requires { ⌜ (treeWords ≤ length (now codes)) × (parcels ≤ parcelsMost) × (offset ≤ fileLimit) ⌝ }
     ensures { λ r. ⌜ (r ≡ isThereFor kind (now (file .entry)) (now (codes .entry)) parcels offset)
         × (now (codes .exit) ≡ grownFor kind (now (file .entry)) (now (codes .entry)) parcels offset) ⌝ }
 {
@@ -32,7 +35,7 @@ pub fn is_repeated(
 
 // The same for a parcel line.
 fn is_known(file: &[u8], codes: &mut [u32], parcels: usize, offset: usize) -> bool
-    requires { ⌜ (4681 ≤ length (now codes)) × (parcels ≤ 2340) × (offset ≤ fileLimit) ⌝ }
+    requires { ⌜ (treeWords ≤ length (now codes)) × (parcels ≤ parcelsMost) × (offset ≤ fileLimit) ⌝ }
     ensures { λ r. ⌜ (r ≡ isThere (now (file .entry)) (now (codes .entry)) parcels offset)
         × (now (codes .exit) ≡ grown (now (file .entry)) (now (codes .entry)) parcels offset) ⌝ }
 {

@@ -6,7 +6,7 @@ ghost use mathlib.Core.List.{[], _∷_, _++_};
 ghost use Rattle.line.specs.Line.{fileLimit, lineAnswer};
 ghost use Rattle.line.specs.declared.read.LineAnswer.the-variants.{Accepted};
 ghost use Rattle.file.specs.Step.{toldBy, parcelsIn, behind, listedSoFar, hasWord, stepAnswer};
-ghost use Rattle.file.specs.Identcode.{Sown};
+ghost use Rattle.file.specs.Identcode.{parcelsMost, treeWords, Sown};
 ghost use Rattle.file.specs.declared.step.State.{State};
 ghost use Rattle.file.specs.declared.step.Step.the-variants.{Next};
 use crate::cash;
@@ -36,8 +36,8 @@ pub enum Step {
 pub fn one_line(file: &[u8], list: &mut [u32], codes: &mut [u32], state: State) -> Step
     requires { ⌜ (state .at ≤ fileLimit) × (state .lines ≤ state .at) × (state .lines ≤ length (now list)) × (state .parcels ≤ state .lines)
         × (state .cents ≤ 99999999 * state .lines) ⌝ }
-    requires { ⌜ Sown (now file) (listedSoFar (state .lines) (now list)) (state .parcels) (now codes) × (state .parcels ≤ 2340)
-        × (4681 ≤ length (now codes)) ⌝ }
+    requires { ⌜ Sown (now file) (listedSoFar (state .lines) (now list)) (state .parcels) (now codes) × (state .parcels ≤ parcelsMost)
+        × (treeWords ≤ length (now codes)) ⌝ }
     ensures { λ r. ⌜ r ≡ stepAnswer (now (file .entry)) (length (now (list .entry))) (listedSoFar (state .lines) (now (list .entry))) state ⌝ }
     ensures { λ r. ⌜ ((next : State) → r ≡ Next next →
         Sown (now (file .entry)) (listedSoFar (state .lines) (now (list .entry)) ++ (state .at ∷ [])) (next .parcels) (now (codes .exit))) ⌝ }

@@ -4,6 +4,8 @@ ghost use Prim.Native.Nat.{_≤_};
 ghost use lib.ListN.{length, replicate};
 ghost use Rattle.line.specs.Line.{fileLimit};
 ghost use Rattle.file.specs.File.{Judges};
+ghost use Rattle.file.specs.Identcode.{treeWords};
+use crate::identcode::TREE_WORDS;
 use crate::list;
 use crate::step;
 use crate::step::State;
@@ -36,14 +38,13 @@ pub fn judge(file: &[u8], list: &mut [u32]) -> FileAnswer
             place: FILE_LIMIT,
         });
     }
-    // A file has at most 2,340 parcels.
-    let mut codes = [0u32; 4681];
+    let mut codes = [0u32; TREE_WORDS];
     run(file, list, &mut codes)
 }
 
 // The lines of a file that is not too long, with a list that is clear, and room for a tree of their identcodes.
 fn run(file: &[u8], list: &mut [u32], codes: &mut [u32]) -> FileAnswer
-    requires { ⌜ (length (now file) ≤ fileLimit) × (now list ≡ replicate (length (now list)) 0) × (4681 ≤ length (now codes)) ⌝ }
+    requires { ⌜ (length (now file) ≤ fileLimit) × (now list ≡ replicate (length (now list)) 0) × (treeWords ≤ length (now codes)) ⌝ }
     ensures { λ r. ⌜ Judges (now (file .entry)) (length (now (list .entry))) r (now (list .exit)) ⌝ }
 {
     let mut state = State {

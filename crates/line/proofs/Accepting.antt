@@ -14,7 +14,6 @@ use Rattle.text.proofs.Choices.{came-else}
 use Rattle.text.proofs.Runs.{first-least, first-most}
 use Rattle.refusal.specs.declared.Reason.the-variants.{FileTooLong, NoLineEnd, OutOfOrder, FieldCount, FeatureLacks}
 use Rattle.refusal.specs.Table.{because}
-use Rattle.refusal.specs.declared.Refusal.{Refusal}
 use Rattle.refusal.proofs.Verdicts.{no-pass}
 use Rattle.fields.specs.Record.{named, countFits, mayCome}
 use Rattle.fields.specs.declared.record.Record.{Record}

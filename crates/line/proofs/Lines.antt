@@ -13,7 +13,7 @@ use Rattle.text.proofs.Scans.{pair-unlike}
 use Rattle.refusal.specs.declared.Reason.the-variants.{FileTooLong, NoLineEnd, UnknownRecord, OutOfOrder, FieldCount, FeatureLacks}
 use Rattle.refusal.specs.Table.{because}
 use Rattle.refusal.specs.declared.Refusal.{Refusal}
-use Rattle.fields.specs.Profile.{profile, Rules}
+use Rattle.fields.specs.Profile.{Rules}
 use Rattle.fields.specs.Record.{named, countFits, mayCome}
 use Rattle.fields.specs.declared.record.Record.{Record}
 use Rattle.fields.specs.declared.record.Named.{Named}

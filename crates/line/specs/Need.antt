@@ -16,7 +16,7 @@ use Rattle.fields.specs.declared.record.Record.the-variants.{Feature}
 unfoldable pub isFilled : List (List ℕ) → ℕ → Bool
 isFilled parts n = not (eqb (length (getD parts n [])) 0)
 
--- the feature with this number has what it needs
+-- the feature with this code has what it needs
 unfoldable pub serves : ℕ → List (List ℕ) → Bool
 serves code parts =
     -- "006 and 022 need 3, 4, 5, 6, 7"
