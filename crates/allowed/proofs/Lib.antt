@@ -1,3 +1,5 @@
+pub mod Contacts
+pub mod Countries
 pub mod Codes
 pub mod Twice
 pub mod Cash

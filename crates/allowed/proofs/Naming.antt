@@ -18,6 +18,7 @@ use Rattle.fields.specs.declared.record.Record.the-variants.{Shipment, Parcel}
 use Rattle.line.specs.Parts.{split, partAt, fieldNo}
 use Rattle.line.specs.Need.{isFilled}
 use Rattle.line.specs.Line.{textAt}
+use Rattle.file.specs.Lent.{Lent}
 use Rattle.file.specs.File.{Judged, judged, listOf}
 use Rattle.file.specs.declared.whole.FileAnswer.the-variants.{Accepted}
 use Rattle.allowed.specs.Allowed.{FileLine, AllowedFile, lineStarts, totalsOf}
@@ -70,12 +71,12 @@ or-next s at n next (b ∷ f) fs last e q =
     in
     rw t e
 
-pub whole : (s : List ℕ) (ls : List FileLine) → AllowedFile s ls → (words : ℕ) → length ls ≤ words →
-    judged s words ≡ record { answer = Accepted (totalsOf ls); starts = lineStarts 0 ls }
-whole s ls g words room = allowed-accepted s words (totalsOf ls) (lineStarts 0 ls)
+pub whole : (s : List ℕ) (lent : Lent) (ls : List FileLine) → AllowedFile (lent .countries) s ls → length ls ≤ lent .words →
+    judged s lent ≡ record { answer = Accepted (totalsOf ls); starts = lineStarts 0 ls }
+whole s lent ls g room = allowed-accepted s lent (totalsOf ls) (lineStarts 0 ls)
     (record { lines = ls; allowed = g; room = room; counts = refl; list = refl })
 
-module _ (s : List ℕ) (ls : List FileLine) (g : AllowedFile s ls) (n : ℕ) (l : FileLine) (el : LineNo ls n l) (cash : CashLine l)
+module _ (s countries : List ℕ) (ls : List FileLine) (g : AllowedFile countries s ls) (n : ℕ) (l : FileLine) (el : LineNo ls n l) (cash : CashLine l)
     (shipment parcel : FileLine) (b : Belongs ls n shipment parcel) where
   abbrev starts : List ℕ
   starts = lineStarts 0 ls
@@ -147,28 +148,31 @@ module _ (s : List ℕ) (ls : List FileLine) (g : AllowedFile s ls) (n : ℕ) (l
   source-is = cash-source s ls g n l el cash
 
   module _ (words : ℕ) (room : length ls ≤ words) where
-    named-text : purposeOf s n words ≡ cut (namedText l shipment parcel)
+    abbrev lent : Lent
+    lent = record { countries = countries; words = words }
+
+    named-text : purposeOf s n lent ≡ cut (namedText l shipment parcel)
     named-text =
-        ap (λ (j : Judged). textFrom s (sourceOf s (j .starts) n)) (whole s ls g words room)
+        ap (λ (j : Judged). textFrom s (sourceOf s (j .starts) n)) (whole s lent ls g room)
         ∙ ap (textFrom s) source-is
         ∙ ap cut text-is
 
-    named-answer : (long : ℕ) → purposeLong ≤ long → purposeAnswer s n words long ≡ Written (length (cut (namedText l shipment parcel)))
+    named-answer : (long : ℕ) → purposeLong ≤ long → purposeAnswer s n lent long ≡ Written (length (cut (namedText l shipment parcel)))
     unfolding onFile onSource
     named-answer long h =
-        ap (λ (j : Judged). onFile (j .answer) (sourceOf s (j .starts) n) s long) (whole s ls g words room)
+        ap (λ (j : Judged). onFile (j .answer) (sourceOf s (j .starts) n) s long) (whole s lent ls g room)
         ∙ ap (λ (x : Sourced). onSource x s long) source-is
         ∙ rw (le-ltb long purposeLong h, text-is)
 
     -- the line's text is written, the list is the file's, and every other byte of the output stays
     pub purpose-named :
-        (out : List ℕ) → purposeLong ≤ length out → (answer : PurposeAnswer) (list after : List ℕ) → Purposes s n words out answer list after →
+        (out : List ℕ) → purposeLong ≤ length out → (answer : PurposeAnswer) (list after : List ℕ) → Purposes s n lent out answer list after →
         (answer ≡ Written (length (cut (namedText l shipment parcel)))) × (list ≡ listOf words (lineStarts 0 ls)) ×
         (after ≡ written out 0 (cut (namedText l shipment parcel)))
     purpose-named out h answer list after p =
         let e : answer ≡ Written (length (cut (namedText l shipment parcel))) = p .0 ∙ named-answer (length out) h in (
           e,
-          p .1 ∙ ap (λ (a : PurposeAnswer). listAfter a words (judged s words .starts)) e
-              ∙ ap (λ (j : Judged). listOf words (j .starts)) (whole s ls g words room),
-          p .2 ∙ ap (λ (a : PurposeAnswer). outputAfter a (purposeOf s n words) out) e ∙ ap (written out 0) named-text,
+          p .1 ∙ ap (λ (a : PurposeAnswer). listAfter a words (judged s lent .starts)) e
+              ∙ ap (λ (j : Judged). listOf words (j .starts)) (whole s lent ls g room),
+          p .2 ∙ ap (λ (a : PurposeAnswer). outputAfter a (purposeOf s n lent) out) e ∙ ap (written out 0) named-text,
         )

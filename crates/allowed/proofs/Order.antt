@@ -15,6 +15,7 @@ use Rattle.fields.specs.declared.record.Record.{Record}
 use Rattle.fields.specs.declared.record.Record.the-variants.{Header, Sender, Shipment, Parcel, Product, Feature}
 use Rattle.fields.specs.declared.record.Due.{Due}
 use Rattle.fields.specs.declared.record.Due.the-variants.{First, After}
+use Rattle.file.specs.Lent.{Lent}
 use Rattle.file.specs.File.{listOf}
 use Rattle.allowed.specs.Allowed.{FileLine, InOrder, AllowedFile, lineStarts}
 use Rattle.purpose.specs.Purpose.{purposeLong, cut, Purposes}
@@ -136,23 +137,23 @@ has ls o (suc i) l h t =
     ⊎-elim (λ u. has-on ls i (a .0) (a .1) u (has ls o i (a .0) (a .1) u)) (λ p. has-next ls i (a .0) (a .1) (p .0) l h (p .1))
     (step-in (a .0 .kind) (l .kind) (a .2) t)
 
-pub each-belongs : (s : List ℕ) (ls : List FileLine) → AllowedFile s ls → (n : ℕ) (l : FileLine) → LineNo ls n l → CashLine l →
+pub each-belongs : (countries s : List ℕ) (ls : List FileLine) → AllowedFile countries s ls → (n : ℕ) (l : FileLine) → LineNo ls n l → CashLine l →
     (shipment : FileLine) × (parcel : FileLine) × Belongs ls n shipment parcel
-each-belongs s ls g n l h cash = has ls (g .order) n l h (ap inside (cash .feature))
+each-belongs countries s ls g n l h cash = has ls (g .order) n l h (ap inside (cash .feature))
 
 -- the line has its shipment and the shipment its first parcel, and the text that these three lines name is written
 pub purpose-of :
-    (s : List ℕ) (ls : List FileLine) → AllowedFile s ls → (n : ℕ) (l : FileLine) → LineNo ls n l → CashLine l → (words : ℕ) →
-    length ls ≤ words → (out : List ℕ) → purposeLong ≤ length out →
-    (answer : PurposeAnswer) (list after : List ℕ) → Purposes s n words out answer list after →
+    (lent : Lent) (s : List ℕ) (ls : List FileLine) → AllowedFile (lent .countries) s ls → (n : ℕ) (l : FileLine) → LineNo ls n l → CashLine l →
+    length ls ≤ lent .words → (out : List ℕ) → purposeLong ≤ length out →
+    (answer : PurposeAnswer) (list after : List ℕ) → Purposes s n lent out answer list after →
     (shipment : FileLine) × (parcel : FileLine) × Belongs ls n shipment parcel
-    × ((answer ≡ Written (length (cut (namedText l shipment parcel)))) × (list ≡ listOf words (lineStarts 0 ls)) ×
+    × ((answer ≡ Written (length (cut (namedText l shipment parcel)))) × (list ≡ listOf (lent .words) (lineStarts 0 ls)) ×
     (after ≡ written out 0 (cut (namedText l shipment parcel))))
-purpose-of s ls g n l h cash words room out long answer list after p =
-    let b = each-belongs s ls g n l h cash in (
+purpose-of lent s ls g n l h cash room out long answer list after p =
+    let b = each-belongs (lent .countries) s ls g n l h cash in (
       b .0,
       b .1,
       b .2,
-      purpose-named s ls g n l h cash
-          (b .0) (b .1) (b .2) words room out long answer list after p,
+      purpose-named s (lent .countries) ls g n l h cash
+          (b .0) (b .1) (b .2) (lent .words) room out long answer list after p,
     )

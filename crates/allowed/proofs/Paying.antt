@@ -19,7 +19,7 @@ use Rattle.allowed.specs.Sentence.{LineNo, CashLine}
 use Rattle.allowed.proofs.Files.{starts-count}
 use Rattle.allowed.proofs.Placed.{line-counted, parts-at, kind-told, is-typed}
 
-module _ (s : List ℕ) (ls : List FileLine) (g : AllowedFile s ls) (n : ℕ) (l : FileLine) (h : LineNo ls n l) where
+module _ {countries : List ℕ} (s : List ℕ) (ls : List FileLine) (g : AllowedFile countries s ls) (n : ℕ) (l : FileLine) (h : LineNo ls n l) where
   abbrev at : ℕ
   at = getD (lineStarts 0 ls) n 0
 

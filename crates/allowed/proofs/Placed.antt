@@ -34,7 +34,7 @@ line-counted [] i l h = absurd h
 line-counted (k ∷ ls) zero l h = omega arith
 line-counted (k ∷ ls) (suc i) l h = omega (arith, line-counted ls i l h)
 
-module _ (s : List ℕ) (small : length s ≤ fileLimit) where
+module _ (s : List ℕ) (in-limit : length s ≤ fileLimit) where
   first-parts : (at : ℕ) (l : FileLine) (rest : List ℕ) → LineOk profile (l .kind) (l .fields) → drop at s ≡ lineBytes l ++ rest →
       split (textAt s at) ≡ typeOf (l .kind) ∷ l .fields
   unfolding mayCome
@@ -44,7 +44,7 @@ module _ (s : List ℕ) (small : length s ≤ fileLimit) where
       line = record { kind = l .kind; count = length (l .fields); next = at + length (lineBytes l) }
 
       reads : Reads (alone profile) s at line (l .fields)
-      reads = record { in-limit = small; comes = refl; allowed = ok; rest = rest; stands = e; count = refl; next = refl }
+      reads = record { in-limit = in-limit; comes = refl; allowed = ok; rest = rest; stands = e; count = refl; next = refl }
 
   -- lines that stand from here on
   parts-from :
@@ -56,7 +56,7 @@ module _ (s : List ℕ) (small : length s ≤ fileLimit) where
       parts-from ls (at + length (lineBytes k)) (ok .1) (sym (drop-drop (length (lineBytes k)) at s) ∙ ap (drop (length (lineBytes k))) e
       ∙ drop-append-seam (lineBytes k) (fileBytes ls)) i l h
 
-module _ (s : List ℕ) (ls : List FileLine) (g : AllowedFile s ls) where
+module _ {countries : List ℕ} (s : List ℕ) (ls : List FileLine) (g : AllowedFile countries s ls) where
   pub parts-at : (i : ℕ) (l : FileLine) → LineNo ls i l → split (textAt s (getD (lineStarts 0 ls) i 0)) ≡ typeOf (l .kind) ∷ l .fields
   parts-at i l h = parts-from s (g .in-limit) ls 0 (g .lines) (g .bytes) i l h
 

@@ -1,5 +1,5 @@
 -- Demand 2: "A file is accepted exactly when our profile of the pre-advice manual allows it. Line list, parcel count and cash total
--- are those of the file's own lines." What an allowed file is, as a list of lines, apart from any way of judging it.
+-- are those of the file's own lines." Document 02, request 1: "demand 2 reads with the list as part of the file's rules". What an allowed file is, as a list of lines, apart from any way of judging it.
 use Prim.Native.Nat.{ℕ, _+_, _≤_}
 use mathlib.Core.Path.{_≡_}
 use mathlib.Core.Bool.{Bool, true, false, _&&_, _||_}
@@ -12,13 +12,15 @@ use Rattle.forms.specs.Amount.{cents}
 use Rattle.fields.specs.Record.{_isA_, mayCome, mayEnd}
 use Rattle.fields.specs.Form.{isCash}
 use Rattle.fields.specs.declared.record.Record.{Record}
-use Rattle.fields.specs.declared.record.Record.the-variants.{Parcel, Feature}
+use Rattle.fields.specs.declared.record.Record.the-variants.{Sender, Shipment, Parcel, Feature}
 use Rattle.fields.specs.declared.record.Due.{Due}
 use Rattle.fields.specs.declared.record.Due.the-variants.{First, After}
 use Rattle.fields.specs.Profile.{profile}
 use Rattle.line.specs.Parts.{fieldNo}
 use Rattle.line.specs.Render.{render}
-use Rattle.grammar.specs.Grammar.{LineOk}
+use Rattle.grammar.specs.Grammar.{AllFilled, LineOk}
+use Rattle.countries.specs.List.{isPaired, isListed}
+use Rattle.file.specs.Lent.{Lent}
 use Rattle.file.specs.File.{listOf}
 use Rattle.file.specs.declared.whole.Totals.{Totals}
 use Rattle.line.specs.Line.{fileLimit}
@@ -64,14 +66,40 @@ abbrev pub NoneTwice : List (List ℕ) → Type 0
 NoneTwice [] = Unit {0}
 NoneTwice (c ∷ cs) = (oneOfCodes c cs ≡ false) × NoneTwice cs
 
--- an allowed file, and its lines
-pub record AllowedFile (file : List ℕ) (ls : List FileLine) : Type 0 where
+-- the shipments under a sender: the 030 lines behind it, up to the next sender
+abbrev pub shipmentsUnder : List FileLine → List FileLine
+shipmentsUnder [] = []
+shipmentsUnder (l ∷ ls) =
+    if l .kind isA Sender then []
+    else if l .kind isA Shipment then l ∷ shipmentsUnder ls
+    else shipmentsUnder ls
+
+-- "some shipment .. has a consignee country on a list the caller lends": 030.20 of one of these
+abbrev pub someInto : List ℕ → List FileLine → Bool
+someInto countries [] = false
+someInto countries (l ∷ ls) = isListed countries (fieldNo (l .fields) 20) || someInto countries ls
+
+-- a sender's phone and mail, 020.12 and 020.13
+abbrev pub HasContacts : FileLine → Type 0
+HasContacts l = AllFilled (l .fields) (12 ∷ 13 ∷ [])
+
+-- "They are needed only if some shipment under that sender has a consignee country on a list the caller lends"
+abbrev pub ContactsKept : List ℕ → List FileLine → Type 0
+ContactsKept countries [] = Unit {0}
+ContactsKept countries (l ∷ ls) =
+    (l .kind ≡ Sender → someInto countries (shipmentsUnder ls) ≡ true → HasContacts l) × ContactsKept countries ls
+
+-- a file that is allowed with a list of countries, and its lines
+pub record AllowedFile (countries file : List ℕ) (ls : List FileLine) : Type 0 where
+  -- else 20: "the list's length is odd"
+  pub paired : isPaired countries ≡ true
   pub bytes : file ≡ fileBytes ls
   -- "At most 65,535 bytes."
   pub in-limit : length file ≤ fileLimit
   pub lines : LinesOk ls
   pub order : InOrder First ls
   pub codes : NoneTwice (identcodes ls)
+  pub contacts : ContactsKept countries ls
 
 -- "number of 040 lines": each counts one
 abbrev pub parcelCount : List FileLine → ℕ
@@ -96,12 +124,12 @@ abbrev pub lineStarts : ℕ → List FileLine → List ℕ
 lineStarts offset [] = []
 lineStarts offset (l ∷ ls) = offset ∷ lineStarts (offset + length (lineBytes l)) ls
 
--- what it means that a file is accepted, with these totals and this list of so many words
-pub record Accepts (file : List ℕ) (words : ℕ) (totals : Totals) (list : List ℕ) : Type 0 where
+-- what it means that a file is accepted, with what is lent, with these totals and this list
+pub record Accepts (file : List ℕ) (lent : Lent) (totals : Totals) (list : List ℕ) : Type 0 where
   pub lines : List FileLine
-  pub allowed : AllowedFile file lines
+  pub allowed : AllowedFile (lent .countries) file lines
   -- else 11: "no word left in the line list"
-  pub room : length lines ≤ words
+  pub room : length lines ≤ lent .words
   pub counts : totals ≡ totalsOf lines
   -- "every word below the line count holds that line's first offset, and every other word is 0"
-  pub starts : list ≡ listOf words (lineStarts 0 lines)
+  pub starts : list ≡ listOf (lent .words) (lineStarts 0 lines)

@@ -81,11 +81,11 @@ write-line-unique number text ends out fill a b x y p q =
     (same, p .1 ∙ ap (λ (r : WriteAnswer). writtenTo r (recordNumbered number) (between text ends) out fill) same ∙ sym (q .1))
 
 pub write-purpose-unique : WritePurposeUnique
-write-purpose-unique s n words out a b list list₂ x y p q =
+write-purpose-unique s n lent out a b list list₂ x y p q =
     let same : a ≡ b = p .0 ∙ sym (q .0) in (
       same,
-      p .1 ∙ ap (λ (r : PurposeAnswer). listAfter r words (judged s words .starts)) same ∙ sym (q .1),
-      p .2 ∙ ap (λ (r : PurposeAnswer). outputAfter r (purposeOf s n words) out) same ∙ sym (q .2),
+      p .1 ∙ ap (λ (r : PurposeAnswer). listAfter r (lent .words) (judged s lent .starts)) same ∙ sym (q .1),
+      p .2 ∙ ap (λ (r : PurposeAnswer). outputAfter r (purposeOf s n lent) out) same ∙ sym (q .2),
     )
 
 pub judge-call-unique : JudgeCallUnique

@@ -29,10 +29,10 @@ use Rattle.demands.specs.Demand2.{
 }
 
 pub file-exactly : FileExactly
-file-exactly s words totals list = judge-exactly s words (AcceptedFile totals) list
+file-exactly s lent totals list = judge-exactly s lent (AcceptedFile totals) list
 
 pub one-division-into-lines : OneDivisionIntoLines
-one-division-into-lines s ls ks a b = one-division ls ks (a .lines) (b .lines) (sym (a .bytes) ∙ b .bytes)
+one-division-into-lines countries others s ls ks a b = one-division ls ks (a .lines) (b .lines) (sym (a .bytes) ∙ b .bytes)
 
 pub line-exactly : LineExactly
 line-exactly s at line = lines.line-exactly (alone profile) s at line

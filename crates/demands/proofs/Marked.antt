@@ -16,20 +16,22 @@ use Rattle.fields.specs.Field.{tested}
 use Rattle.line.specs.Need.{isFilled, serves, isServed, lacks}
 use Rattle.line.specs.Line.{endsWell, textAnswer, afterWalk, ofKind, ofNamed, ofText, lineAnswer}
 use Rattle.line.specs.At.{isTyped}
+use Rattle.countries.specs.List.{isPaired}
+use Rattle.file.specs.Contact.{hasContacts, contactsBehind, lacksContact}
 use Rattle.file.specs.Cash.{cashIn, cashOf}
 use Rattle.file.specs.Identcode.{sameParcel, repeats}
-use Rattle.file.specs.Step.{hasWord, onLine, stepAnswer}
+use Rattle.file.specs.Step.{hasWord, listing, onLine, stepAnswer}
 use Rattle.file.specs.File.{judged}
 use Rattle.purpose.specs.Source.{isCashLine, fromShipment, forFeature, sourceOf}
 use Rattle.allowed.proofs.Files.{accepted-allowed}
-use Rattle.demands.specs.Marked.{example, lent, MarkedHold, AFileIsAllowed}
+use Rattle.demands.specs.Marked.{example, lentWith, MarkedHold, AFileIsAllowed}
 
 pub marked-hold : MarkedHold
 unfolding valueOf step passes shapeOf allowedInNumber checkedAs checkedNumber digitsOf barred soundOf allowedInIban checkedIban amount
     pointed leadingZero cents digits allDigits dateTime like standsFor goodDay goodTime calendar daysIn leap identcode capitals customer
     version bic mail purposeText featureCodes isFeature codeOf named mayFollow mayCome mayEnd isCash profile widthInTable widthOf
     isRequired hasForm tested isFilled serves isServed lacks endsWell textAnswer afterWalk ofKind ofNamed ofText lineAnswer isTyped cashIn
-    cashOf sameParcel repeats hasWord onLine stepAnswer judged isCashLine fromShipment forFeature sourceOf
+    cashOf sameParcel repeats isPaired hasContacts contactsBehind lacksContact hasWord listing onLine stepAnswer judged isCashLine fromShipment forFeature sourceOf
 marked-hold = (
   refl,
   (
@@ -62,7 +64,7 @@ marked-hold = (
                               refl,
                               (
                                 refl,
-                                (refl, (refl, (refl, (refl, (refl, tt))))),
+                                (refl, (refl, (refl, (refl, (refl, (refl, (refl, (refl, (refl, (refl, tt)))))))))),
                               ),
                             ),
                           ),
@@ -82,6 +84,6 @@ marked-hold = (
 
 pub a-file-is-allowed : AFileIsAllowed
 a-file-is-allowed =
-    let g = accepted-allowed example lent (record { lines = 6; parcels = 1; cents = 1250 }) (0 ∷ 74 ∷ 116 ∷ 178 ∷ 208 ∷ 216 ∷ [])
+    let g = accepted-allowed example (lentWith "") (record { lines = 6; parcels = 1; cents = 1250 }) (0 ∷ 74 ∷ 116 ∷ 178 ∷ 208 ∷ 216 ∷ [])
     (marked-hold .1 .1 .1 .1 .1 .1 .1 .1 .1 .1 .1 .1 .1 .1 .1 .1 .0) in
     (g .lines, g .allowed)

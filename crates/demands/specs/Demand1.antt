@@ -22,6 +22,7 @@ use Rattle.line.specs.Line.{lineAnswer, alone}
 use Rattle.line.specs.Find.{fieldAnswer}
 use Rattle.line.specs.declared.read.LineAnswer.{LineAnswer}
 use Rattle.line.specs.declared.find.FieldAnswer.{FieldAnswer}
+use Rattle.file.specs.Lent.{Lent}
 use Rattle.file.specs.File.{Judges}
 use Rattle.writer.specs.Write.{Writes}
 use Rattle.writer.specs.declared.write.WriteAnswer.{WriteAnswer}
@@ -60,7 +61,7 @@ TestFieldUnique =
 
 abbrev pub JudgeUnique : Type 0
 JudgeUnique =
-    (file : List ℕ) (words : ℕ) (a b : FileAnswer) (x y : List ℕ) → Judges file words a x → Judges file words b y → (a ≡ b) × (x ≡ y)
+    (file : List ℕ) (lent : Lent) (a b : FileAnswer) (x y : List ℕ) → Judges file lent a x → Judges file lent b y → (a ≡ b) × (x ≡ y)
 
 -- a run placed in an output
 abbrev pub PlaceUnique : Type 0
@@ -85,14 +86,14 @@ WriteLineUnique =
 
 abbrev pub WritePurposeUnique : Type 0
 WritePurposeUnique =
-    (file : List ℕ) (n words : ℕ) (output : List ℕ) (a b : PurposeAnswer) (list list₂ x y : List ℕ) →
-    Purposes file n words output a list x → Purposes file n words output b list₂ y → (a ≡ b) × (list ≡ list₂) × (x ≡ y)
+    (file : List ℕ) (n : ℕ) (lent : Lent) (output : List ℕ) (a b : PurposeAnswer) (list list₂ x y : List ℕ) →
+    Purposes file n lent output a list x → Purposes file n lent output b list₂ y → (a ≡ b) × (list ≡ list₂) × (x ≡ y)
 
 -- The same calls for C and Rust (crate peliranopi): the number returned, each number behind a pointer, each lent buffer.
 abbrev pub JudgeCallUnique : Type 0
 JudgeCallUnique =
-    (file : List ℕ) (words n lines parcels cents place n₂ lines₂ parcels₂ cents₂ place₂ : ℕ) (list list₂ : List ℕ) →
-    JudgeTells file words n lines parcels cents place list → JudgeTells file words n₂ lines₂ parcels₂ cents₂ place₂ list₂ →
+    (file : List ℕ) (lent : Lent) (n lines parcels cents place n₂ lines₂ parcels₂ cents₂ place₂ : ℕ) (list list₂ : List ℕ) →
+    JudgeTells file lent n lines parcels cents place list → JudgeTells file lent n₂ lines₂ parcels₂ cents₂ place₂ list₂ →
     (n ≡ n₂) × (lines ≡ lines₂) × (parcels ≡ parcels₂) × (cents ≡ cents₂) × (place ≡ place₂) × (list ≡ list₂)
 
 abbrev pub ReadLineCallUnique : Type 0
@@ -115,8 +116,8 @@ WriteLineCallUnique =
 
 abbrev pub WritePurposeCallUnique : Type 0
 WritePurposeCallUnique =
-    (file : List ℕ) (line words : ℕ) (output : List ℕ) (n bytes place n₂ bytes₂ place₂ : ℕ) (list list₂ x y : List ℕ) →
-    PurposeTells file line words output n bytes place list x → PurposeTells file line words output n₂ bytes₂ place₂ list₂ y →
+    (file : List ℕ) (line : ℕ) (lent : Lent) (output : List ℕ) (n bytes place n₂ bytes₂ place₂ : ℕ) (list list₂ x y : List ℕ) →
+    PurposeTells file line lent output n bytes place list x → PurposeTells file line lent output n₂ bytes₂ place₂ list₂ y →
     (n ≡ n₂) × (bytes ≡ bytes₂) × (place ≡ place₂) × (list ≡ list₂) × (x ≡ y)
 
 abbrev pub CheckNumberCallUnique : Type 0

@@ -1,6 +1,7 @@
 -- Demand 2: "A file is accepted exactly when our profile of the pre-advice manual allows it. Line list, parcel count and cash total
 -- are those of the file's own lines. A written line reads back to its fields, and an accepted line written again gives its own bytes.
--- DPD numbers and IBANs pass exactly by ISO 7064."
+-- DPD numbers and IBANs pass exactly by ISO 7064." With the list of countries that is lent as part of the file's rules (document 02,
+-- request 1); what that list does stands in Countries.
 use Prim.Native.Nat.{ℕ, _+_, _-_, _≤_}
 use mathlib.Core.Path.{_≡_}
 use mathlib.Core.List.{List, _++_}
@@ -20,6 +21,7 @@ use Rattle.line.specs.declared.read.Line.{Line}
 use Rattle.line.specs.declared.read.LineAnswer.the-variants.{Accepted as AcceptedLine}
 use Rattle.line.specs.declared.find.FieldAnswer.the-variants.{Found}
 use Rattle.grammar.specs.Grammar.{Reads, FieldStands, StandsInLine}
+use Rattle.file.specs.Lent.{Lent}
 use Rattle.file.specs.File.{Judges}
 use Rattle.file.specs.declared.whole.Totals.{Totals}
 use Rattle.file.specs.declared.whole.FileAnswer.the-variants.{Accepted as AcceptedFile}
@@ -34,17 +36,17 @@ use Rattle.writer.specs.declared.write.WriteAnswer.the-variants.{Written}
 use Rattle.allowed.specs.Allowed.{FileLine, AllowedFile, Accepts}
 use Rattle.slips.specs.Exactly.{SoundNumber, SoundIban, bodyOf}
 
--- A file is accepted, with these totals and this list, exactly when it is allowed, the list has a word for each of its lines, the
+-- A file is accepted, with these totals and this list, exactly when it is allowed with the countries that were lent, the list has a word for each of its lines, the
 -- totals are those of its lines, and each word is where that line starts, every other 0. So a judge that refuses everything, one
 -- with a constant answer and invented counts are shut out.
 abbrev pub FileExactly : Type 0
 FileExactly =
-    (file : List ℕ) (words : ℕ) (totals : Totals) (list : List ℕ) → Judges file words (AcceptedFile totals) list ↔ Accepts file words totals list
+    (file : List ℕ) (lent : Lent) (totals : Totals) (list : List ℕ) → Judges file lent (AcceptedFile totals) list ↔ Accepts file lent totals list
 
--- No other division of the bytes into lines exists: the lines of an allowed file are its own.
+-- No other division of the bytes into lines exists: the lines of an allowed file are its own, with whichever countries it is allowed.
 abbrev pub OneDivisionIntoLines : Type 0
 OneDivisionIntoLines =
-    (file : List ℕ) (ls ks : List FileLine) → AllowedFile file ls → AllowedFile file ks → ls ≡ ks
+    (countries others file : List ℕ) (ls ks : List FileLine) → AllowedFile countries file ls → AllowedFile others file ks → ls ≡ ks
 
 -- A line alone is accepted exactly when the bytes from the offset on are the rendering of an allowed line; the answer names its
 -- record, its count and where the next line starts.

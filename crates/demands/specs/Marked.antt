@@ -5,12 +5,13 @@ use mathlib.Core.Path.{_≡_}
 use mathlib.Core.Bool.{Bool, true, false}
 use mathlib.Core.List.{List, [], _∷_, _++_}
 use Rattle.refusal.specs.Table.{because, Verdict}
-use Rattle.refusal.specs.declared.Reason.the-variants.{UnknownRecord, FieldCount, FileEnds}
+use Rattle.refusal.specs.declared.Reason.the-variants.{UnknownRecord, FieldCount, FileEnds, ContactMissing, CountriesOdd}
 use Rattle.text.specs.Quoted.{bytes}
 use Rattle.forms.specs.Amount.{amount}
 use Rattle.forms.specs.Date.{dateTime}
 use Rattle.check_characters.specs.Number.{checkVerdict, checkedNumber}
 use Rattle.check_characters.specs.Iban.{ibanVerdict, checkedIban}
+use Rattle.file.specs.Lent.{Lent}
 use Rattle.file.specs.File.{judged}
 use Rattle.file.specs.declared.whole.FileAnswer.{FileAnswer}
 use Rattle.file.specs.declared.whole.FileAnswer.the-variants.{Accepted, Refused}
@@ -22,25 +23,32 @@ abbrev pub lines : List String → List ℕ
 lines [] = []
 lines (text ∷ more) = bytes text ++ bytes "\r\n" ++ lines more
 
-abbrev pub example : List ℕ
-example =
+abbrev pub exampleOf : String → List ℕ
+exampleOf sender =
     lines
-    ("010;0012345678;Muster;2021-02-23T13:37:50;2021-02-24T14:20:55;1005;5;;;;" ∷ "020;A;;;;AT;1010;Wien;;Gasse;;1;1;a@b;;;" ∷
+    ("010;0012345678;Muster;2021-02-23T13:37:50;2021-02-24T14:20:55;1005;5;;;;" ∷ sender ∷
     "030;;;;;;;;;;;;;;;;B;;;;AT;1020;Wien;;Gasse;;2;;;;;;;;;;;;;;" ∷ "040;1000000000000000000001;;" ∷ "050;10" ∷
     "060;006;;12.50;EUR;Muster;AT611904300234573201;ABCDATWW;;;" ∷ [])
 
--- "lends 4,096 words"
-abbrev pub lent : ℕ
-lent = 4096
+abbrev pub example : List ℕ
+example = exampleOf "020;A;;;;AT;1010;Wien;;Gasse;;1;1;a@b;;;"
+
+-- the same without the sender's phone
+abbrev pub unreachable : List ℕ
+unreachable = exampleOf "020;A;;;;AT;1010;Wien;;Gasse;;1;;a@b;;;"
+
+-- "lends 4,096 words"; document 02, request 1: "an empty list, which the program lends"
+abbrev pub lentWith : String → Lent
+lentWith countries = record { countries = bytes countries; words = 4096 }
 
 -- what the paper says of an input: the verdict on a DPD number or an IBAN, whether an amount or a date-time holds; what judging a file
--- answers, and where its lines start; the purpose of the line with a number
+-- with these countries answers, and where its lines start; the purpose of the line with a number
 pub data Case : Type 0 where
   number : String → Verdict → Case
   iban : String → Verdict → Case
   money : String → Bool → Case
   date : String → Bool → Case
-  file : List ℕ → FileAnswer → List ℕ → Case
+  file : List ℕ → String → FileAnswer → List ℕ → Case
   purpose : List ℕ → ℕ → String → Case
 
 abbrev pub Holds : Case → Type 0
@@ -48,8 +56,8 @@ Holds (number text verdict) = checkVerdict (checkedNumber (bytes text)) ≡ verd
 Holds (iban text verdict) = ibanVerdict (checkedIban (bytes text)) ≡ verdict
 Holds (money text holds) = amount (bytes text) ≡ holds
 Holds (date text holds) = dateTime (bytes text) ≡ holds
-Holds (file input answer starts) = judged input lent ≡ record { answer = answer; starts = starts }
-Holds (purpose input n text) = purposeOf input n lent ≡ bytes text
+Holds (file input countries answer starts) = judged input (lentWith countries) ≡ record { answer = answer; starts = starts }
+Holds (purpose input n text) = purposeOf input n (lentWith "") ≡ bytes text
 
 abbrev pub AllHold : List Case → Type 0
 AllHold [] = Unit {0}
@@ -74,13 +82,20 @@ marked =
     ∷ Case.date "2024-02-29T00:00:00" true
     ∷ Case.date "2023-02-29T00:00:00" false
     -- "gives `ok 6 1 1250`"
-    ∷ Case.file example (Accepted (record { lines = 6; parcels = 1; cents = 1250 })) (0 ∷ 74 ∷ 116 ∷ 178 ∷ 208 ∷ 216 ∷ [])
+    ∷ Case.file example "" (Accepted (record { lines = 6; parcels = 1; cents = 1250 })) (0 ∷ 74 ∷ 116 ∷ 178 ∷ 208 ∷ 216 ∷ [])
     -- "Line 5, counted from 0, has the purpose `1000000000000000000001/B`."
     ∷ Case.purpose example 5 "1000000000000000000001/B"
     -- "Empty input gives `no 12 0`; CR LF alone `no 3 0`; `010;` with CR LF `no 5 0`."
-    ∷ Case.file [] (Refused (because FileEnds 0)) []
-    ∷ Case.file (lines ("" ∷ [])) (Refused (because UnknownRecord 0)) []
-    ∷ Case.file (lines ("010;" ∷ [])) (Refused (because FieldCount 0)) []
+    ∷ Case.file [] "" (Refused (because FileEnds 0)) []
+    ∷ Case.file (lines ("" ∷ [])) "" (Refused (because UnknownRecord 0)) []
+    ∷ Case.file (lines ("010;" ∷ [])) "" (Refused (because FieldCount 0)) []
+    -- document 02, request 1: "With an empty list, which the program lends, nobody needs them", and with a list of the consignee's country
+    -- somebody does; "the list's length is odd"
+    ∷ Case.file unreachable "" (Accepted (record { lines = 6; parcels = 1; cents = 1250 })) (0 ∷ 74 ∷ 115 ∷ 177 ∷ 207 ∷ 215 ∷ [])
+    ∷ Case.file unreachable "XATX" (Accepted (record { lines = 6; parcels = 1; cents = 1250 })) (0 ∷ 74 ∷ 115 ∷ 177 ∷ 207 ∷ 215 ∷ [])
+    ∷ Case.file unreachable "DEAT" (Refused (because ContactMissing 115)) []
+    ∷ Case.file example "DEAT" (Accepted (record { lines = 6; parcels = 1; cents = 1250 })) (0 ∷ 74 ∷ 116 ∷ 178 ∷ 208 ∷ 216 ∷ [])
+    ∷ Case.file unreachable "DEA" (Refused (because CountriesOdd 0)) []
     ∷ []
 
 abbrev pub MarkedHold : Type 0
@@ -88,4 +103,4 @@ MarkedHold = AllHold marked
 
 -- the example is an allowed file: the rules contradict nobody
 abbrev pub AFileIsAllowed : Type 0
-AFileIsAllowed = (ls : List FileLine) × AllowedFile example ls
+AFileIsAllowed = (ls : List FileLine) × AllowedFile [] example ls

@@ -22,6 +22,7 @@ use Rattle.line.specs.Find.{fieldAnswer}
 use Rattle.line.specs.declared.read.Line.{Line}
 use Rattle.line.specs.declared.read.LineAnswer.the-variants.{Refused as RefusedAsLine}
 use Rattle.line.specs.declared.find.FieldAnswer.the-variants.{Refused as NotFound}
+use Rattle.file.specs.Lent.{Lent}
 use Rattle.file.specs.File.{Judges}
 use Rattle.file.specs.declared.whole.FileAnswer.{FileAnswer}
 use Rattle.file.specs.declared.whole.FileAnswer.the-variants.{Refused as RefusedAsFile}
@@ -39,43 +40,44 @@ use Rattle.refused.specs.Write.{RefusedWrite}
 use Rattle.refused.specs.Purpose.{RefusedPurpose}
 use Rattle.refused.specs.Number.{RefusedNumber, RefusedIban, RefusedIssue}
 
--- A file is refused exactly when it is too long; or it begins with lines that are allowed, and the next one is refused by its own rule,
--- repeats an identcode, or finds no word in the list; or its lines are all fine and it ends where a record is due. "On a refusal all words
--- are 0."
+-- A file is refused exactly when it is too long; or the list of countries has an odd length; or it begins with lines that are allowed,
+-- and the next one is refused by its own rule, is a shipment into a listed country whose sender lacks a contact, repeats an identcode, or
+-- finds no word in the list; or its lines are all fine and it ends where a record is due. "On a refusal all words are 0."
 abbrev pub FileRefusedExactly : Type 0
 FileRefusedExactly =
-    (file : List ℕ) (words : ℕ) (refusal : Refusal) (list : List ℕ) →
-    Judges file words (RefusedAsFile refusal) list ↔ (RefusedFile file words refusal × (list ≡ replicate words 0))
+    (file : List ℕ) (lent : Lent) (refusal : Refusal) (list : List ℕ) →
+    Judges file lent (RefusedAsFile refusal) list ↔ (RefusedFile file lent refusal × (list ≡ replicate (lent .words) 0))
 
 -- Accepted or refused, the judge's answer and the list mean what the paper says of the file's own lines, and no other answer does.
 abbrev pub JudgeExactly : Type 0
 JudgeExactly =
-    (file : List ℕ) (words : ℕ) (answer : FileAnswer) (list : List ℕ) →
-    Judges file words answer list ↔ Means file words answer list
+    (file : List ℕ) (lent : Lent) (answer : FileAnswer) (list : List ℕ) →
+    Judges file lent answer list ↔ Means file lent answer list
 
 -- Every file is allowed, with a word for each line, or refused;
 abbrev pub AlwaysOne : Type 0
 AlwaysOne =
-    (file : List ℕ) (words : ℕ) →
-    ((ls : List FileLine) × AllowedFile file ls × (length ls ≤ words)) ⊎ ((refusal : Refusal) × RefusedFile file words refusal)
+    (file : List ℕ) (lent : Lent) →
+    ((ls : List FileLine) × AllowedFile (lent .countries) file ls × (length ls ≤ lent .words)) ⊎
+    ((refusal : Refusal) × RefusedFile file lent refusal)
 
 -- never both;
 abbrev pub NeverBoth : Type 0
 NeverBoth =
-    (file : List ℕ) (words : ℕ) (ls : List FileLine) (refusal : Refusal) →
-    AllowedFile file ls → length ls ≤ words → RefusedFile file words refusal → ⊥
+    (file : List ℕ) (lent : Lent) (ls : List FileLine) (refusal : Refusal) →
+    AllowedFile (lent .countries) file ls → length ls ≤ lent .words → RefusedFile file lent refusal → ⊥
 
 -- and by one number at one place.
 abbrev pub OneRefusal : Type 0
 OneRefusal =
-    (file : List ℕ) (words : ℕ) (refusal other : Refusal) →
-    RefusedFile file words refusal → RefusedFile file words other → refusal ≡ other
+    (file : List ℕ) (lent : Lent) (refusal other : Refusal) →
+    RefusedFile file lent refusal → RefusedFile file lent other → refusal ≡ other
 
 -- The lines with which a refused file begins are those of an allowed one: they only lack the end.
 abbrev pub AllowedBegins : Type 0
 AllowedBegins =
-    (file : List ℕ) (ls : List FileLine) →
-    AllowedFile file ls ↔ (Begins file ls [] × (mayEnd (dueBehind First ls) ≡ true))
+    (countries file : List ℕ) (ls : List FileLine) →
+    AllowedFile countries file ls ↔ (Begins countries file ls [] × (mayEnd (dueBehind First ls) ≡ true))
 
 -- One line at an offset: "1, 2, 3, 5 to 9"; 4 is the file's, where a record is due.
 abbrev pub LineRefusedExactly : Type 0
@@ -99,9 +101,9 @@ WriteRefusedExactly =
 -- The payment purpose; "The output's other bytes stay, and all of them on a refusal; the list's words are all 0 after 15 or 13 too."
 abbrev pub PurposeRefusedExactly : Type 0
 PurposeRefusedExactly =
-    (file : List ℕ) (n words : ℕ) (output : List ℕ) (refusal : Refusal) (list after : List ℕ) →
-    Purposes file n words output (NoPurpose refusal) list after ↔
-    (RefusedPurpose file n words (length output) refusal × (list ≡ replicate words 0) × (after ≡ output))
+    (file : List ℕ) (n : ℕ) (lent : Lent) (output : List ℕ) (refusal : Refusal) (list after : List ℕ) →
+    Purposes file n lent output (NoPurpose refusal) list after ↔
+    (RefusedPurpose file n lent (length output) refusal × (list ≡ replicate (lent .words) 0) × (after ≡ output))
 
 -- A tracking number or label code, an IBAN, and the body of a number to be issued: "a refusal writes nothing".
 abbrev pub NumberRefusedExactly : Type 0

@@ -71,6 +71,7 @@ profile Header =
     fields 8 to 9 wide 40 ∷
     field 10 wide 64 ∷ []
 -- 020: "40, 40, 40, 40, 2, 10, 40, 40, 40, 40, 10, 40, 64, 64, 64, 64. R: 1, 5, 6, 7, 9, 11, 12, 13."
+-- Document 02, request 1, on 12 and 13: "A line read or written alone no longer asks for the two." A file does (crate file).
 profile Sender =
     field 1 R 40 ∷
     fields 2 to 4 wide 40 ∷
@@ -81,8 +82,8 @@ profile Sender =
     field 9 R 40 ∷
     field 10 wide 40 ∷
     field 11 R 10 ∷
-    field 12 R 40 ∷
-    field 13 R 64 ∷
+    field 12 wide 40 ∷
+    field 13 wide 64 ∷
     fields 14 to 16 wide 64 ∷ []
 -- 030: "1: 40; 2: 10; 3 to 6: 40; 7: 2; 8: 10; 9 to 12: 40; 13: 10; 14: 40; 15: 64; 16 to 19: 40; 20: 2; 21: 10; 22 to 25: 40;
 -- 26: 10; 27: 15; 28: 40; 29 to 33: 64; 34 to 36: 40; 37: 100; 38: 19; 39: 20; 40: 20. R: 16, 20, 21, 22, 24, 26."

@@ -107,8 +107,6 @@ fn is_sender_duty(number: usize) -> bool
         7 => true,
         9 => true,
         11 => true,
-        12 => true,
-        13 => true,
         _ => false,
     }
 }

@@ -6,9 +6,10 @@ use mathlib.Core.List.{List, [], _∷_, _++_}
 use native.Mathlib.Omega.{arith}
 use lib.ListN.{length, drop, set, replicate, length-set}
 use borrow.Author.Tests.{lt-ltb, le-ltb, not-true, not-false}
-use Rattle.refusal.specs.declared.Reason.the-variants.{FileTooLong, FileEnds}
+use Rattle.refusal.specs.declared.Reason.the-variants.{FileTooLong, FileEnds, CountriesOdd}
 use Rattle.refusal.specs.Table.{because}
 use Rattle.refusal.specs.declared.Refusal.{Refusal}
+use Rattle.countries.specs.List.{isPaired}
 use Rattle.fields.specs.Record.{mayEnd}
 use Rattle.fields.specs.declared.record.Record.{Record}
 use Rattle.fields.specs.declared.record.Record.the-variants.{Header, Sender, Shipment, Parcel, Product, Feature}
@@ -16,6 +17,7 @@ use Rattle.line.specs.Line.{lineAnswer, textAt, fileLimit}
 use Rattle.line.specs.Parts.{split}
 use Rattle.line.proofs.Accepting.{next-after}
 use Rattle.fields.proofs.Rules.{sound}
+use Rattle.file.specs.Lent.{Lent}
 use Rattle.file.specs.Step.{toldBy, parcelsIn, behind, listedSoFar, stepAnswer}
 use Rattle.file.specs.File.{Judged, begin, passed, ended, onStep, fileFrom, judged, listOf, Judges}
 use Rattle.file.specs.declared.step.State.{State}
@@ -30,24 +32,24 @@ use Rattle.file.proofs.Sowing.{sown-none}
 use Rattle.file.proofs.Stepping.{Went, went}
 use Rattle.file.proofs.Lists.{word-left, listed-none, listed-more, unlisted-more, list-whole}
 
-pub record Going (s : List ℕ) (m : ℕ) (words codes : List ℕ) (state : State) : Type 0 where
+pub record Going (s : List ℕ) (lent : Lent) (words codes : List ℕ) (state : State) : Type 0 where
   pub in-limit : length s ≤ fileLimit
-  pub long : length words ≡ m
+  pub long : length words ≡ lent .words
   pub lines : state .lines ≤ state .at
-  pub room : state .lines ≤ m
+  pub room : state .lines ≤ lent .words
   pub parcels : state .parcels ≤ state .lines
   pub cents : state .cents ≤ 99999999 * state .lines
-  pub cleared : drop (state .lines) words ≡ replicate (m - state .lines) 0
+  pub cleared : drop (state .lines) words ≡ replicate (lent .words - state .lines) 0
   -- each parcel took at least 28 bytes
   pub far : 28 * state .parcels ≤ state .at
   -- the tree has the identcodes of the lines so far
   pub sown : Sown s (listedSoFar (state .lines) words) (state .parcels) codes
-  pub going : fileFrom (length s + 1 - state .lines) s m (listedSoFar (state .lines) words) state ≡ judged s m
+  pub going : fileFrom (length s + 1 - state .lines) s lent (listedSoFar (state .lines) words) state ≡ judged s lent
 
-pub going-none : (s words codes : List ℕ) → length s ≤ fileLimit → words ≡ replicate (length words) 0 →
-    Going s (length words) words codes begin
+pub going-none : (s countries words codes : List ℕ) → length s ≤ fileLimit → isPaired countries ≡ true → words ≡ replicate (length words) 0 →
+    Going s (record { countries = countries; words = length words }) words codes begin
 unfolding judged
-going-none s words codes h e =
+going-none s countries words codes h paired e =
     record {
       in-limit = h;
       long = refl;
@@ -58,10 +60,13 @@ going-none s words codes h e =
       cleared = e ∙ ap (λ (k : ℕ). replicate k 0) less;
       far = omega arith;
       sown = rw (listed-none words) (sown-none s codes);
-      going = ap (λ (l : List ℕ). fileFrom (length s + 1 - 0) s (length words) l begin) (listed-none words)
-          ∙ ap (λ (n : ℕ). fileFrom n s (length words) [] begin) whole ∙ sym (rw (le-ltb fileLimit (length s) h));
+      going = ap (λ (l : List ℕ). fileFrom (length s + 1 - 0) s lent l begin) (listed-none words)
+          ∙ ap (λ (n : ℕ). fileFrom n s lent [] begin) whole ∙ sym (rw (le-ltb fileLimit (length s) h, paired));
     }
   where
+    lent : Lent
+    lent = record { countries = countries; words = length words }
+
     less : length words ≡ length words - 0
     less = omega arith
 
@@ -77,38 +82,47 @@ parcels-le Product = omega arith
 parcels-le Feature = omega arith
 
 -- a file of which this is said lists no line: all words are 0
-all-clear : (s : List ℕ) (m : ℕ) (a : FileAnswer) → judged s m ≡ record { answer = a; starts = [] } → (words list : List ℕ) →
-    length words ≡ m → list ≡ replicate (length words) 0 → Judges s m a list
-all-clear s m a e words list long el =
-    let k : length words ≡ m - 0 = omega arith in (
+all-clear : (s : List ℕ) (lent : Lent) (a : FileAnswer) → judged s lent ≡ record { answer = a; starts = [] } → (words list : List ℕ) →
+    length words ≡ lent .words → list ≡ replicate (length words) 0 → Judges s lent a list
+all-clear s lent a e words list long el =
+    let k : length words ≡ lent .words - 0 = omega arith in (
       sym (ap (λ (j : Judged). j .answer) e),
-      el ∙ ap (λ (n : ℕ). replicate n 0) k ∙ sym (ap (λ (j : Judged). listOf m (j .starts)) e),
+      el ∙ ap (λ (n : ℕ). replicate n 0) k ∙ sym (ap (λ (j : Judged). listOf (lent .words) (j .starts)) e),
     )
 
-pub long-judged : (s : List ℕ) (m : ℕ) → fileLimit < length s → (words list : List ℕ) → length words ≡ m → list ≡ replicate (length words) 0 →
-    Judges s m (Refused (because FileTooLong fileLimit)) list
+pub long-judged : (s : List ℕ) (lent : Lent) → fileLimit < length s → (words list : List ℕ) → length words ≡ lent .words →
+    list ≡ replicate (length words) 0 → Judges s lent (Refused (because FileTooLong fileLimit)) list
 unfolding judged
-long-judged s m h = all-clear s m (Refused (because FileTooLong fileLimit)) (rw (lt-ltb fileLimit (length s) h))
+long-judged s lent h = all-clear s lent (Refused (because FileTooLong fileLimit)) (rw (lt-ltb fileLimit (length s) h))
 
-module _ (s : List ℕ) (m : ℕ) (words codes : List ℕ) (state : State) (g : Going s m words codes state) where
+pub odd-judged : (s : List ℕ) (lent : Lent) → length s ≤ fileLimit → (t : Bool) → t ≡ isPaired (lent .countries) → not t ≡ true →
+    (words list : List ℕ) → length words ≡ lent .words → list ≡ replicate (length words) 0 → Judges s lent (Refused (because CountriesOdd 0)) list
+unfolding judged
+odd-judged s lent h t et e = all-clear s lent (Refused (because CountriesOdd 0)) (rw (le-ltb fileLimit (length s) h, ← et, not-true t e))
+
+pub even-told : (countries : List ℕ) (t : Bool) → t ≡ isPaired countries → not t ≡ false → isPaired countries ≡ true
+even-told countries t et e = sym et ∙ not-false t e
+
+module _ (s : List ℕ) (lent : Lent) (words codes : List ℕ) (state : State) (g : Going s lent words codes state) where
   -- so few parcels have room in a file
   pub few-parcels : state .at < length s → state .parcels ≤ parcelsMost
   few-parcels h = omega (arith, g .in-limit, g .far)
 
   -- the turn that is due
-  turn : state .at < length s → onStep (stepAnswer s m (listedSoFar (state .lines) words) state)
-      (λ next. fileFrom (length s - state .lines) s m (listedSoFar (state .lines) words ++ (state .at ∷ [])) next) ≡ judged s m
+  turn : state .at < length s → onStep (stepAnswer s lent (listedSoFar (state .lines) words) state)
+      (λ next. fileFrom (length s - state .lines) s lent (listedSoFar (state .lines) words ++ (state .at ∷ [])) next) ≡ judged s lent
   turn h =
       let k : length s + 1 - state .lines ≡ suc (length s - state .lines) = omega (arith, g .lines) in
-      sym (ap (λ (n : ℕ). fileFrom n s m (listedSoFar (state .lines) words) state) k ∙ rw (lt-ltb (state .at) (length s) h)) ∙ g .going
+      sym (ap (λ (n : ℕ). fileFrom n s lent (listedSoFar (state .lines) words) state) k ∙ rw (lt-ltb (state .at) (length s) h)) ∙ g .going
 
-  module _ (step : Step) (h : state .at < length s) (el : step ≡ stepAnswer s (length words) (listedSoFar (state .lines) words) state) where
-    es : step ≡ stepAnswer s m (listedSoFar (state .lines) words) state
-    es = el ∙ ap (λ (n : ℕ). stepAnswer s n (listedSoFar (state .lines) words) state) (g .long)
+  module _ (step : Step) (h : state .at < length s)
+      (el : step ≡ stepAnswer s (record { countries = lent .countries; words = length words }) (listedSoFar (state .lines) words) state) where
+    es : step ≡ stepAnswer s lent (listedSoFar (state .lines) words) state
+    es = el ∙ ap (λ (n : ℕ). stepAnswer s (record { countries = lent .countries; words = n }) (listedSoFar (state .lines) words) state) (g .long)
 
     -- a step that goes on has a word for its line, and comes nearer to the end
-    over : (next : State) → step ≡ Next next → Went s m (listedSoFar (state .lines) words) state next
-    over next e = went s m (listedSoFar (state .lines) words) state next (sym es ∙ e)
+    over : (next : State) → step ≡ Next next → Went s lent (listedSoFar (state .lines) words) state next
+    over next e = went s lent (listedSoFar (state .lines) words) state next (sym es ∙ e)
 
     pub less-left : (next : State) → step ≡ Next next → length s - next .at < length s - state .at
     less-left next e =
@@ -118,7 +132,7 @@ module _ (s : List ℕ) (m : ℕ) (words codes : List ℕ) (state : State) (g : 
 
     pub going-more : (next : State) → step ≡ Next next → (list after : List ℕ) →
         ((n : State) → step ≡ Next n → Sown s (listedSoFar (state .lines) words ++ (state .at ∷ [])) (n .parcels) after) →
-        ((n : State) → step ≡ Next n → list ≡ set words (state .lines) (state .at)) → Going s m list after next
+        ((n : State) → step ≡ Next n → list ≡ set words (state .lines) (state .at)) → Going s lent list after next
     going-more next e list after sown listed =
         let w = over next e in
         let line = w .line in
@@ -126,22 +140,22 @@ module _ (s : List ℕ) (m : ℕ) (words codes : List ℕ) (state : State) (g : 
         let behind-it = next-after (toldBy state) s (state .at) (lineAnswer (toldBy state) s (state .at)) refl line (w .accepted) in
         let far = accepted-far (toldBy state) s (state .at) (lineAnswer (toldBy state) s (state .at)) refl line (w .accepted) sound in
         let fewer : length s + 1 - (state .lines + 1) ≡ length s - state .lines = omega arith in
-        let on : fileFrom (length s - state .lines) s m (listedSoFar (state .lines) words ++ (state .at ∷ [])) now ≡ judged s m =
+        let on : fileFrom (length s - state .lines) s lent (listedSoFar (state .lines) words ++ (state .at ∷ [])) now ≡ judged s lent =
         rw (sym es ∙ e, ← w .there) at (turn h) in
-        let more-listed = listed-more words (state .lines) m (state .at) (g .long) (w .room) (g .cleared) in
-        let more : Going s m (set words (state .lines) (state .at)) after now =
+        let more-listed = listed-more words (state .lines) (lent .words) (state .at) (g .long) (w .room) (g .cleared) in
+        let more : Going s lent (set words (state .lines) (state .at)) after now =
         record {
           in-limit = g .in-limit;
           long = length-set words (state .lines) (state .at) ∙ g .long;
           lines = omega (arith, g .lines, behind-it);
-          room = omega (arith, word-left m (state .lines) (w .room));
+          room = omega (arith, word-left (lent .words) (state .lines) (w .room));
           parcels = omega (arith, g .parcels, parcels-le (line .kind));
           cents = omega (arith, g .cents, cash-below (line .kind) (split (textAt s (state .at))));
-          cleared = unlisted-more words (state .lines) m (state .at) (g .long) (w .room) (g .cleared);
+          cleared = unlisted-more words (state .lines) (lent .words) (state .at) (g .long) (w .room) (g .cleared);
           far = omega (arith, g .far, far);
           sown = rw more-listed (sown now (e ∙ ap Next (sym (w .there))));
-          going = ap (λ (n : ℕ). fileFrom n s m (listedSoFar (state .lines + 1) (set words (state .lines) (state .at))) now) fewer
-              ∙ ap (λ (l : List ℕ). fileFrom (length s - state .lines) s m l now)
+          going = ap (λ (n : ℕ). fileFrom n s lent (listedSoFar (state .lines + 1) (set words (state .lines) (state .at))) now) fewer
+              ∙ ap (λ (l : List ℕ). fileFrom (length s - state .lines) s lent l now)
               more-listed
               ∙ on;
         } in
@@ -149,33 +163,34 @@ module _ (s : List ℕ) (m : ℕ) (words codes : List ℕ) (state : State) (g : 
 
     -- what the code answers and leaves where a line stops it
     pub stop-judged : (refusal : Refusal) → step ≡ Stopped refusal → (left list : List ℕ) → length left ≡ length words →
-        list ≡ replicate (length left) 0 → Judges s m (Refused refusal) list
-    stop-judged refusal e left list kept el = all-clear s m (Refused refusal) (sym (rw (sym es ∙ e) at (turn h))) left list (kept ∙ g .long) el
+        list ≡ replicate (length left) 0 → Judges s lent (Refused refusal) list
+    stop-judged refusal e left list kept el = all-clear s lent (Refused refusal) (sym (rw (sym es ∙ e) at (turn h))) left list (kept ∙ g .long) el
 
   module _ (h : length s ≤ state .at) where
-    file-ends : (turns : ℕ) → fileFrom turns s m (listedSoFar (state .lines) words) state ≡ ended s (listedSoFar (state .lines) words) state
+    file-ends : (turns : ℕ) → fileFrom turns s lent (listedSoFar (state .lines) words) state ≡ ended s (listedSoFar (state .lines) words) state
     file-ends zero = refl
     file-ends (suc turns) = rw (le-ltb (state .at) (length s) h)
 
-    at-end : judged s m ≡ ended s (listedSoFar (state .lines) words) state
+    at-end : judged s lent ≡ ended s (listedSoFar (state .lines) words) state
     at-end = sym (g .going) ∙ file-ends (length s + 1 - state .lines)
 
     module _ (t : Bool) (et : t ≡ mayEnd (state .due)) where
-      pub due-judged : not t ≡ true → (list : List ℕ) → list ≡ replicate (length words) 0 → Judges s m (Refused (because FileEnds (length s))) list
-      due-judged e list el = all-clear s m (Refused (because FileEnds (length s))) (at-end ∙ rw (← et, not-true t e)) words list (g .long) el
+      pub due-judged : not t ≡ true → (list : List ℕ) → list ≡ replicate (length words) 0 → Judges s lent (Refused (because FileEnds (length s))) list
+      due-judged e list el = all-clear s lent (Refused (because FileEnds (length s))) (at-end ∙ rw (← et, not-true t e)) words list (g .long) el
 
       pub end-judged : not t ≡ false →
-          Judges s m (Accepted (record { lines = state .lines; parcels = state .parcels; cents = state .cents })) words
+          Judges s lent (Accepted (record { lines = state .lines; parcels = state .parcels; cents = state .cents })) words
       end-judged e =
-          let all-read : judged s m ≡ passed (listedSoFar (state .lines) words) state = at-end ∙ rw (← et, not-false t e) in (
+          let all-read : judged s lent ≡ passed (listedSoFar (state .lines) words) state = at-end ∙ rw (← et, not-false t e) in (
             sym (ap (λ (j : Judged). j .answer) all-read),
-            list-whole words (state .lines) m (g .long) (g .room) (g .cleared)
-                ∙ sym (ap (λ (j : Judged). listOf m (j .starts)) all-read),
+            list-whole words (state .lines) (lent .words) (g .long) (g .room) (g .cleared)
+                ∙ sym (ap (λ (j : Judged). listOf (lent .words) (j .starts)) all-read),
           )
 
 -- the list's length is what it was
-pub same-judged : (s : List ℕ) (m n : ℕ) → m ≡ n → (r : FileAnswer) (list : List ℕ) → Judges s m r list → Judges s n r list
-same-judged s m n e r list j = rw e at j
+pub same-judged : (s countries : List ℕ) (m n : ℕ) → m ≡ n → (r : FileAnswer) (list : List ℕ) →
+    Judges s (record { countries = countries; words = m }) r list → Judges s (record { countries = countries; words = n }) r list
+same-judged s countries m n e r list j = rw e at j
 
 pub clear-now : (words words₀ : List ℕ) → length words ≡ length words₀ → words ≡ replicate (length words₀) 0 →
     words ≡ replicate (length words) 0

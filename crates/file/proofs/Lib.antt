@@ -3,6 +3,7 @@ pub mod Codes
 pub mod Sowing
 pub mod Finding
 pub mod Cashing
+pub mod Contacts
 pub mod Stepping
 pub mod Going
 pub mod Listing

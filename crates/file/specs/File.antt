@@ -1,15 +1,18 @@
 -- Document 01, 'Whole file': the lines of a file, one after the other, and what the list then holds.
 use Prim.Native.Nat.{ℕ, zero, suc, _+_, _-_}
 use mathlib.Core.Path.{_≡_}
+use mathlib.Core.Bool.{true, not}
 use mathlib.Core.List.{List, [], _∷_, _++_}
 use lib.Dec.{ltb}
 use lib.ListN.{length, replicate}
 use Rattle.text.specs.Choice.{if_then_else_}
 use Rattle.refusal.specs.Table.{because, verdictOf, Verdict}
-use Rattle.refusal.specs.declared.Reason.the-variants.{FileTooLong, FileEnds}
+use Rattle.refusal.specs.declared.Reason.the-variants.{FileTooLong, FileEnds, CountriesOdd}
+use Rattle.countries.specs.List.{isPaired}
 use Rattle.fields.specs.Record.{mayEnd}
 use Rattle.fields.specs.declared.record.Due.the-variants.{First}
 use Rattle.line.specs.Line.{fileLimit}
+use Rattle.file.specs.Lent.{Lent}
 use Rattle.file.specs.Step.{stepAnswer}
 use Rattle.file.specs.declared.step.State.{State}
 use Rattle.file.specs.declared.step.Step.{Step}
@@ -22,8 +25,9 @@ pub record Judged : Type 0 where
   pub answer : FileAnswer
   pub starts : List ℕ
 
+-- before the first sender no contact is missing
 abbrev pub begin : State
-begin = record { at = 0; lines = 0; parcels = 0; cents = 0; due = First }
+begin = record { at = 0; lines = 0; parcels = 0; cents = 0; due = First; contacts = true }
 
 -- "Accepted: number of lines, number of 040 lines, and the cash total in cents"
 abbrev pub passed : List ℕ → State → Judged
@@ -41,28 +45,29 @@ abbrev pub onStep : Step → (State → Judged) → Judged
 onStep (Next state) more = more state
 onStep (Stopped refusal) more = record { answer = Refused refusal; starts = [] }
 
--- the file from a state on, with a list of so many words, behind the lines that start at these places. A file has fewer lines
+-- the file from a state on, with what is lent, behind the lines that start at these places. A file has fewer lines
 -- than bytes, so that as many turns as bytes, and one for the end, are enough.
-abbrev pub fileFrom : ℕ → List ℕ → ℕ → List ℕ → State → Judged
-fileFrom zero file words starts state = ended file starts state
-fileFrom (suc turns) file words starts state =
+abbrev pub fileFrom : ℕ → List ℕ → Lent → List ℕ → State → Judged
+fileFrom zero file lent starts state = ended file starts state
+fileFrom (suc turns) file lent starts state =
     if ltb (state .at) (length file) then
-    onStep (stepAnswer file words starts state) (λ next. fileFrom turns file words (starts ++ (state .at ∷ [])) next)
+    onStep (stepAnswer file lent starts state) (λ next. fileFrom turns file lent (starts ++ (state .at ∷ [])) next)
     else ended file starts state
 
--- "1 comes first of all."
-unfoldable pub judged : List ℕ → ℕ → Judged
-judged file words =
+-- "1 comes first of all.", and "the list's length is odd, place 0, after 1"
+unfoldable pub judged : List ℕ → Lent → Judged
+judged file lent =
     if ltb fileLimit (length file) then record { answer = Refused (because FileTooLong fileLimit); starts = [] }
-    else fileFrom (length file + 1) file words [] begin
+    else if not (isPaired (lent .countries)) then record { answer = Refused (because CountriesOdd 0); starts = [] }
+    else fileFrom (length file + 1) file lent [] begin
 
 -- "every word below the line count holds that line's first offset, and every other word is 0. On a refusal all words are 0."
 abbrev pub listOf : ℕ → List ℕ → List ℕ
 listOf words starts = starts ++ replicate (words - length starts) 0
 
 -- the answer and the list that judging allows
-abbrev pub Judges : List ℕ → ℕ → FileAnswer → List ℕ → Type 0
-Judges file words answer list = (answer ≡ judged file words .answer) × (list ≡ listOf words (judged file words .starts))
+abbrev pub Judges : List ℕ → Lent → FileAnswer → List ℕ → Type 0
+Judges file lent answer list = (answer ≡ judged file lent .answer) × (list ≡ listOf (lent .words) (judged file lent .starts))
 
 -- the paper's number and place for each answer
 abbrev pub fileVerdict : FileAnswer → Verdict

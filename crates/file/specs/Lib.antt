@@ -1,3 +1,5 @@
+pub mod Lent
+pub mod Contact
 pub mod Identcode
 pub mod Cash
 pub mod Step

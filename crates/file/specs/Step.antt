@@ -1,11 +1,12 @@
 -- Document 01, 'Refusal numbers': "Lines go in file order", and on each line 10 and 11 after the line's own refusals.
+-- Document 02, request 1, puts 19 in front of the two: "after 9 on that line".
 use Prim.Native.Nat.{ℕ, _+_}
 use mathlib.Core.Bool.{Bool, not}
 use mathlib.Core.List.{List}
 use lib.Dec.{ltb}
 use lib.ListN.{take}
 use Rattle.text.specs.Choice.{if_then_else_}
-use Rattle.refusal.specs.declared.Reason.the-variants.{IdentcodeRepeated, ListFull}
+use Rattle.refusal.specs.declared.Reason.the-variants.{ContactMissing, IdentcodeRepeated, ListFull}
 use Rattle.refusal.specs.Table.{because}
 use Rattle.fields.specs.Record.{_isA_}
 use Rattle.fields.specs.declared.record.Record.{Record}
@@ -18,6 +19,8 @@ use Rattle.line.specs.Line.{textAt, lineAnswer}
 use Rattle.line.specs.declared.read.Line.{Line}
 use Rattle.line.specs.declared.read.LineAnswer.{LineAnswer}
 use Rattle.line.specs.declared.read.LineAnswer.the-variants.{Accepted, Refused}
+use Rattle.file.specs.Lent.{Lent}
+use Rattle.file.specs.Contact.{contactsBehind, lacksContact}
 use Rattle.file.specs.Identcode.{repeats}
 use Rattle.file.specs.Cash.{cashOf}
 use Rattle.file.specs.declared.step.State.{State}
@@ -37,6 +40,7 @@ behind file state line =
       parcels = state .parcels + parcelsIn (line .kind);
       cents = state .cents + cashOf (line .kind) (split (textAt file (state .at)));
       due = After (line .kind);
+      contacts = contactsBehind (line .kind) (split (textAt file (state .at))) (state .contacts);
     }
 
 -- what the list holds behind so many lines: where each of them starts
@@ -47,17 +51,23 @@ listedSoFar lines list = take lines list
 unfoldable pub hasWord : ℕ → ℕ → Bool
 hasWord words lines = ltb lines words
 
--- the line's answer, with a list of so many words, behind the lines that start at these places
-unfoldable pub onLine : LineAnswer → List ℕ → ℕ → List ℕ → State → Step
-onLine (Refused refusal) file words starts state = Stopped refusal
-onLine (Accepted line) file words starts state =
+-- 10, then 11: an accepted line comes into a list of so many words, behind the lines that start at these places
+unfoldable pub listing : List ℕ → ℕ → List ℕ → State → Line → Step
+listing file words starts state line =
     if repeats (line .kind) file starts (state .at) then Stopped (because IdentcodeRepeated (state .at + 4))
     else if not (hasWord words (state .lines)) then Stopped (because ListFull (state .at))
     else Next (behind file state line)
+
+-- the line's answer, with what is lent, behind the lines that start at these places
+unfoldable pub onLine : LineAnswer → List ℕ → Lent → List ℕ → State → Step
+onLine (Refused refusal) file lent starts state = Stopped refusal
+onLine (Accepted line) file lent starts state =
+    if lacksContact (line .kind) (split (textAt file (state .at))) (lent .countries) (state .contacts) then Stopped (because ContactMissing (state .at))
+    else listing file (lent .words) starts state line
 
 -- what the judge of the next line is told
 abbrev pub toldBy : State → Told
 toldBy state = record { rules = profile; due = state .due }
 
-unfoldable pub stepAnswer : List ℕ → ℕ → List ℕ → State → Step
-stepAnswer file words starts state = onLine (lineAnswer (toldBy state) file (state .at)) file words starts state
+unfoldable pub stepAnswer : List ℕ → Lent → List ℕ → State → Step
+stepAnswer file lent starts state = onLine (lineAnswer (toldBy state) file (state .at)) file lent starts state

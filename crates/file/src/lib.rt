@@ -1,5 +1,6 @@
 // A whole file: its lines in order, no identcode twice, the list of its lines, its parcels and its cash.
 mod cash;
+mod contact;
 mod identcode;
 mod list;
 mod step;

@@ -2,6 +2,8 @@
 ghost use mathlib.Core.Path.{_≡_};
 ghost use Prim.Native.Nat.{_≤_};
 ghost use lib.ListN.{length, replicate};
+ghost use mathlib.Core.Bool.{true};
+ghost use Rattle.countries.specs.List.{isPaired};
 ghost use Rattle.line.specs.Line.{fileLimit};
 ghost use Rattle.file.specs.File.{Judges};
 ghost use Rattle.file.specs.Identcode.{treeWords};
@@ -26,10 +28,10 @@ pub enum FileAnswer {
     Refused(Refusal),
 }
 
-// Judges a file. Accepted, each word of the list below the number of lines is that line's offset and every other word is 0;
+// Judges a file, with a list of countries into which no sender ships without both contacts. Accepted, each word of the list below the number of lines is that line's offset and every other word is 0;
 // refused, all words are 0.
-pub fn judge(file: &[u8], list: &mut [u32]) -> FileAnswer
-    ensures { λ r. ⌜ Judges (now (file .entry)) (length (now (list .entry))) r (now (list .exit)) ⌝ }
+pub fn judge(file: &[u8], countries: &[u8], list: &mut [u32]) -> FileAnswer
+    ensures { λ r. ⌜ Judges (now (file .entry)) (record { countries = now (countries .entry); words = length (now (list .entry)) }) r (now (list .exit)) ⌝ }
 {
     list::clear(list);
     if FILE_LIMIT < file.len() {
@@ -38,14 +40,20 @@ pub fn judge(file: &[u8], list: &mut [u32]) -> FileAnswer
             place: FILE_LIMIT,
         });
     }
+    if !countries::is_paired(countries) {
+        return FileAnswer::Refused(Refusal {
+            why: Reason::CountriesOdd,
+            place: 0,
+        });
+    }
     let mut codes = [0u32; TREE_WORDS];
-    run(file, list, &mut codes)
+    run(file, countries, list, &mut codes)
 }
 
 // The lines of a file that is not too long, with a list that is clear, and room for a tree of their identcodes.
-fn run(file: &[u8], list: &mut [u32], codes: &mut [u32]) -> FileAnswer
-    requires { ⌜ (length (now file) ≤ fileLimit) × (now list ≡ replicate (length (now list)) 0) × (treeWords ≤ length (now codes)) ⌝ }
-    ensures { λ r. ⌜ Judges (now (file .entry)) (length (now (list .entry))) r (now (list .exit)) ⌝ }
+fn run(file: &[u8], countries: &[u8], list: &mut [u32], codes: &mut [u32]) -> FileAnswer
+    requires { ⌜ (length (now file) ≤ fileLimit) × (isPaired (now countries) ≡ true) × (now list ≡ replicate (length (now list)) 0) × (treeWords ≤ length (now codes)) ⌝ }
+    ensures { λ r. ⌜ Judges (now (file .entry)) (record { countries = now (countries .entry); words = length (now (list .entry)) }) r (now (list .exit)) ⌝ }
 {
     let mut state = State {
         at: 0,
@@ -53,9 +61,10 @@ fn run(file: &[u8], list: &mut [u32], codes: &mut [u32]) -> FileAnswer
         parcels: 0,
         cents: 0,
         due: Due::First,
+        contacts: true,
     };
     while state.at < file.len() {
-        let step = step::one_line(file, list, codes, state);
+        let step = step::one_line(file, countries, list, codes, state);
         match step {
             Step::Next(next) => {
                 state = next;

@@ -1,7 +1,7 @@
 -- What a feature needs, by the tests of the code and by the line's own fields: one is the other.
 use Prim.Native.Nat.{ℕ, zero, suc, _-_, _≤_, _<_}
 use mathlib.Core.Path.{_≡_, refl, sym, ap, _∙_}
-use mathlib.Core.Bool.{Bool, true, false, not, _&&_, _||_}
+use mathlib.Core.Bool.{Bool, true, false, not, _&&_, _||_, or-true}
 use mathlib.Core.List.{List, [], _∷_}
 use mathlib.Core.Logic.{_⊎_, inl, inr, _↔_, ⊎-elim}
 use native.Mathlib.Omega.{arith}
@@ -70,12 +70,12 @@ coded f x y z n d en e =
     let a = came-then (isFeature f) (number f) 0 (suc n) (λ w. omega arith) e in
     same-three f x y z (and-left (digits 3 f) (among (number f) featureCodes) (a .0)) d (a .1 ∙ sym en)
 
-module _ (fs : List (List ℕ)) where
+module _ (name : List ℕ) (fs : List (List ℕ)) where
   abbrev code : List ℕ
   code = fieldNo fs 1
 
   abbrev parts : List (List ℕ)
-  parts = typeOf Feature ∷ fs
+  parts = name ∷ fs
 
   -- the part with a field's number is that field
   part-field : (n : ℕ) → 1 ≤ n → getD parts n [] ≡ fieldNo fs n
@@ -94,14 +94,14 @@ module _ (fs : List (List ℕ)) where
       let long = length (getD parts n []) in
       ap not (ne-eqb long 0 (λ z. e (sym (ap length (part-field n (leb-true 1 n h))) ∙ z)))
 
-  all-filled : (ns : List ℕ) → all (leb 1) ns ≡ true → all (isFilled parts) ns ≡ true → AllFilled fs ns
+  pub all-filled : (ns : List ℕ) → all (leb 1) ns ≡ true → all (isFilled parts) ns ≡ true → AllFilled fs ns
   all-filled [] h e = tt
   all-filled (n ∷ ns) h e = (
     part-filled n (and-left (leb 1 n) (all (leb 1) ns) h) (and-left (isFilled parts n) (all (isFilled parts) ns) e),
     all-filled ns (and-right (leb 1 n) (all (leb 1) ns) h) (and-right (isFilled parts n) (all (isFilled parts) ns) e),
   )
 
-  filled-all : (ns : List ℕ) → all (leb 1) ns ≡ true → AllFilled fs ns → all (isFilled parts) ns ≡ true
+  pub filled-all : (ns : List ℕ) → all (leb 1) ns ≡ true → AllFilled fs ns → all (isFilled parts) ns ≡ true
   filled-all [] h g = refl
   filled-all (n ∷ ns) h g =
       and-both (isFilled parts n) (all (isFilled parts) ns) (filled-part n (and-left (leb 1 n) (all (leb 1) ns) h) (g .0))
@@ -110,10 +110,6 @@ module _ (fs : List (List ℕ)) where
   filled-either : Filled (fieldNo fs 9) ⊎ Filled (fieldNo fs 10) → (isFilled parts 9 || isFilled parts 10) ≡ true
   filled-either (inl p) = rw (filled-part 9 refl p)
   filled-either (inr p) = rw (filled-part 10 refl p) (or-true (isFilled parts 9))
-    where
-      or-true : (t : Bool) → (t || true) ≡ true
-      or-true true = refl
-      or-true false = refl
 
   -- a line with this code has what the code asks for
   by-code : isServed parts ≡ true → (c : List ℕ) → code ≡ c → serves (codeOf c) parts ≡ true
@@ -175,7 +171,7 @@ lacks-not Sender fs = (λ e. other Sender (omega arith), λ g. refl)
 lacks-not Shipment fs = (λ e. other Shipment (omega arith), λ g. refl)
 lacks-not Parcel fs = (λ e. other Parcel (omega arith), λ g. refl)
 lacks-not Product fs = (λ e. other Product (omega arith), λ g. refl)
-lacks-not Feature fs = (λ e k. served-fields fs (not-false (isServed (typeOf Feature ∷ fs)) e), λ g. ap not (fields-served fs (g refl)))
+lacks-not Feature fs = (λ e k. served-fields (typeOf Feature) fs (not-false (isServed (typeOf Feature ∷ fs)) e), λ g. ap not (fields-served (typeOf Feature) fs (g refl)))
 
 -- a feature lacks something exactly when it has not what it needs
 pub lacks-some : (fs : List (List ℕ)) → (lacks Feature (typeOf Feature ∷ fs) ≡ true) ↔ (Served fs → ⊥)

@@ -9,6 +9,7 @@ use Rattle.check_characters.specs.Iban.{ibanVerdict, checkedIban}
 use Rattle.fields.specs.Profile.{profile}
 use Rattle.line.specs.Line.{lineAnswer, lineVerdict, alone}
 use Rattle.line.specs.Find.{fieldAnswer, fieldVerdict}
+use Rattle.file.specs.Lent.{Lent}
 use Rattle.file.specs.File.{judged, listOf, fileVerdict}
 use Rattle.writer.specs.Write.{recordNumbered, between, writeAnswer, writtenTo, writeVerdict}
 use Rattle.purpose.specs.Purpose.{purposeAnswer, purposeOf, listAfter, outputAfter, purposeVerdict}
@@ -19,13 +20,13 @@ use Rattle.peliranopi.specs.Told.{lengthTold, writtenTold, purposeTold, 
 abbrev pub Tells : Verdict → ℕ → ℕ → Type 0
 Tells verdict number place = (number ≡ numberTold verdict) × (place ≡ placeTold verdict)
 
--- judging a file with a list of so many words
-abbrev pub JudgeTells : List ℕ → ℕ → ℕ → ℕ → ℕ → ℕ → ℕ → List ℕ → Type 0
-JudgeTells file words number lines parcels cents place list =
-    let said = judged file words in
+-- judging a file with what is lent
+abbrev pub JudgeTells : List ℕ → Lent → ℕ → ℕ → ℕ → ℕ → ℕ → List ℕ → Type 0
+JudgeTells file lent number lines parcels cents place list =
+    let said = judged file lent in
     Tells (fileVerdict (said .answer)) number place
     × (lines ≡ linesTold (said .answer)) × (parcels ≡ parcelsTold (said .answer)) × (cents ≡ centsTold (said .answer))
-    × (list ≡ listOf words (said .starts))
+    × (list ≡ listOf (lent .words) (said .starts))
 
 -- reading the line at an offset
 abbrev pub LineTells : List ℕ → ℕ → ℕ → ℕ → ℕ → ℕ → ℕ → Type 0
@@ -48,14 +49,14 @@ WriteTells kind text ends output fill number bytes place after =
     × (bytes ≡ writtenTold answer)
     × (after ≡ writtenTo answer (recordNumbered kind) (between text ends) output fill)
 
--- writing the purpose of the line with a number, with a list of so many words
-abbrev pub PurposeTells : List ℕ → ℕ → ℕ → List ℕ → ℕ → ℕ → ℕ → List ℕ → List ℕ → Type 0
-PurposeTells file line words output number bytes place list after =
-    let answer = purposeAnswer file line words (length output) in
+-- writing the purpose of the line with a number, with what is lent
+abbrev pub PurposeTells : List ℕ → ℕ → Lent → List ℕ → ℕ → ℕ → ℕ → List ℕ → List ℕ → Type 0
+PurposeTells file line lent output number bytes place list after =
+    let answer = purposeAnswer file line lent (length output) in
     Tells (purposeVerdict answer) number place
     × (bytes ≡ purposeTold answer)
-    × (list ≡ listAfter answer words (judged file words .starts))
-    × (after ≡ outputAfter answer (purposeOf file line words) output)
+    × (list ≡ listAfter answer (lent .words) (judged file lent .starts))
+    × (after ≡ outputAfter answer (purposeOf file line lent) output)
 
 -- checking a number
 abbrev pub NumberTells : List ℕ → ℕ → ℕ → ℕ → Type 0

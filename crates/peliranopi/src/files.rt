@@ -8,16 +8,17 @@ use purpose::PurposeAnswer;
 #[no_mangle]
 pub extern "C" fn peliranopi_judge(
     file: &[u8],
+    countries: &[u8],
     list: &mut [u32],
     lines: &mut usize,
     parcels: &mut usize,
     cents: &mut u64,
     place: &mut usize,
 ) -> u32
-    ensures { λ r. ⌜ JudgeTells (now (file .entry)) (length (now (list .entry))) r (now (lines .exit))
-        (now (parcels .exit)) (now (cents .exit)) (now (place .exit)) (now (list .exit)) ⌝ }
+    ensures { λ r. ⌜ JudgeTells (now (file .entry)) (record { countries = now (countries .entry); words = length (now (list .entry)) }) r
+        (now (lines .exit)) (now (parcels .exit)) (now (cents .exit)) (now (place .exit)) (now (list .exit)) ⌝ }
 {
-    let answer = file::judge(file, list);
+    let answer = file::judge(file, countries, list);
     match answer {
         FileAnswer::Accepted(totals) => {
             *lines = totals.lines;
@@ -37,16 +38,17 @@ pub extern "C" fn peliranopi_judge(
 #[no_mangle]
 pub extern "C" fn peliranopi_write_purpose(
     file: &[u8],
+    countries: &[u8],
     line: usize,
     list: &mut [u32],
     output: &mut [u8],
     written: &mut usize,
     place: &mut usize,
 ) -> u32
-    ensures { λ r. ⌜ PurposeTells (now (file .entry)) line (length (now (list .entry))) (now (output .entry)) r
-        (now (written .exit)) (now (place .exit)) (now (list .exit)) (now (output .exit)) ⌝ }
+    ensures { λ r. ⌜ PurposeTells (now (file .entry)) line (record { countries = now (countries .entry); words = length (now (list .entry)) })
+        (now (output .entry)) r (now (written .exit)) (now (place .exit)) (now (list .exit)) (now (output .exit)) ⌝ }
 {
-    let answer = purpose::write_purpose(file, line, list, output);
+    let answer = purpose::write_purpose(file, countries, line, list, output);
     match answer {
         PurposeAnswer::Written(bytes) => {
             *written = bytes;

@@ -9,6 +9,7 @@ use Rattle.text.specs.Placed.{written}
 use Rattle.text.specs.Quoted.{bytes}
 use Rattle.refusal.specs.Table.{because, verdictOf, Verdict}
 use Rattle.refusal.specs.declared.Reason.the-variants.{OutputTooShort, NotThere}
+use Rattle.file.specs.Lent.{Lent}
 use Rattle.file.specs.File.{judged, listOf}
 use Rattle.file.specs.declared.whole.FileAnswer.{FileAnswer}
 use Rattle.file.specs.declared.whole.FileAnswer.the-variants.{Accepted, Refused}
@@ -47,15 +48,15 @@ unfoldable pub onFile : FileAnswer → Sourced → List ℕ → ℕ → PurposeA
 onFile (Refused refusal) sourced file room = Refused refusal
 onFile (Accepted totals) sourced file room = onSource sourced file room
 
--- the source for the line with this number, where the list has so many words
-abbrev pub purposeSource : List ℕ → ℕ → ℕ → Sourced
-purposeSource file n words = sourceOf file (judged file words .starts) n
+-- the source for the line with this number, with what is lent
+abbrev pub purposeSource : List ℕ → ℕ → Lent → Sourced
+purposeSource file n lent = sourceOf file (judged file lent .starts) n
 
-abbrev pub purposeAnswer : List ℕ → ℕ → ℕ → ℕ → PurposeAnswer
-purposeAnswer file n words room = onFile (judged file words .answer) (purposeSource file n words) file room
+abbrev pub purposeAnswer : List ℕ → ℕ → Lent → ℕ → PurposeAnswer
+purposeAnswer file n lent room = onFile (judged file lent .answer) (purposeSource file n lent) file room
 
-abbrev pub purposeOf : List ℕ → ℕ → ℕ → List ℕ
-purposeOf file n words = textFrom file (purposeSource file n words)
+abbrev pub purposeOf : List ℕ → ℕ → Lent → List ℕ
+purposeOf file n lent = textFrom file (purposeSource file n lent)
 
 -- "list lent as for the whole file", and "the list's words are all 0 after 15 or 13 too"
 abbrev pub listAfter : PurposeAnswer → ℕ → List ℕ → List ℕ
@@ -68,11 +69,11 @@ outputAfter (Written n) text output = written output 0 text
 outputAfter (Refused refusal) text output = output
 
 -- the answer, the list and the output that the call allows
-abbrev pub Purposes : List ℕ → ℕ → ℕ → List ℕ → PurposeAnswer → List ℕ → List ℕ → Type 0
-Purposes file n words output answer list after =
-    (answer ≡ purposeAnswer file n words (length output))
-    × (list ≡ listAfter answer words (judged file words .starts))
-    × (after ≡ outputAfter answer (purposeOf file n words) output)
+abbrev pub Purposes : List ℕ → ℕ → Lent → List ℕ → PurposeAnswer → List ℕ → List ℕ → Type 0
+Purposes file n lent output answer list after =
+    (answer ≡ purposeAnswer file n lent (length output))
+    × (list ≡ listAfter answer (lent .words) (judged file lent .starts))
+    × (after ≡ outputAfter answer (purposeOf file n lent) output)
 
 -- the paper's number and place for each answer
 abbrev pub purposeVerdict : PurposeAnswer → Verdict

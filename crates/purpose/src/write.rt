@@ -17,10 +17,17 @@ pub enum PurposeAnswer {
 
 // Writes the purpose of the line with this number at the output's start. Written, the list is as for the whole file; otherwise all
 // its words are 0 and the output is as it was.
-pub fn write_purpose(file: &[u8], line: usize, list: &mut [u32], output: &mut [u8]) -> PurposeAnswer
-    ensures { λ r. ⌜ Purposes (now (file .entry)) line (length (now (list .entry))) (now (output .entry)) r (now (list .exit)) (now (output .exit)) ⌝ }
+pub fn write_purpose(
+    file: &[u8],
+    countries: &[u8],
+    line: usize,
+    list: &mut [u32],
+    output: &mut [u8],
+) -> PurposeAnswer
+    ensures { λ r. ⌜ Purposes (now (file .entry)) line (record { countries = now (countries .entry); words = length (now (list .entry)) })
+        (now (output .entry)) r (now (list .exit)) (now (output .exit)) ⌝ }
 {
-    let answer = file::judge(file, list);
+    let answer = file::judge(file, countries, list);
     match answer {
         FileAnswer::Accepted(totals) => {
             let sourced = source::find_source(file, list, totals.lines, line);

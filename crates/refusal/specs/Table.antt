@@ -1,4 +1,4 @@
--- Document 01, 'Refusal numbers': the number of each refusal, and when it is given.
+-- Document 01, 'Refusal numbers', and those that document 02 adds: the number of each refusal, and when it is given.
 use Prim.Native.Nat.{ℕ}
 use Rattle.refusal.specs.declared.Reason.{Reason}
 use Rattle.refusal.specs.declared.Refusal.{Refusal}
@@ -21,6 +21,8 @@ use Rattle.refusal.specs.declared.Reason.the-variants.{
   WrongLength,
   WrongSymbol,
   WrongCheck,
+  ContactMissing,
+  CountriesOdd,
 }
 
 abbrev pub numberOf : Reason → ℕ
@@ -60,6 +62,10 @@ numberOf WrongLength = 16
 numberOf WrongSymbol = 17
 -- "check wrong"
 numberOf WrongCheck = 18
+-- document 02, request 1: "either contact field is empty under a sender who needs both"
+numberOf ContactMissing = 19
+-- "the list's length is odd"
+numberOf CountriesOdd = 20
 
 -- "Given when", and "Place": why, and where
 abbrev pub because : Reason → ℕ → Refusal

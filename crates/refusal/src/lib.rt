@@ -21,6 +21,8 @@ pub enum Reason {
     WrongLength,
     WrongSymbol,
     WrongCheck,
+    ContactMissing,
+    CountriesOdd,
 }
 
 pub struct Refusal {
@@ -51,5 +53,7 @@ pub fn number(why: Reason) -> u32
         Reason::WrongLength => 16,
         Reason::WrongSymbol => 17,
         Reason::WrongCheck => 18,
+        Reason::ContactMissing => 19,
+        Reason::CountriesOdd => 20,
     }
 }

@@ -1,7 +1,7 @@
 -- The lines with which a file begins: one of them between those in front and those behind, and one line more.
 use Prim.Native.Nat.{ℕ, _+_}
 use mathlib.Core.Path.{_≡_, refl, sym, ap, subst, _∙_}
-use mathlib.Core.Bool.{true}
+use mathlib.Core.Bool.{true, false}
 use mathlib.Core.List.{List, [], _∷_, _++_, append-assoc, append-nil}
 use lib.ListN.{length, drop, length-append}
 use lib.Seq.{drop-append-seam}
@@ -13,6 +13,8 @@ use Rattle.fields.specs.declared.record.Due.the-variants.{First, After}
 use Rattle.grammar.specs.Grammar.{LineOk}
 use Rattle.allowed.specs.Allowed.{FileLine, lineBytes, fileBytes, LinesOk, codesOn, identcodes, oneOfCodes, NoneTwice}
 use Rattle.allowed.proofs.Codes.{Fresh, codes-append}
+use Rattle.file.specs.Contact.{lacksContact}
+use Rattle.allowed.proofs.Contacts.{partsOf, contactsAfter, asked-all, all-asked, asked-front, asked-at, asked-more}
 use Rattle.allowed.proofs.Twice.{none-more, fresh-before}
 use Rattle.refused.specs.File.{Come, dueBehind, Begins, NextLine}
 
@@ -49,20 +51,26 @@ come-more : (due : Due) (ls : List FileLine) (l : FileLine) → Come due ls → 
 come-more due [] l a g = (g, tt)
 come-more due (k ∷ ls) l a g = (a .0, come-more (After (k .kind)) ls l (a .1) g)
 
--- an allowed line behind the lines with which a file begins, none of whose codes it repeats
-pub record Next (s : List ℕ) (ls : List FileLine) (l : FileLine) (left : List ℕ) : Type 0 where
-  pub follows : NextLine s ls l left
+-- an allowed line behind the lines with which a file begins, which lacks no contact and repeats none of their codes
+pub record Next (countries s : List ℕ) (ls : List FileLine) (l : FileLine) (left : List ℕ) : Type 0 where
+  pub follows : NextLine countries s ls l left
+  pub reached : lacksContact (l .kind) (partsOf l) countries (contactsAfter true ls) ≡ false
   pub fresh : Fresh (identcodes ls) (codesOn (l .kind) (l .fields))
 
-pub begins-more : (s : List ℕ) (ls : List FileLine) (l : FileLine) (left : List ℕ) → Next s ls l left → Begins s (ls ++ (l ∷ [])) left
-begins-more s ls l left n =
+pub begins-more : (countries s : List ℕ) (ls : List FileLine) (l : FileLine) (left : List ℕ) → Next countries s ls l left →
+    Begins countries s (ls ++ (l ∷ [])) left
+begins-more countries s ls l left n =
     let b = n .follows .begins in
     record {
       in-limit = b .in-limit;
+      paired = b .paired;
       there = b .there ∙ sym (bytes-more ls l left);
       lines = lines-more ls l (b .lines) (n .follows .ok);
       order = come-more First ls l (b .order) (n .follows .comes);
       codes = subst NoneTwice (sym (codes-more ls l)) (none-more (l .kind) (l .fields) (identcodes ls) (b .codes) (n .fresh));
+      contacts =
+          asked-all countries (ls ++ (l ∷ []))
+          (asked-more countries ls l true (all-asked countries ls (b .contacts)) (n .reached));
     }
 
 -- a line in the middle
@@ -88,14 +96,16 @@ none-front [] ys n = tt
 none-front (x ∷ xs) ys n =
     (or-neither (oneOfCodes x xs) (oneOfCodes x ys) (sym (codes-append x xs ys) ∙ n .0) .0, none-front xs ys (n .1))
 
-pub next-at : (s : List ℕ) (ls : List FileLine) (l : FileLine) (ks : List FileLine) (left : List ℕ) → Begins s (ls ++ l ∷ ks) left →
-    Next s ls l (fileBytes ks ++ left)
-next-at s ls l ks left b =
+pub next-at : (countries s : List ℕ) (ls : List FileLine) (l : FileLine) (ks : List FileLine) (left : List ℕ) →
+    Begins countries s (ls ++ l ∷ ks) left → Next countries s ls l (fileBytes ks ++ left)
+next-at countries s ls l ks left b =
+    let asked = all-asked countries (ls ++ l ∷ ks) (b .contacts) in
     let none = subst NoneTwice (identcodes-append ls (l ∷ ks)) (b .codes) in
     record {
       follows = record {
         begins = record {
           in-limit = b .in-limit;
+          paired = b .paired;
           there =
               b .there ∙ ap (λ (r : List ℕ). r ++ left) (bytes-append ls (l ∷ ks))
               ∙ append-assoc (fileBytes ls) (lineBytes l ++ fileBytes ks) left
@@ -103,15 +113,17 @@ next-at s ls l ks left b =
           lines = lines-front ls (l ∷ ks) (b .lines);
           order = come-front First ls (l ∷ ks) (b .order);
           codes = none-front (identcodes ls) (identcodes (l ∷ ks)) none;
+          contacts = asked-all countries ls (asked-front countries ls (l ∷ ks) true asked);
         };
         ok = lines-at ls l ks (b .lines);
         comes = come-at First ls l ks (b .order);
       };
+      reached = asked-at countries ls l ks true asked;
       fresh = fresh-before (l .kind) (l .fields) (identcodes ls) (identcodes ks) none;
     }
 
 -- where the bytes that are left stand
-module _ (s : List ℕ) (ls : List FileLine) (left : List ℕ) (b : Begins s ls left) where
+module _ {countries : List ℕ} (s : List ℕ) (ls : List FileLine) (left : List ℕ) (b : Begins countries s ls left) where
   pub left-there : drop (length (fileBytes ls)) s ≡ left
   left-there = ap (drop (length (fileBytes ls))) (b .there) ∙ drop-append-seam (fileBytes ls) left
 

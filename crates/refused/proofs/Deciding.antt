@@ -10,6 +10,7 @@ use Rattle.refusal.proofs.Verdicts.{no-pass}
 use Rattle.fields.specs.Record.{mayEnd}
 use Rattle.fields.specs.declared.record.Due.{Due}
 use Rattle.fields.specs.declared.record.Due.the-variants.{First, After}
+use Rattle.file.specs.Lent.{Lent}
 use Rattle.file.specs.File.{Judged, judged, listOf, Judges, fileVerdict}
 use Rattle.file.specs.declared.whole.FileAnswer.{FileAnswer}
 use Rattle.file.specs.declared.whole.FileAnswer.the-variants.{Accepted, Refused}
@@ -23,42 +24,42 @@ use Rattle.refused.proofs.Files.{refused-exactly}
 said : FileAnswer → List ℕ → Judged
 said answer starts = record { answer = answer; starts = starts }
 
-module _ (s : List ℕ) (words : ℕ) where
-  pub judge-exactly : (answer : FileAnswer) (list : List ℕ) → Judges s words answer list ↔ Means s words answer list
+module _ (s : List ℕ) (lent : Lent) where
+  pub judge-exactly : (answer : FileAnswer) (list : List ℕ) → Judges s lent answer list ↔ Means s lent answer list
   unfolding said
-  judge-exactly (Refused refusal) list = refused-exactly s words refusal list
+  judge-exactly (Refused refusal) list = refused-exactly s lent refusal list
   judge-exactly (Accepted totals) list = (forth, back)
     where
-      forth : Judges s words (Accepted totals) list → Means s words (Accepted totals) list
+      forth : Judges s lent (Accepted totals) list → Means s lent (Accepted totals) list
       forth j =
-          let g = accepted-allowed s words totals (judged s words .starts) (ap (λ (a : FileAnswer). said a (judged s words .starts)) (sym (j .0))) in
-          record { lines = g .lines; allowed = g .allowed; room = g .room; counts = g .counts; starts = j .1 ∙ ap (listOf words) (g .list) }
+          let g = accepted-allowed s lent totals (judged s lent .starts) (ap (λ (a : FileAnswer). said a (judged s lent .starts)) (sym (j .0))) in
+          record { lines = g .lines; allowed = g .allowed; room = g .room; counts = g .counts; starts = j .1 ∙ ap (listOf (lent .words)) (g .list) }
 
-      back : Means s words (Accepted totals) list → Judges s words (Accepted totals) list
+      back : Means s lent (Accepted totals) list → Judges s lent (Accepted totals) list
       back g =
-          let e = allowed-accepted s words totals (lineStarts 0 (g .lines))
+          let e = allowed-accepted s lent totals (lineStarts 0 (g .lines))
           (record { lines = g .lines; allowed = g .allowed; room = g .room; counts = g .counts; list = refl }) in
-          (sym (ap (λ (j : Judged). j .answer) e), g .starts ∙ sym (ap (λ (j : Judged). listOf words (j .starts)) e))
+          (sym (ap (λ (j : Judged). j .answer) e), g .starts ∙ sym (ap (λ (j : Judged). listOf (lent .words) (j .starts)) e))
 
-  pub always-one : ((ls : List FileLine) × AllowedFile s ls × (length ls ≤ words)) ⊎ ((refusal : Refusal) × RefusedFile s words refusal)
-  always-one = go (judged s words .answer) refl
+  pub always-one : ((ls : List FileLine) × AllowedFile (lent .countries) s ls × (length ls ≤ lent .words)) ⊎ ((refusal : Refusal) × RefusedFile s lent refusal)
+  always-one = go (judged s lent .answer) refl
     where
-      go : (a : FileAnswer) → judged s words .answer ≡ a →
-          ((ls : List FileLine) × AllowedFile s ls × (length ls ≤ words)) ⊎ ((refusal : Refusal) × RefusedFile s words refusal)
+      go : (a : FileAnswer) → judged s lent .answer ≡ a →
+          ((ls : List FileLine) × AllowedFile (lent .countries) s ls × (length ls ≤ lent .words)) ⊎ ((refusal : Refusal) × RefusedFile s lent refusal)
       go (Accepted totals) e =
-          let g = judge-exactly (Accepted totals) (listOf words (judged s words .starts)) .0 (sym e, refl) in
+          let g = judge-exactly (Accepted totals) (listOf (lent .words) (judged s lent .starts)) .0 (sym e, refl) in
           inl (g .lines, g .allowed, g .room)
-      go (Refused refusal) e = inr (refusal, judged-refused s words refusal e)
+      go (Refused refusal) e = inr (refusal, judged-refused s lent refusal e)
 
-  pub never-both : (ls : List FileLine) (refusal : Refusal) → AllowedFile s ls → length ls ≤ words → RefusedFile s words refusal → ⊥
+  pub never-both : (ls : List FileLine) (refusal : Refusal) → AllowedFile (lent .countries) s ls → length ls ≤ lent .words → RefusedFile s lent refusal → ⊥
   never-both ls refusal a room r =
-      let g = judge-exactly (Accepted (totalsOf ls)) (listOf words (lineStarts 0 ls)) .1
+      let g = judge-exactly (Accepted (totalsOf ls)) (listOf (lent .words) (lineStarts 0 ls)) .1
       (record { lines = ls; allowed = a; room = room; counts = refl; starts = refl }) in
-      no-pass fileVerdict refl refl (sym (refused-judged s words refusal r) ∙ sym (g .0))
+      no-pass fileVerdict refl refl (sym (refused-judged s lent refusal r) ∙ sym (g .0))
 
-  pub one-refusal : (refusal other : Refusal) → RefusedFile s words refusal → RefusedFile s words other → refusal ≡ other
+  pub one-refusal : (refusal other : Refusal) → RefusedFile s lent refusal → RefusedFile s lent other → refusal ≡ other
   one-refusal refusal other r q =
-      let e : Refused refusal ≡ Refused other = sym (refused-judged s words refusal r) ∙ refused-judged s words other q in
+      let e : Refused refusal ≡ Refused other = sym (refused-judged s lent refusal r) ∙ refused-judged s lent other q in
       cc
 
 -- an allowed file is one that begins with its lines, has nothing left behind them, and may end there
@@ -69,23 +70,28 @@ order-is due (l ∷ ls) = (
   λ g. (g .0 .0, order-is (After (l .kind)) ls .1 (g .0 .1, g .1)),
 )
 
-pub allowed-begins : (s : List ℕ) (ls : List FileLine) → AllowedFile s ls ↔ (Begins s ls [] × (mayEnd (dueBehind First ls) ≡ true))
-allowed-begins s ls = (
+pub allowed-begins : (countries s : List ℕ) (ls : List FileLine) →
+    AllowedFile countries s ls ↔ (Begins countries s ls [] × (mayEnd (dueBehind First ls) ≡ true))
+allowed-begins countries s ls = (
   λ a. (
     record {
       in-limit = a .in-limit;
+      paired = a .paired;
       there = a .bytes ∙ sym (append-nil (fileBytes ls));
       lines = a .lines;
       order = order-is First ls .0 (a .order) .0;
       codes = a .codes;
+      contacts = a .contacts;
     },
     order-is First ls .0 (a .order) .1,
   ),
   λ g. record {
+    paired = g .0 .paired;
     bytes = g .0 .there ∙ append-nil (fileBytes ls);
     in-limit = g .0 .in-limit;
     lines = g .0 .lines;
     order = order-is First ls .1 (g .0 .order, g .1);
     codes = g .0 .codes;
+    contacts = g .0 .contacts;
   },
 )

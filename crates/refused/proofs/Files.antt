@@ -6,6 +6,7 @@ use mathlib.Core.Logic.{_↔_}
 use native.Mathlib.Omega.{arith}
 use lib.ListN.{replicate}
 use Rattle.refusal.specs.declared.Refusal.{Refusal}
+use Rattle.file.specs.Lent.{Lent}
 use Rattle.file.specs.File.{listOf, Judges}
 use Rattle.file.specs.declared.whole.FileAnswer.the-variants.{Refused}
 use Rattle.file.proofs.Listing.{none-listed}
@@ -14,17 +15,17 @@ use Rattle.refused.proofs.Refusing.{judged-refused}
 use Rattle.refused.proofs.Reaching.{refused-judged}
 
 -- a file is refused, by this number and at this place, exactly when its own lines say so; the list then holds only zeros
-pub refused-exactly : (s : List ℕ) (words : ℕ) (refusal : Refusal) (list : List ℕ) →
-    Judges s words (Refused refusal) list ↔ (RefusedFile s words refusal × (list ≡ replicate words 0))
-refused-exactly s words refusal list = (forth, back)
+pub refused-exactly : (s : List ℕ) (lent : Lent) (refusal : Refusal) (list : List ℕ) →
+    Judges s lent (Refused refusal) list ↔ (RefusedFile s lent refusal × (list ≡ replicate (lent .words) 0))
+refused-exactly s lent refusal list = (forth, back)
   where
-    zeros : listOf words [] ≡ replicate words 0
-    zeros = let n : words - 0 ≡ words = omega arith in ap (λ (k : ℕ). replicate k 0) n
+    zeros : listOf (lent .words) [] ≡ replicate (lent .words) 0
+    zeros = let n : lent .words - 0 ≡ lent .words = omega arith in ap (λ (k : ℕ). replicate k 0) n
 
-    forth : Judges s words (Refused refusal) list → RefusedFile s words refusal × (list ≡ replicate words 0)
-    forth j = (judged-refused s words refusal (sym (j .0)), j .1 ∙ ap (listOf words) (none-listed s words (sym (j .0))) ∙ zeros)
+    forth : Judges s lent (Refused refusal) list → RefusedFile s lent refusal × (list ≡ replicate (lent .words) 0)
+    forth j = (judged-refused s lent refusal (sym (j .0)), j .1 ∙ ap (listOf (lent .words)) (none-listed s lent (sym (j .0))) ∙ zeros)
 
-    back : RefusedFile s words refusal × (list ≡ replicate words 0) → Judges s words (Refused refusal) list
+    back : RefusedFile s lent refusal × (list ≡ replicate (lent .words) 0) → Judges s lent (Refused refusal) list
     back g =
-        let e = refused-judged s words refusal (g .0) in
-        (sym e, g .1 ∙ sym zeros ∙ ap (listOf words) (sym (none-listed s words e)))
+        let e = refused-judged s lent refusal (g .0) in
+        (sym e, g .1 ∙ sym zeros ∙ ap (listOf (lent .words)) (sym (none-listed s lent e)))

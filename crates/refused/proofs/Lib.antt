@@ -3,11 +3,13 @@ pub mod Texts
 pub mod Lines
 pub mod Seeking
 pub mod Beginning
+pub mod Missing
 pub mod Standing
 pub mod Refusing
 pub mod Reaching
 pub mod Files
 pub mod Deciding
+pub mod Lists
 pub mod Writing
 pub mod Purposes
 pub mod Wrong

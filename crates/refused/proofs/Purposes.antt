@@ -12,6 +12,7 @@ use Rattle.refusal.specs.Table.{because}
 use Rattle.refusal.specs.declared.Refusal.{Refusal}
 use Rattle.refusal.specs.declared.Reason.the-variants.{NotThere, OutputTooShort}
 use Rattle.refusal.proofs.Verdicts.{no-pass}
+use Rattle.file.specs.Lent.{Lent}
 use Rattle.file.specs.File.{Judged, judged}
 use Rattle.file.specs.declared.whole.FileAnswer.{FileAnswer}
 use Rattle.file.specs.declared.whole.FileAnswer.the-variants.{Accepted, Refused as RefusedAnswer}
@@ -32,7 +33,7 @@ use Rattle.refused.proofs.Refusing.{judged-refused}
 use Rattle.refused.proofs.Reaching.{refused-judged}
 
 -- the line with a number is a 006 line, or there is no source
-source-cash : (s : List ℕ) (ls : List FileLine) (g : AllowedFile s ls) (n : ℕ) (x : Sourced) → sourceOf s (lineStarts 0 ls) n ≡ x →
+source-cash : {countries : List ℕ} (s : List ℕ) (ls : List FileLine) (g : AllowedFile countries s ls) (n : ℕ) (x : Sourced) → sourceOf s (lineStarts 0 ls) n ≡ x →
     (x ≡ Nowhere) ⊎ ((l : FileLine) × LineNo ls n l × CashLine l)
 unfolding sourceOf
 source-cash s ls g n x e =
@@ -47,15 +48,15 @@ apart e = let z : _≡_ {A = ℕ} 0 1 = cc in absurd (omega arith)
 said : FileAnswer → List ℕ → Judged
 said answer starts = record { answer = answer; starts = starts }
 
-module _ (s : List ℕ) (n words room : ℕ) where
-  answer-of : (ls : List FileLine) → AllowedFile s ls → length ls ≤ words →
-      purposeAnswer s n words room ≡ onSource (sourceOf s (lineStarts 0 ls) n) s room
+module _ (s : List ℕ) (n : ℕ) (lent : Lent) (room : ℕ) where
+  answer-of : (ls : List FileLine) → AllowedFile (lent .countries) s ls → length ls ≤ lent .words →
+      purposeAnswer s n lent room ≡ onSource (sourceOf s (lineStarts 0 ls) n) s room
   unfolding onFile
-  answer-of ls g few = ap (λ (j : Judged). onFile (j .answer) (sourceOf s (j .starts) n) s room) (whole s ls g words few)
+  answer-of ls g few = ap (λ (j : Judged). onFile (j .answer) (sourceOf s (j .starts) n) s room) (whole s lent ls g few)
 
-  purpose-answer : (refusal : Refusal) → RefusedPurpose s n words room refusal → purposeAnswer s n words room ≡ Refused refusal
+  purpose-answer : (refusal : Refusal) → RefusedPurpose s n lent room refusal → purposeAnswer s n lent room ≡ Refused refusal
   unfolding onFile onSource
-  purpose-answer refusal (RefusedPurpose.file-refused other g) = rw (refused-judged s words other g)
+  purpose-answer refusal (RefusedPurpose.file-refused other g) = rw (refused-judged s lent other g)
   purpose-answer refusal (RefusedPurpose.not-there ls g few none) =
       answer-of ls g few
       ∙ ⊎-elim (λ e. ap (λ (x : Sourced). onSource x s room) e) (λ k. absurd (none (k .0) (k .1) (k .2)))
@@ -64,15 +65,15 @@ module _ (s : List ℕ) (n words room : ℕ) where
       answer-of ls g few ∙ ap (λ (x : Sourced). onSource x s room) (cash-source s ls g n l h c) ∙ rw (lt-ltb room purposeLong short)
 
   module _ (refusal : Refusal) where
-    is : (other : Refusal) → RefusedPurpose s n words room other → Refused other ≡ Refused refusal → RefusedPurpose s n words room refusal
-    is other g e = let same : other ≡ refusal = cc in subst (RefusedPurpose s n words room) same g
+    is : (other : Refusal) → RefusedPurpose s n lent room other → Refused other ≡ Refused refusal → RefusedPurpose s n lent room refusal
+    is other g e = let same : other ≡ refusal = cc in subst (RefusedPurpose s n lent room) same g
 
-    answer-purpose : purposeAnswer s n words room ≡ Refused refusal → RefusedPurpose s n words room refusal
+    answer-purpose : purposeAnswer s n lent room ≡ Refused refusal → RefusedPurpose s n lent room refusal
     unfolding said onFile onSource
-    answer-purpose e = go (judged s words .answer) refl e
+    answer-purpose e = go (judged s lent .answer) refl e
       where
-        on : (ls : List FileLine) → AllowedFile s ls → length ls ≤ words → (x : Sourced) → sourceOf s (lineStarts 0 ls) n ≡ x →
-            onSource x s room ≡ Refused refusal → RefusedPurpose s n words room refusal
+        on : (ls : List FileLine) → AllowedFile (lent .countries) s ls → length ls ≤ lent .words → (x : Sourced) → sourceOf s (lineStarts 0 ls) n ≡ x →
+            onSource x s room ≡ Refused refusal → RefusedPurpose s n lent room refusal
         on ls g few Nowhere ex q =
             is (because NotThere 0) (RefusedPurpose.not-there ls g few (λ l h c. apart (sym (cash-source s ls g n l h c) ∙ ex))) q
         on ls g few (From source) ex q =
@@ -82,19 +83,19 @@ module _ (s : List ℕ) (n words room : ℕ) where
             (source-cash s ls g n (From source) ex))
             (λ t r. absurd (no-pass purposeVerdict refl refl (sym r))) q
 
-        go : (a : FileAnswer) → judged s words .answer ≡ a → onFile a (sourceOf s (judged s words .starts) n) s room ≡ Refused refusal →
-            RefusedPurpose s n words room refusal
-        go (RefusedAnswer other) ea q = is other (RefusedPurpose.file-refused other (judged-refused s words other ea)) q
+        go : (a : FileAnswer) → judged s lent .answer ≡ a → onFile a (sourceOf s (judged s lent .starts) n) s room ≡ Refused refusal →
+            RefusedPurpose s n lent room refusal
+        go (RefusedAnswer other) ea q = is other (RefusedPurpose.file-refused other (judged-refused s lent other ea)) q
         go (Accepted totals) ea q =
-            let r = accepted-allowed s words totals (judged s words .starts) (ap (λ (a : FileAnswer). said a (judged s words .starts)) ea) in
+            let r = accepted-allowed s lent totals (judged s lent .starts) (ap (λ (a : FileAnswer). said a (judged s lent .starts)) ea) in
             on (r .lines) (r .allowed) (r .room) (sourceOf s (lineStarts 0 (r .lines)) n) refl
             (ap (λ (x : List ℕ). onSource (sourceOf s x n) s room) (sym (r .list)) ∙ q)
 
 -- the purpose is refused, by this number and at this place, exactly then; list and output are then as the paper has them
-pub purpose-refused-exactly : (s : List ℕ) (n words : ℕ) (output : List ℕ) (refusal : Refusal) (list after : List ℕ) →
-    Purposes s n words output (Refused refusal) list after ↔
-    (RefusedPurpose s n words (length output) refusal × (list ≡ replicate words 0) × (after ≡ output))
-purpose-refused-exactly s n words output refusal list after = (
-  λ p. (answer-purpose s n words (length output) refusal (sym (p .0)), p .1, p .2),
-  λ g. (sym (purpose-answer s n words (length output) refusal (g .0)), g .1, g .2),
+pub purpose-refused-exactly : (s : List ℕ) (n : ℕ) (lent : Lent) (output : List ℕ) (refusal : Refusal) (list after : List ℕ) →
+    Purposes s n lent output (Refused refusal) list after ↔
+    (RefusedPurpose s n lent (length output) refusal × (list ≡ replicate (lent .words) 0) × (after ≡ output))
+purpose-refused-exactly s n lent output refusal list after = (
+  λ p. (answer-purpose s n lent (length output) refusal (sym (p .0)), p .1, p .2),
+  λ g. (sym (purpose-answer s n lent (length output) refusal (g .0)), g .1, g .2),
 )

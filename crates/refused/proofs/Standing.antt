@@ -1,32 +1,36 @@
 -- The judge behind the lines with which a file begins: where it stands, and its next step by cases.
 use Prim.Native.Nat.{ℕ, _+_, _≤_, _<_}
 use mathlib.Core.Path.{_≡_, refl, sym, ap, subst, _∙_}
-use mathlib.Core.Bool.{true, false, false≢true}
+use mathlib.Core.Bool.{Bool, true, false, false≢true}
 use mathlib.Core.List.{List, [], _∷_, _++_}
 use native.Mathlib.Omega.{arith}
 use lib.ListN.{length, drop, length-append}
 use Rattle.refusal.specs.Table.{because}
 use Rattle.refusal.specs.declared.Refusal.{Refusal}
-use Rattle.refusal.specs.declared.Reason.the-variants.{IdentcodeRepeated, ListFull}
+use Rattle.refusal.specs.declared.Reason.the-variants.{ContactMissing, IdentcodeRepeated, ListFull}
 use Rattle.fields.specs.Record.{mayCome}
 use Rattle.fields.specs.Profile.{profile}
 use Rattle.fields.specs.declared.record.Record.{Record}
 use Rattle.fields.specs.declared.record.Record.the-variants.{Header, Sender, Shipment, Parcel, Product, Feature}
 use Rattle.fields.specs.declared.record.Due.{Due}
 use Rattle.fields.specs.declared.record.Due.the-variants.{First}
-use Rattle.line.specs.Parts.{fieldNo}
+use Rattle.line.specs.Parts.{split, fieldNo}
+use Rattle.line.specs.Line.{textAt}
 use Rattle.line.specs.Render.{render}
 use Rattle.line.specs.Told.{Told}
 use Rattle.line.specs.declared.read.Line.{Line}
 use Rattle.grammar.specs.Grammar.{LineOk, Reads}
-use Rattle.grammar.proofs.Lines.{reads-accepted}
+use Rattle.grammar.proofs.Lines.{reads-accepted, read-parts}
 use Rattle.file.specs.Identcode.{repeats}
-use Rattle.file.specs.Step.{behind, onLine, toldBy, stepAnswer}
+use Rattle.file.specs.Lent.{Lent}
+use Rattle.file.specs.Contact.{contactsBehind, lacksContact}
+use Rattle.file.specs.Step.{behind, listing, onLine, toldBy, stepAnswer}
 use Rattle.file.specs.declared.step.State.{State}
 use Rattle.file.specs.declared.step.Step.the-variants.{Next as On, Stopped}
 use Rattle.file.proofs.Lists.{left-word, no-word}
 use Rattle.allowed.specs.Allowed.{FileLine, lineBytes, fileBytes, codesOn, identcodes, oneOfCodes}
 use Rattle.allowed.proofs.Files.{line-some}
+use Rattle.allowed.proofs.Contacts.{partsOf, contactsAfter, after-more}
 use Rattle.allowed.proofs.Codes.{Seen, seen-more, Fresh, not-fresh, code-here}
 use Rattle.refused.specs.Line.{RefusedLine}
 use Rattle.refused.specs.File.{dueBehind, toldBehind, Begins, NextLine}
@@ -38,6 +42,7 @@ pub record Here (s : List ℕ) (ls : List FileLine) (starts : List ℕ) (state :
   pub count : state .lines ≡ length ls
   pub next : state .due ≡ dueBehind First ls
   pub seen : Seen s starts (identcodes ls)
+  pub contacts : state .contacts ≡ contactsAfter true ls
 
 unfoldable pub line-of : ℕ → FileLine → Line
 line-of at l = record { kind = l .kind; count = length (l .fields); next = at + length (lineBytes l) }
@@ -47,7 +52,7 @@ module _ (s : List ℕ) (ls : List FileLine) (starts : List ℕ) (state : State)
   told-is : toldBy state ≡ toldBehind ls
   told-is = ap (λ (d : Due). record { rules = profile; due = d }) (h .next)
 
-  module _ (left : List ℕ) (b : Begins s ls left) where
+  module _ {countries : List ℕ} (left : List ℕ) (b : Begins countries s ls left) where
     pub there : drop (state .at) s ≡ left
     there = ap (λ (i : ℕ). drop i s) (h .place) ∙ left-there s ls left b
 
@@ -69,7 +74,7 @@ module _ (s : List ℕ) (ls : List FileLine) (starts : List ℕ) (state : State)
         let r₂ = subst (λ (x : List ℕ). RefusedLine (toldBehind ls) (state .at) x refusal) (sym there) r₁ in
         subst (λ (t : Told). RefusedLine t (state .at) (drop (state .at) s) refusal) (sym told-is) r₂
 
-  module _ (l : FileLine) (left : List ℕ) (f : NextLine s ls l left) where
+  module _ (lent : Lent) (l : FileLine) (left : List ℕ) (f : NextLine (lent .countries) s ls l left) where
     stands : drop (state .at) s ≡ render (l .kind) (l .fields) ++ left
     stands = there (lineBytes l ++ left) (f .begins)
 
@@ -108,26 +113,43 @@ module _ (s : List ℕ) (ls : List FileLine) (starts : List ℕ) (state : State)
           seen =
               subst (Seen s (starts ++ (state .at ∷ []))) (sym (codes-more ls l))
               (seen-more s starts (identcodes ls) (state .at) (l .kind) (l .fields) left (h .seen) stands (f .ok));
+          contacts =
+              ap (λ (parts : List (List ℕ)). contactsBehind (l .kind) parts (state .contacts)) (read-parts reads)
+              ∙ ap (contactsBehind (l .kind) (partsOf l)) (h .contacts) ∙ sym (after-more true ls l);
         }
 
+    -- what the judge asks of it
+    abbrev lacks : Bool
+    lacks = lacksContact (l .kind) (partsOf l) (lent .countries) (contactsAfter true ls)
+
+    asks : lacksContact (l .kind) (split (textAt s (state .at))) (lent .countries) (state .contacts) ≡ lacks
+    unfolding line-of
+    asks =
+        ap (λ (parts : List (List ℕ)). lacksContact (l .kind) parts (lent .countries) (state .contacts)) (read-parts reads)
+        ∙ ap (lacksContact (l .kind) (partsOf l) (lent .countries)) (h .contacts)
+
     -- its step, by cases
-    module _ (words : ℕ) where
+    pub step-lacks : lacks ≡ true → stepAnswer s lent starts state ≡ Stopped (because ContactMissing (state .at))
+    unfolding stepAnswer onLine line-of
+    step-lacks e = rw (reads-accepted reads, asks, e)
+
+    module _ (reached : lacks ≡ false) where
       pub step-repeats : repeats (l .kind) s starts (state .at) ≡ true →
-          stepAnswer s words starts state ≡ Stopped (because IdentcodeRepeated (state .at + 4))
-      unfolding stepAnswer onLine line-of
-      step-repeats r = rw (reads-accepted reads, r)
+          stepAnswer s lent starts state ≡ Stopped (because IdentcodeRepeated (state .at + 4))
+      unfolding stepAnswer onLine listing line-of
+      step-repeats r = rw (reads-accepted reads, asks, reached, r)
 
       module _ (fresh : Fresh (identcodes ls) (codesOn (l .kind) (l .fields))) where
         new : repeats (l .kind) s starts (state .at) ≡ false
         new = not-fresh s starts (identcodes ls) (state .at) (l .fields) left (h .seen) (l .kind) stands (f .ok) fresh
 
-        pub step-full : words ≤ state .lines → stepAnswer s words starts state ≡ Stopped (because ListFull (state .at))
-        unfolding stepAnswer onLine line-of
-        step-full full = rw (reads-accepted reads, new, no-word words (state .lines) full)
+        pub step-full : lent .words ≤ state .lines → stepAnswer s lent starts state ≡ Stopped (because ListFull (state .at))
+        unfolding stepAnswer onLine listing line-of
+        step-full full = rw (reads-accepted reads, asks, reached, new, no-word (lent .words) (state .lines) full)
 
-        pub step-on : state .lines < words → stepAnswer s words starts state ≡ On (behind s state (line-of (state .at) l))
-        unfolding stepAnswer onLine line-of
-        step-on r = rw (reads-accepted reads, new, left-word words (state .lines) r)
+        pub step-on : state .lines < lent .words → stepAnswer s lent starts state ≡ On (behind s state (line-of (state .at) l))
+        unfolding stepAnswer onLine listing line-of
+        step-on r = rw (reads-accepted reads, asks, reached, new, left-word (lent .words) (state .lines) r)
 
 -- a repeated identcode
 pub repeats-parcel : (kind : Record) (s starts : List ℕ) (at : ℕ) → repeats kind s starts at ≡ true → kind ≡ Parcel

@@ -1,5 +1,6 @@
-// Judges stored files: its arguments are pairs of a number of words and a file's name. Each gives a line: the name, the words lent,
-// the answer, and the sum of the list's words, which were all 4,294,967,295 before.
+// Judges stored files: its arguments are threes of a number of words, a list of countries (`-` is the empty one) and a file's name.
+// Each gives a line: the name, the words and the countries lent, the answer, and the sum of the list's words, which were all
+// 4,294,967,295 before.
 ghost use Prim.Native.Nat.{_<_, _≤_};
 use file::FileAnswer;
 use file::Totals;
@@ -10,19 +11,21 @@ fn main() {
     let n = os::arg_count();
     let mut i: usize = 1;
     while i < n {
-        if n - i < 2 {
+        if n - i < 3 {
             return;
         }
-        one_case(i, i + 1);
-        i += 2;
+        one_case(i, i + 1, i + 2);
+        i += 3;
     }
 }
 
-// The arguments with these numbers are a number of words and a file's name.
-fn one_case(words_at: usize, name_at: usize) {
+// The arguments with these numbers are a number of words, a list of countries and a file's name.
+fn one_case(words_at: usize, countries_at: usize, name_at: usize) {
     let mut count = [0u8; 8];
     let digits = os::arg(words_at, &mut count);
     let words = number(&count[..digits]);
+    let mut countries = io::buffer();
+    let given = os::arg(countries_at, &mut countries);
     let mut name = io::buffer();
     let long = os::arg(name_at, &mut name);
     let fd = os::open_read(&name[..long]);
@@ -30,27 +33,29 @@ fn one_case(words_at: usize, name_at: usize) {
         os::fail(&name[..long]);
         return;
     }
-    run(fd, &name[..long], words);
+    run(fd, &name[..long], words, &countries[..given]);
     libc::close(fd);
 }
 
-fn run(fd: i32, name: &[u8], words: usize)
+fn run(fd: i32, name: &[u8], words: usize, countries: &[u8])
     requires { ⌜ words ≤ 4096 ⌝ }
 {
     let mut buffer = io::large_buffer();
     let mut list = [4294967295u32; 4096];
     let input = streams::read_input(fd, &mut buffer);
     match input {
-        Input::Whole(n) => judge(name, &buffer[..n], &mut list[0..words]),
+        Input::Whole(n) => judge(name, &buffer[..n], countries, &mut list[0..words]),
         Input::Failed => os::fail(name),
     }
 }
 
-fn judge(name: &[u8], s: &[u8], list: &mut [u32]) {
+fn judge(name: &[u8], s: &[u8], countries: &[u8], list: &mut [u32]) {
     streams::say(name);
     streams::say(b" ");
     streams::say_decimal(list.len() as u64);
-    let answer = file::judge(s, list);
+    streams::say(b" ");
+    streams::say(countries);
+    let answer = file::judge(s, lent(countries), list);
     match answer {
         FileAnswer::Accepted(totals) => say_ok(totals),
         FileAnswer::Refused(refusal) => say_no(refusal),
@@ -58,6 +63,14 @@ fn judge(name: &[u8], s: &[u8], list: &mut [u32]) {
     streams::say(b" list ");
     streams::say_decimal(sum(list));
     streams::say(b"\n");
+}
+
+// The list of countries that an argument stands for.
+fn lent(countries: &[u8]) -> &[u8] {
+    if text::equal(countries, b"-") {
+        return &countries[0..0];
+    }
+    countries
 }
 
 fn sum(list: &[u32]) -> u64 {

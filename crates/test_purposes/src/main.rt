@@ -1,5 +1,5 @@
 // Runs cases of the payment purpose. Each case of the input is `#`, a line's number, the output's and the list's length, each in two
-// digits, a line feed, and a file. Each gives a line: the answer, the whole output, which was full of points, and the whole list,
+// digits, a list of countries, a line feed, and a file. Each gives a line: the answer, the whole output, which was full of points, and the whole list,
 // which was full of sevens.
 ghost use Prim.Native.Nat.{_≤_};
 ghost use lib.ListN.{length};
@@ -19,20 +19,20 @@ fn main() {
 fn run(s: &[u8]) {
     let mut start: usize = 0;
     while start < s.len() {
-        let end = case_end(s, start);
+        let end = first_from(s, start, b'#');
         run_case(&s[start..end]);
         start = end + 1;
     }
 }
 
-// The end of the case that starts here: the next `#`, or the end of the input.
-fn case_end(s: &[u8], start: usize) -> usize
+// The first such byte from here on, or the end of the run.
+fn first_from(s: &[u8], start: usize, b: u8) -> usize
     requires { ⌜ start ≤ length (now s) ⌝ }
     ensures { λ r. ⌜ (start ≤ r) × (r ≤ length (now (s .entry))) ⌝ }
 {
     let mut i = start;
     while i < s.len() {
-        if s[i] == b'#' {
+        if s[i] == b {
             return i;
         }
         i += 1;
@@ -48,9 +48,20 @@ fn run_case(case: &[u8]) {
     let number = two_digits(case[0], case[1]);
     let room = least(two_digits(case[3], case[4]), 40);
     let words = least(two_digits(case[6], case[7]), 20);
+    let end = first_from(case, 9, b'\n');
+    if case.len() <= end {
+        return;
+    }
+    let countries = &case[9..end];
     let mut out = [b'.'; 40];
     let mut list = [7u32; 20];
-    let answer = purpose::write_purpose(&case[9..], number, &mut list[..words], &mut out[..room]);
+    let answer = purpose::write_purpose(
+        &case[end + 1..],
+        countries,
+        number,
+        &mut list[..words],
+        &mut out[..room],
+    );
     say(answer);
     streams::say(b" |");
     streams::say(&out);

@@ -13,4 +13,4 @@ is-sender-duty-spec =
     tie.close
     (tie.spec
     (λ c. search laws) (λ c. search laws) (λ c. search laws) (λ c. search laws) (λ c. search laws) (λ c. search laws)
-    (λ c. search laws) (λ c. search laws) (λ c. search (no-duty) depth 14))
+    (λ c. search (no-duty) depth 14))

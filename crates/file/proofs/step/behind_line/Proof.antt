@@ -11,4 +11,5 @@ behind-line-spec =
     tie.close
     (tie.spec
     (λ c. search laws) (λ c. search laws) (λ c κs. search laws) (λ c. search laws) (λ c. search laws) (λ c. search laws)
-    (λ c. search laws) (λ c κs. search laws) (λ c. search laws) (λ c. search laws))
+    (λ c. search laws) (λ c κs. search laws) (λ c. search laws) (λ c. search laws) (λ c. search laws) (λ c. search laws)
+    (λ c κs. search laws) (λ c. search laws))

@@ -1,29 +1,24 @@
 -- `step::one_line` meets its contract.
-use mathlib.Core.Path.{refl}
-use Rattle.file.proofs.Stepping.{line-stops, code-stops, list-stops, word-there, line-next, line-sown, stopped-sown}
-use Rattle.file.proofs.Stepping.{stopped-listed, was-accepted}
+use Rattle.line.proofs.Accepting.{text-starts, text-inside, next-least}
+use Rattle.file.proofs.Stepping.{line-stops, contact-stops, line-listed, stopped-sown, stopped-listed, was-accepted}
 use borrow.Author.Needs.{needs}
 use Rattle.file.proofs.step.one_line.Statement.{statement}
 use Rattle.file.proofs.step.one_line.Tie as tie
 
-ruleset laws = (needs, word-there, was-accepted)
+ruleset laws = (needs, was-accepted, text-starts, text-inside, next-least)
 
 returns : tie.Need-returns
-returns c = (search (code-stops), (search (stopped-sown), search (stopped-listed)))
+returns c = (search (contact-stops), (search (stopped-sown), search (stopped-listed)))
 
 returns-2 : tie.Need-returns-2
-returns-2 c = (search (list-stops), (search (stopped-sown), search (stopped-listed)))
+returns-2 c = (search (line-listed), (search needs, search needs))
 
 returns-3 : tie.Need-returns-3
-returns-3 c = (search (line-next), (search (line-sown), λ next e. refl))
-
-returns-4 : tie.Need-returns-4
-returns-4 c = (search (line-stops), (search (stopped-sown), search (stopped-listed)))
+returns-3 c = (search (line-stops), (search (stopped-sown), search (stopped-listed)))
 
 pub one-line-spec : {M : Type 1} → statement M
 one-line-spec =
     tie.close
     (tie.spec
-    (λ c κs. search laws) (λ c. search laws) (λ c κs. search laws) (λ c. search laws) (λ c. search laws) returns (λ c κs. search laws)
-    (λ c. search laws) (λ c. search laws) returns-2 (λ c. search laws) (λ c. search laws) (λ c. search laws) (λ c κs. search laws) (λ c. search laws)
-    (λ c. search laws) (λ c. search laws) returns-3 returns-4)
+    (λ c κs. search laws) (λ c. search laws) (λ c. search laws) (λ c. search laws) (λ c. search laws) (λ c. search laws)
+    (λ c κs. search laws) returns (λ c κs. search laws) (λ c. search laws) (λ c. search laws) (λ c. search laws) returns-2 returns-3)

@@ -11,10 +11,11 @@ use Rattle.file.proofs.whole.run.Tie as tie
 ruleset laws = (needs, going-none, going-more, less-left, few-parcels, room-kept, stop-judged, due-judged, end-judged)
 
 abbrev Inv-loop : tie.InvT-loop
-Inv-loop s words₀ codes₀ state₀ words codes state = Going s (length words₀) words codes state × (length codes ≡ length codes₀)
+Inv-loop s countries words₀ codes₀ state₀ words codes state =
+    Going s (record { countries = countries; words = length words₀ }) words codes state × (length codes ≡ length codes₀)
 
 abbrev μ-loop : tie.MeasureT-loop
-μ-loop s words₀ codes₀ state₀ words codes state = length s - state .at
+μ-loop s countries words₀ codes₀ state₀ words codes state = length s - state .at
 
 pub run-spec : {M : Type 1} → statement M
 run-spec =
