@@ -1,6 +1,7 @@
 //! Generated input: accepted files, damage, calls, and the field rules at their boundaries.
 
 use std::collections::{BTreeMap, HashSet};
+use std::ops::Range;
 
 use reference::file::{judge, Totals};
 use reference::generate::*;
@@ -63,7 +64,7 @@ fn valid_files_are_accepted() {
         let file = valid_file(&mut rng);
         let (totals, starts) = counted(&file);
         let mut list = vec![7; starts.len() + 2];
-        assert_eq!(judge(&file, &mut list), Ok(totals));
+        assert_eq!(judge(&file, b"", &mut list), Ok(totals));
         assert_eq!(list[..starts.len()], starts);
         assert_eq!(list[starts.len()..], [0, 0]);
         assert_eq!(put_together(&take_apart(&file)), file);
@@ -82,11 +83,12 @@ fn damaged_files_bring_every_refusal() {
     for _ in 0..20_000 {
         let case = file_case(&mut rng);
         let mut list = vec![7; case.words];
-        let answer = judge(&case.file, &mut list);
+        let answer = judge(&case.file, &case.countries, &mut list);
         assert!(
             case.outcome.allows(&answer),
-            "{:?} {:?} {:?}",
+            "{:?} {:?} {:?} {:?}",
             case.damages,
+            case.countries,
             case.outcome,
             answer
         );
@@ -105,10 +107,99 @@ fn damaged_files_bring_every_refusal() {
         }
         count(&mut counts, &answer);
     }
-    assert_each(&counts, &(0..=12).collect::<Vec<_>>());
+    assert_each(&counts, &(0..=12).chain([19, 20]).collect::<Vec<_>>());
     assert!(counts.values().all(|count| *count >= 100), "{counts:?}");
     assert!(known > 8_000, "{known}");
     println!("{counts:?}, {known} known");
+}
+
+/// "They are needed only if some shipment under that sender has a consignee country on a list the
+/// caller lends": taken sender by sender, each with its own countries.
+#[test]
+fn a_sender_needs_contacts_only_for_the_countries_of_its_shipments() {
+    let mut rng = Rng::new(16);
+    let mut counts = Counts::new();
+    for _ in 0..5_000 {
+        let file = valid_file(&mut rng);
+        let countries = countries(&mut rng, &file);
+        if countries.len() % 2 == 1 {
+            continue;
+        }
+        let senders = senders(&file);
+        let in_need = senders.iter().filter(|sender| {
+            let named = |country: &Vec<u8>| countries.chunks(2).any(|pair| pair == country);
+            sender.countries.iter().any(named)
+        });
+        let answer = judge(&file, &countries, &mut [0; 4096]);
+        let contacts_hold = in_need.clone().all(|sender| sender.has_contacts);
+        assert_eq!(answer.is_ok(), contacts_hold, "{countries:?} {answer:?}");
+        if let Err(refusal) = answer {
+            let lines = in_need.filter(|sender| !sender.has_contacts);
+            let lines = lines.map(|sender| sender.lines.clone()).next().unwrap();
+            assert_eq!(refusal.number, 19);
+            assert!(lines.contains(&refusal.place), "{lines:?} {refusal:?}");
+        }
+        count(&mut counts, &answer);
+    }
+    assert!(counts.values().all(|count| *count >= 500), "{counts:?}");
+    println!("{counts:?}");
+}
+
+/// What stands below one 020 line.
+struct Sender {
+    has_contacts: bool,
+    /// Of its shipments.
+    countries: Vec<Vec<u8>>,
+    /// From where to where its lines run.
+    lines: Range<usize>,
+}
+
+/// The senders of an accepted file.
+fn senders(file: &[u8]) -> Vec<Sender> {
+    let mut senders: Vec<Sender> = Vec::new();
+    let mut offset = 0;
+    for line in take_apart(file) {
+        if line[0] == b"020" {
+            senders.push(Sender {
+                has_contacts: !line[12].is_empty() && !line[13].is_empty(),
+                countries: Vec::new(),
+                lines: offset..offset,
+            });
+        }
+        offset += line.join(&b';').len() + 2;
+        if let Some(sender) = senders.last_mut() {
+            sender.lines.end = offset;
+            if line[0] == b"030" {
+                sender.countries.push(line[20].clone());
+            }
+        }
+    }
+    senders
+}
+
+/// Every country of the file asks every sender; none asks none, and pairs that are moved by one
+/// place ask for nothing either.
+#[test]
+fn lists_of_all_countries_and_of_none() {
+    let mut rng = Rng::new(17);
+    let (mut accepted, mut refused) = (0, 0);
+    for _ in 0..2_000 {
+        let file = valid_file(&mut rng);
+        let own = own(&file);
+        let judged = |countries: &[u8]| judge(&file, countries, &mut [0; 4096]);
+        let all_have = senders(&file).iter().all(|sender| sender.has_contacts);
+        assert_eq!(judged(&own).is_ok(), all_have);
+        assert!(judged(b"").is_ok());
+        assert!(judged(&own.to_ascii_lowercase()).is_ok());
+        let moved: Vec<u8> = own
+            .chunks(2)
+            .flat_map(|pair| [b"1", pair, b"1"].concat())
+            .collect();
+        assert!(judged(&moved).is_ok());
+        accepted += usize::from(all_have);
+        refused += usize::from(!all_have);
+    }
+    assert!(accepted > 300 && refused > 300, "{accepted} {refused}");
 }
 
 #[test]
@@ -119,7 +210,7 @@ fn each_damage_alone() {
         for _ in 0..200 {
             let mut file = valid_file(&mut rng);
             let outcome = damage(kind, &mut rng, &mut file);
-            let answer = judge(&file, &mut [0; 4096]);
+            let answer = judge(&file, b"", &mut [0; 4096]);
             assert!(outcome.allows(&answer), "{kind:?} {outcome:?} {answer:?}");
             count(&mut counts, &answer);
         }
@@ -135,7 +226,7 @@ fn the_limit_is_exact() {
         let mut full = file.clone();
         if damage(Damage::GrowToLimit, &mut rng, &mut full) == Outcome::Accepted {
             assert_eq!(full.len(), 65_535);
-            assert!(judge(&full, &mut [0; 4096]).is_ok());
+            assert!(judge(&full, b"", &mut [0; 4096]).is_ok());
         }
         let mut over = file.clone();
         if damage(Damage::GrowPastLimit, &mut rng, &mut over) != Outcome::Unknown {
@@ -144,7 +235,9 @@ fn the_limit_is_exact() {
                 number: 1,
                 place: 65_535,
             };
-            assert_eq!(judge(&over, &mut [0; 4096]), Err(one));
+            for countries in [&b""[..], b"AT", b"A"] {
+                assert_eq!(judge(&over, countries, &mut [0; 4096]), Err(one));
+            }
         }
     }
 }
@@ -191,7 +284,7 @@ fn a_file_is_its_lines() {
             offset = read_line(&file, offset).unwrap().next;
             read += 1;
         }
-        assert_eq!(judge(&file, &mut [0; 4096]).unwrap().lines, read);
+        assert_eq!(judge(&file, b"", &mut [0; 4096]).unwrap().lines, read);
     }
 }
 
@@ -343,9 +436,9 @@ fn purposes() {
     for _ in 0..10_000 {
         let call = purpose_call(&mut rng);
         let (mut list, mut out) = (vec![7; call.words], vec![9; call.output]);
-        let answer = purpose(&call.file, call.line, &mut list, &mut out);
+        let answer = purpose(&call.file, &call.countries, call.line, &mut list, &mut out);
         let mut judged = vec![7; call.words];
-        let totals = judge(&call.file, &mut judged);
+        let totals = judge(&call.file, &call.countries, &mut judged);
         let expected = match totals {
             Err(refusal) => Err(refusal),
             Ok(_) => match purpose_of_parts(&call.file, call.line) {
@@ -377,7 +470,7 @@ fn purposes() {
         }
         count(&mut counts, &answer);
     }
-    for number in [0, 13, 15] {
+    for number in [0, 13, 15, 19, 20] {
         assert!(counts[&number] > 300, "{counts:?}");
     }
     assert!(cut > 100);
