@@ -26,7 +26,7 @@ const SHARES: [Share; 8] = [
         kind: Kind::File,
         name: "files",
         share: 30,
-        refusals: &[1, 2, 3, 4, 5, 6, 7, 8, 9, 10, 11, 12],
+        refusals: &[1, 2, 3, 4, 5, 6, 7, 8, 9, 10, 11, 12, 19, 20],
     },
     Share {
         kind: Kind::Line,
@@ -50,7 +50,7 @@ const SHARES: [Share; 8] = [
         kind: Kind::Purpose,
         name: "purposes",
         share: 15,
-        refusals: &[1, 2, 3, 4, 5, 6, 7, 8, 9, 10, 11, 12, 13, 15],
+        refusals: &[1, 2, 3, 4, 5, 6, 7, 8, 9, 10, 11, 12, 13, 15, 19, 20],
     },
     Share {
         kind: Kind::Check,
@@ -239,6 +239,9 @@ fn wrong_in_one_part(left: &Left) -> Vec<Left> {
         let last = |length: usize| if end { length - 1 } else { 0 };
         if !left.input.is_empty() {
             changed(&|wrong| wrong.input[last(left.input.len())] ^= 1);
+        }
+        if !left.countries.is_empty() {
+            changed(&|wrong| wrong.countries[last(left.countries.len())] ^= 1);
         }
         if !left.ends.is_empty() {
             changed(&|wrong| wrong.ends[last(left.ends.len())] ^= 1);
