@@ -85,8 +85,8 @@ static int read_row(FILE *rows, char *row, int room)
     return 1;
 }
 
-/* Judges a file with these countries and a list of so many words, 4,096 at most, and holds the answer against `ok LINES PARCELS CENTS list SUM` or `no
- * NUMBER PLACE list 0`, where the sum is that of the list's words. */
+/* Judges a file with these countries and a list of so many words, 4,096 at most, and holds the answer against `ok LINES PARCELS CENTS
+ * list SUM` or `no NUMBER PLACE list 0`, where the sum is that of the list's words. */
 static void judge(const uint8_t *file, size_t length, const char *countries, size_t words, const char *due)
 {
     static uint32_t list[4097];

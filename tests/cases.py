@@ -150,6 +150,8 @@ def contact_cases():
         yield f"country_{name}", refused(lines, 19, place(lines, 2), countries=countries)
     for name, countries in (("other", "DECH"), ("moved", "XATX"), ("turned", "TA"), ("small", "at"), ("half_small", "aTAt")):
         yield f"countries_{name}", accepted(lines, 4096, 1250, countries)
+    lines = EXAMPLE[:1] + [NO_CONTACTS, shipment(f7="CH")] + EXAMPLE[3:]
+    yield "country_of_field_7", accepted(lines, 4096, 1250, "CH")
     # Whose shipment it is.
     two = EXAMPLE[:1] + [NO_CONTACTS] + shipped("DE", 1) + shipped("AT", 2)
     yield "second_shipment_listed", refused(two, 19, place(two, 5), countries="AT")

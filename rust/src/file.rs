@@ -93,8 +93,8 @@ pub struct Line {
 
 /// Judges a whole file.
 ///
-/// The countries are pairs of capitals, one behind the other. A sender with a shipment to one of them
-/// needs phone and mail; under an empty list nobody does. A list of an odd length is a refusal.
+/// The countries are pairs of capitals, one behind the other. A sender with a shipment to one of
+/// them needs phone and mail; under an empty list nobody does. An odd length is a refusal.
 ///
 /// Accepted, word i of the list is where line i starts, for each line, and every other word is 0;
 /// refused, all words are 0. A list with too few words for the lines is a refusal;
@@ -147,8 +147,8 @@ pub fn judge(file: &[u8], countries: &[u8], list: &mut [u32]) -> Result<Totals, 
     })
 }
 
-/// Judges the line that starts at the offset, alone: not its order, not its identcode against others,
-/// and not whether a sender needs phone and mail.
+/// Judges the line that starts at the offset, alone: not its order, not its identcode against
+/// others, and not whether a sender needs phone and mail.
 ///
 /// ```
 /// use peliranopi::{read_line, Record};
@@ -256,7 +256,8 @@ pub fn write_line(
 /// and the output must have so many or more.
 ///
 /// The file is judged first, and the countries and the list are lent as for [`judge`]; here too the
-/// list's words are all 0 after a refusal. Every other byte of the output stays as it was; on a refusal all of them do.
+/// list's words are all 0 after a refusal. Every other byte of the output stays as it was; on a
+/// refusal all of them do.
 ///
 /// ```
 /// let file = include_bytes!("../../examples/preadvice.csv");

@@ -128,9 +128,23 @@ fn silent() -> Vec<u8> {
 }
 
 #[test]
+fn a_line_alone_does_not_ask_for_contacts() {
+    let silent = silent();
+    assert_eq!(read_line(&silent, 74).unwrap().next, 112);
+    assert_eq!(find_field(&silent, 74, 12), Ok(106..106));
+    let (mut text, mut ends) = (Vec::new(), Vec::new());
+    for field in find_fields(&silent, 74).unwrap() {
+        text.extend(&silent[field]);
+        ends.push(text.len());
+    }
+    let mut output = [0; 38];
+    assert_eq!(write_line(20, &text, &ends, &mut output, 0), Ok(38));
+    assert_eq!(output, silent[74..112]);
+}
+
+#[test]
 fn contacts_are_needed_for_the_lent_countries() {
     let silent = silent();
-    assert!(read_line(&silent, 74).is_ok());
     for (countries, due) in [
         ("", None),
         ("DE", None),

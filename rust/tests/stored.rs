@@ -25,9 +25,8 @@ fn said<T>(answer: Result<T, Refusal>, accepted: impl FnOnce(T) -> String) -> St
 fn the_stored_files_are_judged_as_stored() {
     let due = rows(CASES, "stdout");
     let judged = due.iter().map(|row| {
-        let [name, count, lent] = row.split(' ').collect::<Vec<_>>()[..3] else {
-            unreachable!("three words");
-        };
+        let mut words = row.split(' ');
+        let [name, count, lent] = std::array::from_fn(|_| words.next().unwrap());
         let countries = if lent == "-" { "" } else { lent };
         let file = std::fs::read(format!("{CASES}/data/{name}")).unwrap();
         let mut list = vec![u32::MAX; count.parse().unwrap()];

@@ -83,8 +83,8 @@ impl Record {
         }
     }
 
-    /// "R = must be filled": the numbers of these fields. Of 020.12 and 020.13 document 02, request 1
-    /// says: "A line read or written alone no longer asks for the two."
+    /// "R = must be filled": the numbers of these fields. Not 020.12 and 020.13: "A line read or
+    /// written alone no longer asks for the two" (document 02, request 1).
     pub fn required(self) -> &'static [usize] {
         match self {
             R010 => &[1, 2, 3, 4, 5, 6],

@@ -1,7 +1,6 @@
 //! Generated input: accepted files, damage, calls, and the field rules at their boundaries.
 
 use std::collections::{BTreeMap, HashSet};
-use std::ops::Range;
 
 use reference::file::{judge, Totals};
 use reference::generate::*;
@@ -113,8 +112,33 @@ fn damaged_files_bring_every_refusal() {
     println!("{counts:?}, {known} known");
 }
 
+/// What stands below one 020 line.
+struct Sender {
+    has_contacts: bool,
+    /// Where each starts, and its country.
+    shipments: Vec<(usize, Vec<u8>)>,
+}
+
+/// The senders of an accepted file.
+fn senders(file: &[u8]) -> Vec<Sender> {
+    let mut senders: Vec<Sender> = Vec::new();
+    let mut offset = 0;
+    for line in take_apart(file) {
+        match (&line[0][..], senders.last_mut()) {
+            (b"020", _) => senders.push(Sender {
+                has_contacts: !line[12].is_empty() && !line[13].is_empty(),
+                shipments: Vec::new(),
+            }),
+            (b"030", Some(sender)) => sender.shipments.push((offset, line[20].clone())),
+            _ => {}
+        }
+        offset += line.join(&b';').len() + 2;
+    }
+    senders
+}
+
 /// "They are needed only if some shipment under that sender has a consignee country on a list the
-/// caller lends": taken sender by sender, each with its own countries.
+/// caller lends."
 #[test]
 fn a_sender_needs_contacts_only_for_the_countries_of_its_shipments() {
     let mut rng = Rng::new(16);
@@ -125,56 +149,19 @@ fn a_sender_needs_contacts_only_for_the_countries_of_its_shipments() {
         if countries.len() % 2 == 1 {
             continue;
         }
-        let senders = senders(&file);
-        let in_need = senders.iter().filter(|sender| {
-            let named = |country: &Vec<u8>| countries.chunks(2).any(|pair| pair == country);
-            sender.countries.iter().any(named)
+        let is_listed = |country: &Vec<u8>| countries.chunks(2).any(|pair| pair == country);
+        let first_in_need = senders(&file).into_iter().find_map(|sender| {
+            let mut shipments = sender.shipments.into_iter();
+            let needs = shipments.find(|(_, country)| is_listed(country));
+            needs.filter(|_| !sender.has_contacts)
         });
+        let expected = first_in_need.map(|(place, _)| Refusal { number: 19, place });
         let answer = judge(&file, &countries, &mut [0; 4096]);
-        let contacts_hold = in_need.clone().all(|sender| sender.has_contacts);
-        assert_eq!(answer.is_ok(), contacts_hold, "{countries:?} {answer:?}");
-        if let Err(refusal) = answer {
-            let lines = in_need.filter(|sender| !sender.has_contacts);
-            let lines = lines.map(|sender| sender.lines.clone()).next().unwrap();
-            assert_eq!(refusal.number, 19);
-            assert!(lines.contains(&refusal.place), "{lines:?} {refusal:?}");
-        }
+        assert_eq!(answer.err(), expected, "{countries:?}");
         count(&mut counts, &answer);
     }
     assert!(counts.values().all(|count| *count >= 500), "{counts:?}");
     println!("{counts:?}");
-}
-
-/// What stands below one 020 line.
-struct Sender {
-    has_contacts: bool,
-    /// Of its shipments.
-    countries: Vec<Vec<u8>>,
-    /// From where to where its lines run.
-    lines: Range<usize>,
-}
-
-/// The senders of an accepted file.
-fn senders(file: &[u8]) -> Vec<Sender> {
-    let mut senders: Vec<Sender> = Vec::new();
-    let mut offset = 0;
-    for line in take_apart(file) {
-        if line[0] == b"020" {
-            senders.push(Sender {
-                has_contacts: !line[12].is_empty() && !line[13].is_empty(),
-                countries: Vec::new(),
-                lines: offset..offset,
-            });
-        }
-        offset += line.join(&b';').len() + 2;
-        if let Some(sender) = senders.last_mut() {
-            sender.lines.end = offset;
-            if line[0] == b"030" {
-                sender.countries.push(line[20].clone());
-            }
-        }
-    }
-    senders
 }
 
 /// Every country of the file asks every sender; none asks none, and pairs that are moved by one

@@ -386,6 +386,11 @@ fn contacts_are_needed_for_the_lent_countries() {
             assert_eq!(answer, no(19, shipment), "{countries}");
         }
     }
+    // "a consignee country": neither the sender's (020.5) nor that of 030.7.
+    let [_, _, file] = without_contacts();
+    let file = file.replace("030;;;;;;;;", "030;;;;;;;CH;");
+    let file = file.replace(";AT;1010;", ";LI;1010;");
+    assert_eq!(judged_under(b"CHLI", file), totals(6, 1, 1250));
     // A sender who has both, and "a field of spaces is filled".
     assert_eq!(judged_under(b"AT", EXAMPLE), totals(6, 1, 1250));
     let spaces = with(";1;1;a@b;", ";1; ;  ;");

@@ -19,11 +19,13 @@ pub fn countries(rng: &mut Rng, file: &[u8]) -> Vec<u8> {
             rng.capitals(2 * pairs)
         }
         10..=12 => own(file),
-        // One of the file's countries, mostly of a later shipment, behind others.
+        // One of the file's countries behind others, often not that of the first shipment.
         13..=14 => {
             let (own, others) = (own(file), rng.below(4));
-            let pairs: Vec<&[u8]> = own.chunks(2).collect();
-            let one = rng.pick(&[&pairs[..], &[b"AT"]].concat());
+            let one = match own.len() / 2 {
+                0 => b"AT",
+                pairs => &own[2 * rng.below(pairs)..][..2],
+            };
             [&rng.capitals(2 * others), one].concat()
         }
         // The same pairs at odd places.

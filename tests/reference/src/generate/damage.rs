@@ -155,7 +155,8 @@ fn line_starts(file: &[u8]) -> Vec<usize> {
 }
 
 /// Damages a file in one way. The outcome is that of a file which was accepted before, judged with
-/// a list that is long enough and no countries. A damage that finds nothing to damage leaves the file as it was.
+/// a list that is long enough and no countries. A damage that finds nothing to damage leaves the
+/// file as it was.
 pub fn damage(kind: Damage, rng: &mut Rng, file: &mut Vec<u8>) -> Outcome {
     match kind {
         FlipByte | InsertByte | DeleteByte | Truncate => damage_bytes(kind, rng, file),

@@ -143,8 +143,8 @@ impl Maker {
         line
     }
 
-    /// How many of a hundred fields are filled that need not be. A sender's phone and mail often are
-    /// and often are not, whatever the style.
+    /// How many of a hundred fields are filled that need not be. A sender's phone and mail often
+    /// are and often are not, whatever the style.
     fn share(&self, record: Record, number: usize) -> usize {
         match (record, number) {
             (Record::R020, 12 | 13) => 70,
