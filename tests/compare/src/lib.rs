@@ -81,7 +81,10 @@ impl Call {
         match self {
             Call::File {
                 countries, words, ..
-            } => format!("countries {countries:?}, list of {words}"),
+            } => format!(
+                "countries \"{}\", list of {words}",
+                countries.escape_ascii()
+            ),
             Call::Line { offset, .. } => format!("offset {offset}"),
             Call::Field(call) => format!("offset {}, field {}", call.offset, call.number),
             Call::Write(call) => format!(
@@ -89,8 +92,11 @@ impl Call {
                 call.record, call.ends, call.output, call.fill
             ),
             Call::Purpose(call) => format!(
-                "countries {:?}, line {}, list of {}, output of {}",
-                call.countries, call.line, call.words, call.output
+                "countries \"{}\", line {}, list of {}, output of {}",
+                call.countries.escape_ascii(),
+                call.line,
+                call.words,
+                call.output
             ),
             Call::Issue(call) => format!("output of {}", call.output),
             Call::Check(_) | Call::Iban(_) => "nothing else".to_string(),

@@ -122,11 +122,16 @@ pub fn file_case(rng: &mut Rng) -> FileCase {
         };
     }
     let starts = line_starts(&file);
-    let words = match rng.below(10) {
-        0..=4 => starts.len(),
-        5..=6 => 4096,
-        7 => starts.len() + rng.between(1, 3),
-        8 => starts.len().saturating_sub(1),
+    let shipments: Vec<usize> = (0..starts.len())
+        .filter(|line| file[starts[*line]..].starts_with(b"030"))
+        .collect();
+    let words = match rng.below(21) {
+        0..=9 => starts.len(),
+        10..=13 => 4096,
+        14..=15 => starts.len() + rng.between(1, 3),
+        16..=17 => starts.len().saturating_sub(1),
+        // None left for a shipment, which may be refused by 19 instead.
+        18 if !shipments.is_empty() => rng.pick(&shipments),
         _ => rng.between(0, starts.len()),
     };
     if words < starts.len() {
