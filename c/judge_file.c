@@ -1,5 +1,6 @@
 /* Judges a pre-advice file from C: judge_file FILE. Prints `ok LINES PARCELS CENTS` and exits with 0, or `no NUMBER PLACE` and with 1,
- * as ./judge does; a file that cannot be read is told on standard error, with the exit status 2. */
+ * as ./judge does; a file that cannot be read is told on standard error, with the exit status 2. No countries are lent, so that no
+ * sender needs phone and mail. */
 #include "peliranopi.h"
 
 #include <inttypes.h>
@@ -8,6 +9,8 @@
 /* One byte more than a file may have, so that a longer file is seen to be one. Nothing behind it is read. */
 static uint8_t file[PELIRANOPI_FILE_LEN_MAX + 1];
 static uint32_t list[PELIRANOPI_LINES_MAX];
+/* Pairs of capitals, of which none is lent. No pointer may be null, not even for length 0. */
+static const uint8_t countries[] = "";
 
 /* Reads the start of a file, up to the room for it; answers whether that was possible. */
 static int read_start(const char *name, size_t *length)
@@ -34,7 +37,8 @@ int main(int argc, char **argv)
     }
     size_t lines, parcels, place;
     uint64_t cents;
-    uint32_t refusal = peliranopi_judge(file, length, list, sizeof list / sizeof list[0], &lines, &parcels, &cents, &place);
+    uint32_t refusal = peliranopi_judge(file, length, countries, 0, list, sizeof list / sizeof list[0],
+                                        &lines, &parcels, &cents, &place);
     if (refusal == PELIRANOPI_ACCEPTED)
         printf("ok %zu %zu %" PRIu64 "\n", lines, parcels, cents);
     else

@@ -19,9 +19,9 @@ extern "C" {
 
 /* The version of this interface. CONTRIBUTING.md says how it is counted. */
 #define PELIRANOPI_VERSION_MAJOR 0
-#define PELIRANOPI_VERSION_MINOR 1
+#define PELIRANOPI_VERSION_MINOR 2
 #define PELIRANOPI_VERSION_PATCH 0
-#define PELIRANOPI_VERSION "0.1.0"
+#define PELIRANOPI_VERSION "0.2.0"
 
 /* The refusals. README.md has the table with their places. Later versions may have more: an answer that is not 0 is a refusal, also
  * where its number is not among these. */
@@ -45,7 +45,9 @@ enum {
     PELIRANOPI_NOT_THERE = 15,          /* there is no such field or line, or it is not a 006 line */
     PELIRANOPI_WRONG_LENGTH = 16,       /* a number has a wrong length */
     PELIRANOPI_WRONG_SYMBOL = 17,       /* a symbol may not stand where it stands */
-    PELIRANOPI_WRONG_CHECK = 18         /* the check is wrong */
+    PELIRANOPI_WRONG_CHECK = 18,        /* the check is wrong */
+    PELIRANOPI_CONTACT_MISSING = 19,    /* a sender's phone or mail is empty, and this shipment's country is on the lent list */
+    PELIRANOPI_COUNTRIES_ODD = 20       /* the lent list of countries has an odd length */
 };
 
 /* The records of a file, as numbers. */
@@ -76,13 +78,16 @@ enum {
 };
 
 /* Judges a whole file: its lines, its 040 lines (parcels), and the cash to collect in cents.
+ * countries: pairs of capitals, one behind the other, as in "CHGBUS". A sender with a shipment to one of them (030.20) needs phone and
+ * mail (020.12 and 020.13). With length 0 nobody needs them.
  * list: accepted, word i is where line i starts, for each line, and every other word is 0; refused, all words are 0. */
 uint32_t peliranopi_judge(const uint8_t *file, size_t file_len,
+                          const uint8_t *countries, size_t countries_len,
                           uint32_t *list, size_t list_len,
                           size_t *lines, size_t *parcels, uint64_t *cents, size_t *place);
 
 /* Judges the line that starts at the offset, alone: its record (PELIRANOPI_HEADER to PELIRANOPI_FEATURE), how many fields it has
- * behind the record type, and where the next line starts. */
+ * behind the record type, and where the next line starts. No sender needs phone and mail here. */
 uint32_t peliranopi_read_line(const uint8_t *file, size_t file_len, size_t offset,
                               uint32_t *record, size_t *fields, size_t *next, size_t *place);
 
@@ -103,10 +108,12 @@ uint32_t peliranopi_write_line(uint32_t record, const uint8_t *text, size_t text
 
 /* Writes the payment purpose of the line with this number, counted from 0, of a file. The output has PELIRANOPI_PURPOSE_LEN_MAX bytes
  * or more, or it is refused.
+ * countries: as for peliranopi_judge.
  * written: how many bytes, at most PELIRANOPI_PURPOSE_LEN_MAX.
  * list: accepted, as after peliranopi_judge; refused, all words are 0.
  * output: accepted, the purpose stands at its start, and every other byte is as it was; refused, all bytes are as they were. */
-uint32_t peliranopi_write_purpose(const uint8_t *file, size_t file_len, size_t line,
+uint32_t peliranopi_write_purpose(const uint8_t *file, size_t file_len,
+                                  const uint8_t *countries, size_t countries_len, size_t line,
                                   uint32_t *list, size_t list_len,
                                   uint8_t *output, size_t output_len,
                                   size_t *written, size_t *place);

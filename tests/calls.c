@@ -10,9 +10,9 @@
 
 #define NONSENSE 0x5A5A5A5Au
 
-/* The example has 276 bytes and these line starts. */
+/* The example has 276 bytes and these line starts, and so has the same without the sender's phone. */
 static const uint32_t starts[6] = {0, 74, 116, 178, 208, 216};
-static uint8_t example[276];
+static uint8_t example[276], silent[276];
 
 static const char *called, *with;
 static int cases;
@@ -85,16 +85,17 @@ static int read_row(FILE *rows, char *row, int room)
     return 1;
 }
 
-/* Judges a file with a list of so many words, 4,096 at most, and holds the answer against `ok LINES PARCELS CENTS list SUM` or `no
- * NUMBER PLACE list 0`, where the sum is that of the list's words. */
-static void judge(const uint8_t *file, size_t length, size_t words, const char *due)
+/* Judges a file with these countries and a list of so many words, 4,096 at most, and holds the answer against `ok LINES PARCELS CENTS
+ * list SUM` or `no NUMBER PLACE list 0`, where the sum is that of the list's words. */
+static void judge(const uint8_t *file, size_t length, const char *countries, size_t words, const char *due)
 {
     static uint32_t list[4097];
     for (size_t line = 0; line < 4097; line++)
         list[line] = NONSENSE;
     size_t lines = NONSENSE, parcels = NONSENSE, at = NONSENSE;
     uint64_t cents = NONSENSE, sum = 0;
-    uint32_t refusal = peliranopi_judge(file, length, list, words, &lines, &parcels, &cents, &at);
+    uint32_t refusal = peliranopi_judge(file, length, (const uint8_t *)countries, strlen(countries), list, words,
+                                        &lines, &parcels, &cents, &at);
     for (size_t line = 0; line < words; line++)
         sum += list[line];
     char answer[128];
@@ -113,20 +114,22 @@ static void judge(const uint8_t *file, size_t length, size_t words, const char *
     is("the word behind the list", list[words], NONSENSE);
 }
 
-/* The stored files: each row of stdout is a name in data/, the words lent, and the answer. */
+/* The stored files: each row of stdout is a name in data/, the words lent, the countries or a hyphen for none, and the answer. */
 static void judge_cases(const char *folder)
 {
     static uint8_t file[1 << 18];
-    char row[256], name[256], path[512];
+    char row[256], name[256], countries[256], path[512];
     FILE *rows = open_in(folder, "stdout");
     while (read_row(rows, row, sizeof row)) {
         size_t words;
         int answer;
-        if (sscanf(row, "%255s %zu %n", name, &words, &answer) != 2 || words > 4096)
+        if (sscanf(row, "%255s %zu %255s %n", name, &words, countries, &answer) != 3 || words > 4096)
             fail(row);
+        if (strcmp(countries, "-") == 0)
+            countries[0] = '\0';
         open_case("judge", name);
         snprintf(path, sizeof path, "data/%s", name);
-        judge(file, read_in(folder, path, file, sizeof file), words, row + answer);
+        judge(file, read_in(folder, path, file, sizeof file), countries, words, row + answer);
     }
     fclose(rows);
 }
@@ -229,8 +232,9 @@ static void write_line_cases(void)
     write_line(PELIRANOPI_PRODUCT, "1;", product, 1, 128, 0, PELIRANOPI_FIELD_FORM, "", 1);
 }
 
-/* Writes the purpose of a line of the example into an output of so many bytes, 64 at most. */
-static void write_purpose(size_t line, size_t length, uint32_t refusal, const char *purpose)
+/* Writes the purpose of a line of the example, or of that without the sender's phone, into an output of so many bytes, 64 at most. */
+static void write_purpose(const uint8_t *file, const char *countries, size_t line, size_t length,
+                          uint32_t refusal, const char *purpose, size_t place)
 {
     uint8_t output[64];
     memset(output, '.', sizeof output);
@@ -238,25 +242,36 @@ static void write_purpose(size_t line, size_t length, uint32_t refusal, const ch
     for (size_t word = 0; word < 8; word++)
         list[word] = NONSENSE;
     size_t written = NONSENSE, at = NONSENSE;
-    is("the answer", peliranopi_write_purpose(example, sizeof example, line, list, 8, output, length, &written, &at), refusal);
+    uint32_t answer = peliranopi_write_purpose(file, sizeof example, (const uint8_t *)countries, strlen(countries), line,
+                                               list, 8, output, length, &written, &at);
+    is("the answer", answer, refusal);
     is("the bytes written", written, strlen(purpose));
-    is("the place", at, 0);
+    is("the place", at, place);
     output_is(output, sizeof output, purpose, 0);
     list_is(list, 8, refusal ? 0 : 6);
 }
 
 static void write_purpose_cases(void)
 {
+    const char *purpose = "1000000000000000000001/B";
     open_case("write_purpose", "the cash line");
-    write_purpose(5, 64, PELIRANOPI_ACCEPTED, "1000000000000000000001/B");
+    write_purpose(example, "", 5, 64, PELIRANOPI_ACCEPTED, purpose, 0);
     open_case("write_purpose", "an output of 35 bytes");
-    write_purpose(5, PELIRANOPI_PURPOSE_LEN_MAX, PELIRANOPI_ACCEPTED, "1000000000000000000001/B");
+    write_purpose(example, "", 5, PELIRANOPI_PURPOSE_LEN_MAX, PELIRANOPI_ACCEPTED, purpose, 0);
     open_case("write_purpose", "an output of 34 bytes");
-    write_purpose(5, PELIRANOPI_PURPOSE_LEN_MAX - 1, PELIRANOPI_OUTPUT_TOO_SHORT, "");
+    write_purpose(example, "", 5, PELIRANOPI_PURPOSE_LEN_MAX - 1, PELIRANOPI_OUTPUT_TOO_SHORT, "", 0);
     open_case("write_purpose", "a line that is no 006 line");
-    write_purpose(4, 64, PELIRANOPI_NOT_THERE, "");
+    write_purpose(example, "", 4, 64, PELIRANOPI_NOT_THERE, "", 0);
     open_case("write_purpose", "a line that is not there");
-    write_purpose(6, 64, PELIRANOPI_NOT_THERE, "");
+    write_purpose(example, "", 6, 64, PELIRANOPI_NOT_THERE, "", 0);
+    open_case("write_purpose", "a listed country and both contacts");
+    write_purpose(example, "CHAT", 5, 64, PELIRANOPI_ACCEPTED, purpose, 0);
+    open_case("write_purpose", "no phone and no countries");
+    write_purpose(silent, "", 5, 64, PELIRANOPI_ACCEPTED, purpose, 0);
+    open_case("write_purpose", "no phone and a listed country");
+    write_purpose(silent, "CHAT", 5, 64, PELIRANOPI_CONTACT_MISSING, "", 116);
+    open_case("write_purpose", "half a country");
+    write_purpose(silent, "CHA", 5, 64, PELIRANOPI_COUNTRIES_ODD, "", 0);
 }
 
 static void check_number(const char *symbols, uint32_t refusal, uint32_t kind, size_t place)
@@ -345,6 +360,9 @@ int main(int argc, char **argv)
     called = "calls";
     with = "the example";
     is("its length", read_in(argv[1], "data/example", example, sizeof example), sizeof example);
+    /* House 11 and no phone, in place of house 1 and phone 1. */
+    memcpy(silent, example, sizeof example);
+    memcpy(silent + 104, "11;;a@b", 7);
     judge_cases(argv[1]);
     read_line_cases();
     find_field_cases();

@@ -1,6 +1,6 @@
 #!/usr/bin/env python3
-"""Writes the stored files of crates/test_cases with the answers that document 01 gives them, worked out from how each file is made:
-python3 tests/cases.py [FOLDER] (default crates/test_cases)"""
+"""Writes the stored files of crates/test_cases with the answers that document 01 and request 1 of document 02 give them, worked out from
+how each file is made: python3 tests/cases.py [FOLDER] (default crates/test_cases)"""
 import os
 import sys
 
@@ -68,16 +68,17 @@ def place(lines, i, n=None):
 
 
 EXAMPLE = [header(), sender(), shipment(), parcel(10**21 + 1), product(), feature()]
+NO_CONTACTS = sender(f12="", f13="")
 
 
-def accepted(lines, words, cents):
+def accepted(lines, words, cents, countries=""):
     parcels = sum(l[0] == "040" for l in lines)
-    return render(lines), words, f"ok {len(lines)} {parcels} {cents} list {sum(starts(lines))}"
+    return render(lines), words, countries, f"ok {len(lines)} {parcels} {cents} list {sum(starts(lines))}"
 
 
-def refused(lines, number, at, words=4096):
+def refused(lines, number, at, words=4096, countries=""):
     data = lines if isinstance(lines, bytes) else render(lines)
-    return data, words, f"no {number} {at} list 0"
+    return data, words, countries, f"no {number} {at} list 0"
 
 
 def with_line(i, new):
@@ -119,6 +120,74 @@ def full_file(size):
     assert len(render(lines)) == size, (size, len(render(lines)))
     cents = 0
     return lines, cents
+
+
+def shipped(country, code):
+    """A shipment to a country, with its parcel and product."""
+    return [shipment(f20=country), parcel(code), product()]
+
+
+def two_senders(one, other):
+    """The first ships to DE, the second to AT."""
+    return EXAMPLE[:1] + [one] + shipped("DE", 1) + [other] + shipped("AT", 2)
+
+
+def contact_cases():
+    """Who needs phone and mail (19), and under which lists."""
+    for name, lacking in (("phone", sender(f12="")), ("mail", sender(f13="")), ("contacts", NO_CONTACTS)):
+        lines = with_line(1, lacking)
+        yield f"no_{name}", accepted(lines, 4096, 1250)
+        yield f"no_{name}_listed", refused(lines, 19, place(lines, 2), countries="AT")
+    yield "contacts_listed", accepted(EXAMPLE, 4096, 1250, "AT")
+    yield "contacts_of_spaces", accepted(with_line(1, sender(f12=" ", f13="  ")), 4096, 1250, "AT")
+    yield "phone_full", accepted(with_line(1, sender(f12="1" * 40)), 4096, 1250, "AT")
+    yield "phone_over", field_case(1, sender(f12="1" * 41, f13=""), 6, 12)
+    yield "mail_full", accepted(with_line(1, sender(f13="m" * 64)), 4096, 1250, "AT")
+    yield "mail_over", field_case(1, sender(f12="", f13="m" * 65), 6, 13)
+    # Which countries a list names.
+    lines = with_line(1, NO_CONTACTS)
+    for name, countries in (("second", "DEAT"), ("last", "CHLIGBNOISUSCAAT"), ("first", "ATDE")):
+        yield f"country_{name}", refused(lines, 19, place(lines, 2), countries=countries)
+    for name, countries in (("other", "DECH"), ("moved", "XATX"), ("turned", "TA"), ("small", "at"), ("half_small", "aTAt")):
+        yield f"countries_{name}", accepted(lines, 4096, 1250, countries)
+    lines = EXAMPLE[:1] + [NO_CONTACTS, shipment(f7="CH")] + EXAMPLE[3:]
+    yield "country_of_field_7", accepted(lines, 4096, 1250, "CH")
+    # Whose shipment it is.
+    two = EXAMPLE[:1] + [NO_CONTACTS] + shipped("DE", 1) + shipped("AT", 2)
+    yield "second_shipment_listed", refused(two, 19, place(two, 5), countries="AT")
+    yield "both_shipments_listed", refused(two, 19, place(two, 2), countries="ATDE")
+    lines = two_senders(sender(), NO_CONTACTS)
+    yield "first_sender_has", accepted(lines, 4096, 0, "DE")
+    yield "second_sender_lacks", refused(lines, 19, place(lines, 6), countries="AT")
+    lines = two_senders(NO_CONTACTS, sender())
+    yield "first_sender_lacks", refused(lines, 19, place(lines, 2), countries="DE")
+    yield "second_sender_has", accepted(lines, 4096, 0, "AT")
+
+
+def contact_order_cases():
+    """19 among the others: on its line behind 4 and 8 and in front of 11; lines in file order; 12 last."""
+    lines = EXAMPLE[:1] + [NO_CONTACTS, shipment(f20="DE")] + shipped("AT", 1)
+    yield "no_contacts_out_of_order", refused(lines, 4, place(lines, 3), countries="AT")
+    lines = EXAMPLE[:1] + [NO_CONTACTS, shipment(f39="x")] + EXAMPLE[3:]
+    yield "no_contacts_wrong_form", refused(lines, 8, place(lines, 2, 39), countries="AT")
+    lines = with_line(1, NO_CONTACTS)
+    yield "no_contacts_list_full", refused(lines, 19, place(lines, 2), 2, "AT")
+    yield "no_contacts_list_full_before", refused(lines, 11, place(lines, 1), 1, "AT")
+    yield "no_contacts_file_ends", refused(lines[:3], 19, place(lines, 2), countries="AT")
+    wrong = with_line(1, sender(f6="10101", f12=""))
+    yield "no_contacts_earlier_fault", refused(wrong, 8, place(wrong, 1, 6), countries="AT")
+    yield "no_contacts_later_fault", refused(lines[:5] + [feature("005")], 19, place(lines, 2), countries="AT")
+    yield "no_contacts_later_code", refused(lines[:4] + lines[3:], 19, place(lines, 2), countries="AT")
+
+
+def odd_cases():
+    """20: behind 1, in front of all others."""
+    yield "odd_one", refused(EXAMPLE, 20, 0, countries="A")
+    yield "odd_three", refused(with_line(1, NO_CONTACTS), 20, 0, countries="ATD")
+    yield "odd_empty", refused(b"", 20, 0, countries="ATDEX")
+    yield "odd_no_line_end", refused(render(EXAMPLE)[:-2], 20, 0, countries="A")
+    yield "odd_no_words", refused(EXAMPLE, 20, 0, 0, "A")
+    yield "odd_over_limit", refused(b" " * 65536, 1, 65535, countries="A")
 
 
 def cases():
@@ -235,16 +304,21 @@ def cases():
     # slips: a refused line is not skipped
     lines = e[:2] + [shipment(f16="x" * 41)] + e[3:]
     yield "overlong_shipment", refused(lines, 6, place(lines, 2, 16))
+    # 19, 20
+    yield from contact_cases()
+    yield from contact_order_cases()
+    yield from odd_cases()
 
 
 def main(folder):
     os.makedirs(f"{folder}/data", exist_ok=True)
     args, out = [], []
-    for name, (data, words, answer) in cases():
+    for name, (data, words, countries, answer) in cases():
         with open(f"{folder}/data/{name}", "wb") as f:
             f.write(data)
-        args += [str(words), name]
-        out.append(f"{name} {words} {answer}")
+        lent = countries or "-"
+        args += [str(words), lent, name]
+        out.append(f"{name} {words} {lent} {answer}")
     with open(f"{folder}/args", "w", encoding="ascii") as f:
         f.write("\n".join(args) + "\n")
     with open(f"{folder}/stdout", "w", encoding="ascii") as f:

@@ -93,6 +93,9 @@ pub struct Line {
 
 /// Judges a whole file.
 ///
+/// The countries are pairs of capitals, one behind the other. A sender with a shipment to one of
+/// them needs phone and mail; under an empty list nobody does. An odd length is a refusal.
+///
 /// Accepted, word i of the list is where line i starts, for each line, and every other word is 0;
 /// refused, all words are 0. A list with too few words for the lines is a refusal;
 /// [`LINES_MAX`](crate::LINES_MAX) words are always enough.
@@ -100,12 +103,25 @@ pub struct Line {
 /// ```
 /// let file = include_bytes!("../../examples/preadvice.csv");
 /// let mut list = [0; 8];
-/// let totals = peliranopi::judge(file, &mut list)?;
+/// let totals = peliranopi::judge(file, b"", &mut list)?;
 /// assert_eq!((totals.lines, totals.parcels, totals.cents), (6, 1, 1250));
 /// assert_eq!(list, [0, 74, 116, 178, 208, 216, 0, 0]);
 /// # Ok::<(), peliranopi::Refusal>(())
 /// ```
-pub fn judge(file: &[u8], list: &mut [u32]) -> Result<Totals, Refusal> {
+///
+/// A sender without phone and mail who ships to Austria:
+///
+/// ```
+/// use peliranopi::{judge, Reason};
+///
+/// let file = include_str!("../../examples/preadvice.csv").replace(";1;1;a@b;", ";1;;;");
+/// let mut list = [0; 8];
+/// assert!(judge(file.as_bytes(), b"", &mut list).is_ok());
+/// assert!(judge(file.as_bytes(), b"CHGBUS", &mut list).is_ok());
+/// let refused = judge(file.as_bytes(), b"CHAT", &mut list).unwrap_err();
+/// assert_eq!((refused.why, refused.place), (Reason::ContactMissing, 112));
+/// ```
+pub fn judge(file: &[u8], countries: &[u8], list: &mut [u32]) -> Result<Totals, Refusal> {
     let (mut lines, mut parcels, mut cents, mut place) = (0, 0, 0, 0);
     // SAFETY: each pointer comes with the length of its own slice or points to one local number;
     // the list and the numbers are borrowed for this call alone.
@@ -113,6 +129,8 @@ pub fn judge(file: &[u8], list: &mut [u32]) -> Result<Totals, Refusal> {
         sys::peliranopi_judge(
             file.as_ptr(),
             file.len(),
+            countries.as_ptr(),
+            countries.len(),
             list.as_mut_ptr(),
             list.len(),
             &mut lines,
@@ -129,8 +147,8 @@ pub fn judge(file: &[u8], list: &mut [u32]) -> Result<Totals, Refusal> {
     })
 }
 
-/// Judges the line that starts at the offset, alone: not its order, and not its identcode against
-/// others.
+/// Judges the line that starts at the offset, alone: not its order, not its identcode against
+/// others, and not whether a sender needs phone and mail.
 ///
 /// ```
 /// use peliranopi::{read_line, Record};
@@ -237,18 +255,20 @@ pub fn write_line(
 /// start, and answers how many bytes it has: at most [`PURPOSE_LEN_MAX`](crate::PURPOSE_LEN_MAX),
 /// and the output must have so many or more.
 ///
-/// The file is judged first, and the list is lent as for [`judge`]; here too its words are all 0
-/// after a refusal. Every other byte of the output stays as it was; on a refusal all of them do.
+/// The file is judged first, and the countries and the list are lent as for [`judge`]; here too the
+/// list's words are all 0 after a refusal. Every other byte of the output stays as it was; on a
+/// refusal all of them do.
 ///
 /// ```
 /// let file = include_bytes!("../../examples/preadvice.csv");
 /// let (mut list, mut output) = ([0; 8], [0; 35]);
-/// let written = peliranopi::write_purpose(file, 5, &mut list, &mut output)?;
+/// let written = peliranopi::write_purpose(file, b"", 5, &mut list, &mut output)?;
 /// assert_eq!(&output[..written], b"1000000000000000000001/B");
 /// # Ok::<(), peliranopi::Refusal>(())
 /// ```
 pub fn write_purpose(
     file: &[u8],
+    countries: &[u8],
     line: usize,
     list: &mut [u32],
     output: &mut [u8],
@@ -260,6 +280,8 @@ pub fn write_purpose(
         sys::peliranopi_write_purpose(
             file.as_ptr(),
             file.len(),
+            countries.as_ptr(),
+            countries.len(),
             line,
             list.as_mut_ptr(),
             list.len(),

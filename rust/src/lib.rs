@@ -16,14 +16,15 @@
 //! let file = include_bytes!("../../examples/preadvice.csv");
 //! let mut list = [0; LINES_MAX];
 //!
-//! let totals = judge(file, &mut list)?;
+//! // No countries are lent, so that no sender needs phone and mail.
+//! let totals = judge(file, b"", &mut list)?;
 //! assert_eq!((totals.lines, totals.parcels, totals.cents), (6, 1, 1250));
 //!
 //! // Line 5, counted from 0, is a cash line; field 3 is its amount.
 //! let amount = find_fields(file, list[5] as usize)?.nth(2).unwrap();
 //! assert_eq!(&file[amount], b"12.50");
 //!
-//! let refused = judge(&file[..200], &mut list).unwrap_err();
+//! let refused = judge(&file[..200], b"", &mut list).unwrap_err();
 //! assert_eq!(
 //!     refused.to_string(),
 //!     "refusal 2 at 200: a line's first byte that is no text byte is missing or not CR LF, \

@@ -87,6 +87,9 @@ refusals! {
     16 WrongLength: "a number has a wrong length", "0";
     17 WrongSymbol: "a symbol may not stand where it stands", "first such symbol";
     18 WrongCheck: "the check is wrong", "last symbol; for an IBAN 2";
+    19 ContactMissing: "a sender's phone or mail is empty, and this shipment's country is on the lent list",
+        "line start";
+    20 CountriesOdd: "the lent list of countries has an odd length", "0";
 }
 
 /// The row of the table with this number.

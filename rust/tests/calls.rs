@@ -8,12 +8,15 @@ const EXAMPLE: &[u8] = include_bytes!("../../examples/preadvice.csv");
 const STARTS: [usize; 7] = [0, 74, 116, 178, 208, 216, 276];
 
 fn judged(file: &[u8]) -> Result<Totals, Refusal> {
-    judge(file, &mut [0; 16])
+    judge(file, b"", &mut [0; 16])
 }
 
 /// The number and the place of an answer that must be a refusal.
 fn refusal<T: std::fmt::Debug>(answer: Result<T, Refusal>) -> (u32, usize) {
-    let refused = answer.unwrap_err();
+    told(answer.unwrap_err())
+}
+
+fn told(refused: Refusal) -> (u32, usize) {
     (refused.why.number(), refused.place)
 }
 
@@ -32,14 +35,14 @@ fn the_example_is_accepted_with_its_totals_and_line_starts() {
         parcels: 1,
         cents: 1250,
     };
-    assert_eq!(judge(EXAMPLE, &mut list), Ok(totals));
+    assert_eq!(judge(EXAMPLE, b"", &mut list), Ok(totals));
     assert_eq!(list, [0, 74, 116, 178, 208, 216, 0, 0]);
 }
 
 #[test]
 fn a_refused_file_leaves_only_zeros_in_the_list() {
     let mut list = [7; 8];
-    assert_eq!(refusal(judge(&EXAMPLE[..275], &mut list)), (2, 274));
+    assert_eq!(refusal(judge(&EXAMPLE[..275], b"", &mut list)), (2, 274));
     assert_eq!(list, [0; 8]);
 }
 
@@ -108,15 +111,60 @@ fn each_line_of_the_example_is_written_as_it_was_read() {
 #[test]
 fn the_purpose_of_the_cash_line_is_written() {
     let (mut list, mut output) = ([7; 8], [b'.'; 40]);
-    let written = write_purpose(EXAMPLE, 5, &mut list, &mut output);
+    let written = write_purpose(EXAMPLE, b"", 5, &mut list, &mut output);
     assert_eq!(written, Ok(24));
     assert_eq!(&output, b"1000000000000000000001/B................");
     assert_eq!(list, [0, 74, 116, 178, 208, 216, 0, 0]);
 
     let (mut list, mut output) = ([7; 8], [b'.'; 40]);
-    let answer = write_purpose(EXAMPLE, 4, &mut list, &mut output);
+    let answer = write_purpose(EXAMPLE, b"", 4, &mut list, &mut output);
     assert_eq!(refusal(answer), (15, 0));
     assert_eq!((list, output), ([0; 8], [b'.'; 40]));
+}
+
+/// The example without the sender's phone and mail.
+fn silent() -> Vec<u8> {
+    with(";1;1;a@b;", ";1;;;")
+}
+
+#[test]
+fn a_line_alone_does_not_ask_for_contacts() {
+    let silent = silent();
+    assert_eq!(read_line(&silent, 74).unwrap().next, 112);
+    assert_eq!(find_field(&silent, 74, 12), Ok(106..106));
+    let (mut text, mut ends) = (Vec::new(), Vec::new());
+    for field in find_fields(&silent, 74).unwrap() {
+        text.extend(&silent[field]);
+        ends.push(text.len());
+    }
+    let mut output = [0; 38];
+    assert_eq!(write_line(20, &text, &ends, &mut output, 0), Ok(38));
+    assert_eq!(output, silent[74..112]);
+}
+
+#[test]
+fn contacts_are_needed_for_the_lent_countries() {
+    let silent = silent();
+    for (countries, due) in [
+        ("", None),
+        ("DE", None),
+        ("XATX", None),
+        ("at", None),
+        ("AT", Some((19, 112))),
+        ("DEAT", Some((19, 112))),
+        ("ATD", Some((20, 0))),
+    ] {
+        let countries = countries.as_bytes();
+        let (mut list, mut output) = ([7; 8], [b'.'; 40]);
+        let answer = judge(&silent, countries, &mut list);
+        assert_eq!(answer.err().map(told), due);
+        assert_eq!(list == [0; 8], due.is_some());
+        let written = write_purpose(&silent, countries, 5, &mut list, &mut output);
+        assert_eq!(written.err().map(told), due);
+        assert_eq!(output == [b'.'; 40], due.is_some());
+        assert_eq!(list == [0; 8], due.is_some());
+    }
+    assert_eq!(judge(EXAMPLE, b"AT", &mut [0; 6]), judged(EXAMPLE));
 }
 
 /// A refusal of each number, with its place.
@@ -135,7 +183,7 @@ fn one_of_each() -> Vec<(Refusal, usize)> {
         (judged(&with("AT61", "AT16")).unwrap_err(), 242),
         (read_line(b"060;006;;;;;;;;;\r\n", 0).unwrap_err(), 0),
         (judged(&parcel_twice).unwrap_err(), 212),
-        (judge(EXAMPLE, &mut [0; 5]).unwrap_err(), 216),
+        (judge(EXAMPLE, b"", &mut [0; 5]).unwrap_err(), 216),
         (judged(&EXAMPLE[..208]).unwrap_err(), 208),
         (issue_number(body, &mut [0; 14]).unwrap_err(), 0),
         (write_line(50, b"10", &[1], &mut [], 0).unwrap_err(), 0),
@@ -143,6 +191,8 @@ fn one_of_each() -> Vec<(Refusal, usize)> {
         (check_iban(b"AT").unwrap_err(), 0),
         (check_number(b"09980000020041f").unwrap_err(), 14),
         (check_iban(b"AT161904300234573201").unwrap_err(), 2),
+        (judge(&silent(), b"AT", &mut [0; 6]).unwrap_err(), 112),
+        (judge(EXAMPLE, b"A", &mut [0; 6]).unwrap_err(), 0),
     ]
 }
 
@@ -193,8 +243,8 @@ fn the_calls_have_these_limits() {
     assert_eq!(refusal(judged(&spaces[1..])), (2, FILE_LEN_MAX));
 
     let mut output = [0; PURPOSE_LEN_MAX];
-    assert!(write_purpose(EXAMPLE, 5, &mut [0; 8], &mut output).is_ok());
-    let answer = write_purpose(EXAMPLE, 5, &mut [0; 8], &mut output[1..]);
+    assert!(write_purpose(EXAMPLE, b"", 5, &mut [0; 8], &mut output).is_ok());
+    let answer = write_purpose(EXAMPLE, b"", 5, &mut [0; 8], &mut output[1..]);
     assert_eq!(refusal(answer), (13, 0));
 
     for length in 0..=100 {
@@ -221,7 +271,7 @@ fn short_lines() -> [Vec<u8>; 6] {
     let (customer, date) = ("0000000000", "2021-02-23T13:37:50");
     let times = [(3, date), (4, date), (5, "1005"), (6, "5")];
     let header = [&[(1, customer), (2, "x")], &times[..]].concat();
-    let sender = [1, 5, 6, 7, 9, 11, 12, 13].map(|at| (at, if at == 5 { "BR" } else { "x" }));
+    let sender = [1, 5, 6, 7, 9, 11].map(|at| (at, if at == 5 { "BR" } else { "x" }));
     let shipment = [16, 20, 21, 22, 24, 26].map(|at| (at, if at == 20 { "BR" } else { "x" }));
     [
         line("010", 10, &header),
@@ -237,7 +287,7 @@ fn short_lines() -> [Vec<u8>; 6] {
 #[test]
 fn no_line_is_shorter_than_the_most_lines_ask_for() {
     let lines = short_lines();
-    assert_eq!(lines.each_ref().map(Vec::len), [69, 30, 52, 30, 7, 18]);
+    assert_eq!(lines.each_ref().map(Vec::len), [69, 28, 52, 30, 7, 18]);
     assert_eq!(LINES_MAX, FILE_LEN_MAX / 18);
     for line in &lines[3..] {
         assert!(read_line(line, 0).is_ok());
@@ -255,9 +305,9 @@ fn a_list_for_the_most_lines_is_never_full() {
     while file.len() + feature.len() <= FILE_LEN_MAX {
         file.extend(feature);
     }
-    let totals = judge(&file, &mut [0; LINES_MAX]).unwrap();
+    let totals = judge(&file, b"", &mut [0; LINES_MAX]).unwrap();
     assert_eq!(totals.lines, 3_635);
     file.extend(feature);
-    let answer = judge(&file, &mut [0; LINES_MAX]);
+    let answer = judge(&file, b"", &mut [0; LINES_MAX]);
     assert_eq!(refusal(answer), (1, FILE_LEN_MAX));
 }

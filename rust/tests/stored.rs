@@ -19,20 +19,22 @@ fn said<T>(answer: Result<T, Refusal>, accepted: impl FnOnce(T) -> String) -> St
     }
 }
 
-/// A row is a name in data/, the words lent, and the answer with the sum of the list's words.
+/// A row is a name in data/, the words lent, the countries or a hyphen for none, and the answer with
+/// the sum of the list's words.
 #[test]
 fn the_stored_files_are_judged_as_stored() {
     let due = rows(CASES, "stdout");
     let judged = due.iter().map(|row| {
         let mut words = row.split(' ');
-        let (name, count) = (words.next().unwrap(), words.next().unwrap());
+        let [name, count, lent] = std::array::from_fn(|_| words.next().unwrap());
+        let countries = if lent == "-" { "" } else { lent };
         let file = std::fs::read(format!("{CASES}/data/{name}")).unwrap();
         let mut list = vec![u32::MAX; count.parse().unwrap()];
-        let answer = said(judge(&file, &mut list), |totals| {
+        let answer = said(judge(&file, countries.as_bytes(), &mut list), |totals| {
             format!("ok {} {} {}", totals.lines, totals.parcels, totals.cents)
         });
         let sum: u64 = list.into_iter().map(u64::from).sum();
-        format!("{name} {count} {answer} list {sum}")
+        format!("{name} {count} {lent} {answer} list {sum}")
     });
     assert_eq!(judged.collect::<Vec<_>>(), due);
 }

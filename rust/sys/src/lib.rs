@@ -28,6 +28,8 @@ extern "C" {
     pub fn peliranopi_judge(
         file: *const u8,
         file_len: usize,
+        countries: *const u8,
+        countries_len: usize,
         list: *mut u32,
         list_len: usize,
         lines: *mut usize,
@@ -76,6 +78,8 @@ extern "C" {
     pub fn peliranopi_write_purpose(
         file: *const u8,
         file_len: usize,
+        countries: *const u8,
+        countries_len: usize,
         line: usize,
         list: *mut u32,
         list_len: usize,

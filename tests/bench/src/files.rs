@@ -36,6 +36,8 @@ pub enum Kind {
     Typical,
     /// The same with a feature code in its last line that there is not.
     RefusedAtItsEnd,
+    /// The typical file, but its senders have neither phone nor mail.
+    WithoutContacts,
     /// One shipment of as many parcels as there is room for.
     Parcels(Codes),
 }
@@ -57,13 +59,14 @@ pub enum Codes {
 /// A file of this kind and size.
 pub fn file(kind: Kind, size: usize) -> Vec<u8> {
     match kind {
-        Kind::Typical => typical(size),
+        Kind::Typical => typical(size, sender),
         Kind::RefusedAtItsEnd => refused_at_its_end(size),
+        Kind::WithoutContacts => typical(size, sender_without_contacts),
         Kind::Parcels(codes) => parcels(codes, size),
     }
 }
 
-fn typical(size: usize) -> Vec<u8> {
+fn typical(size: usize, sender: fn(&mut Rng) -> Vec<u8>) -> Vec<u8> {
     let mut rng = Rng::new(SEED);
     let mut file = [header(), sender(&mut rng)].concat();
     loop {
@@ -89,7 +92,7 @@ fn typical(size: usize) -> Vec<u8> {
 }
 
 fn refused_at_its_end(size: usize) -> Vec<u8> {
-    let mut file = typical(size);
+    let mut file = typical(size, sender);
     let end = file.windows(4).rposition(|part| part == b"\n060");
     let code = end.expect("the last line is a feature") + 5;
     file[code..code + 3].copy_from_slice(b"005");
@@ -154,6 +157,14 @@ fn sender(rng: &mut Rng) -> Vec<u8> {
         "020;{name} GmbH;;;;AT;{code};{town};;{street};;{house};{phone};office@{name}.at;;;\r\n"
     )
     .into_bytes()
+}
+
+/// The same sender, so that what follows is drawn alike.
+fn sender_without_contacts(rng: &mut Rng) -> Vec<u8> {
+    let line = sender(rng);
+    let mut parts: Vec<&[u8]> = line.split(|byte| *byte == b';').collect();
+    (parts[12], parts[13]) = (b"", b"");
+    parts.join(&b';')
 }
 
 fn shipment(rng: &mut Rng) -> Vec<u8> {

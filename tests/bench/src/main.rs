@@ -24,32 +24,30 @@ const MILLION: usize = 1_000_000;
 const ROUNDS: usize = 30;
 const ROUNDS_OF_A_MILLION: usize = 5;
 
-const KINDS: [(&str, Kind); 9] = [
-    ("typical", Kind::Typical),
-    ("typical, refused at its last line", Kind::RefusedAtItsEnd),
-    ("parcels, identcodes drawn", Kind::Parcels(Codes::Drawn)),
-    (
-        "parcels, last digits rise",
-        Kind::Parcels(Codes::LastDigitsRise),
-    ),
-    (
-        "parcels, last digits fall",
-        Kind::Parcels(Codes::LastDigitsFall),
-    ),
-    (
-        "parcels, first digits rise",
-        Kind::Parcels(Codes::FirstDigitsRise),
-    ),
-    (
-        "parcels, first digits fall",
-        Kind::Parcels(Codes::FirstDigitsFall),
-    ),
-    (
-        "parcels, last two alike",
-        Kind::Parcels(Codes::LastTwoAlike),
-    ),
-    ("parcels, deep tree", Kind::Parcels(Codes::DeepTree)),
+/// Thirty countries, to none of which a file here ships.
+const COUNTRIES: &[u8] = b"ALARAUBABRCACHCLCNGBGEILINISJPKRLIMDMEMKMXNONZRSSGTRUAUSXKZA";
+
+/// A file by its name and kind, and the countries that are lent with it.
+type Row = (&'static str, Kind, &'static [u8]);
+
+#[rustfmt::skip]
+const ROWS: [Row; 11] = [
+    ("typical", Kind::Typical, b""),
+    ("typical, refused at its last line", Kind::RefusedAtItsEnd, b""),
+    ("typical, 30 countries lent", Kind::Typical, COUNTRIES),
+    ("typical without contacts, 30 countries lent", Kind::WithoutContacts, COUNTRIES),
+    ("parcels, identcodes drawn", Kind::Parcels(Codes::Drawn), b""),
+    ("parcels, last digits rise", Kind::Parcels(Codes::LastDigitsRise), b""),
+    ("parcels, last digits fall", Kind::Parcels(Codes::LastDigitsFall), b""),
+    ("parcels, first digits rise", Kind::Parcels(Codes::FirstDigitsRise), b""),
+    ("parcels, first digits fall", Kind::Parcels(Codes::FirstDigitsFall), b""),
+    ("parcels, last two alike", Kind::Parcels(Codes::LastTwoAlike), b""),
+    ("parcels, deep tree", Kind::Parcels(Codes::DeepTree), b""),
 ];
+
+/// The rows whose parts are measured as well. From the second on the files are crafted.
+const TYPICAL: usize = 0;
+const PARCELS: usize = 4;
 
 fn main() {
     let measured = measure_files();
@@ -77,15 +75,15 @@ impl Judged {
 }
 
 /// Judging whole files, long and short.
-fn measure_files() -> [Judged; KINDS.len()] {
-    KINDS.map(|(name, kind)| {
+fn measure_files() -> [Judged; ROWS.len()] {
+    ROWS.map(|(name, kind, countries)| {
         let (long, short) = (file(kind, LONG), file(kind, SHORT));
         Judged {
             name,
             lines: lines(&long).len(),
-            answer: answer(&long),
-            long: judged(&long),
-            short: judged(&short),
+            answer: answer(&long, countries),
+            long: judged(&long, countries),
+            short: judged(&short, countries),
         }
     })
 }
@@ -154,8 +152,8 @@ fn print_growth(measured: &[Judged]) {
 
 /// The first targets, and how far the library is from them.
 fn print_targets(measured: &[Judged]) {
-    let typical = &measured[0];
-    let crafted = measured[2..].iter();
+    let typical = &measured[TYPICAL];
+    let crafted = measured[PARCELS..].iter();
     let worst = crafted.max_by(|one, other| one.growth().total_cmp(&other.growth()));
     let worst = worst.expect("there are crafted files");
     let target = |name: String, most: f64, measured: f64| {
@@ -189,23 +187,29 @@ fn row(cells: &[String]) {
 }
 
 /// The library's answer in a word.
-fn answer(file: &[u8]) -> String {
-    match peliranopi::judge(file, &mut [0; WORDS]) {
+fn answer(file: &[u8], countries: &[u8]) -> String {
+    match peliranopi::judge(file, countries, &mut [0; WORDS]) {
         Ok(_) => "accepted".to_string(),
         Err(refused) => format!("refused by {}", refused.why.number()),
     }
 }
 
-/// Microseconds to judge a file: the library's, the reference's, and csv-core's for splitting it.
-fn judged(file: &[u8]) -> [f64; 3] {
+/// Microseconds to judge a file under countries: the library's, the reference's, and csv-core's for splitting it.
+fn judged(file: &[u8], countries: &[u8]) -> [f64; 3] {
     let (mut list, mut other_list) = (vec![u32::MAX; WORDS], vec![u32::MAX; WORDS]);
     let mut splitter = Splitter::new();
-    require_same_work(file, &mut list, &mut other_list, &mut splitter);
+    require_same_work(file, countries, &mut list, &mut other_list, &mut splitter);
     best(
         ROUNDS,
         [
-            &mut || _ = black_box(peliranopi::judge(black_box(file), &mut list)),
-            &mut || _ = black_box(reference::file::judge(black_box(file), &mut other_list)),
+            &mut || _ = black_box(peliranopi::judge(black_box(file), countries, &mut list)),
+            &mut || {
+                _ = black_box(reference::file::judge(
+                    black_box(file),
+                    countries,
+                    &mut other_list,
+                ))
+            },
             &mut || _ = black_box(splitter.split(black_box(file))),
         ],
     )
@@ -214,14 +218,15 @@ fn judged(file: &[u8]) -> [f64; 3] {
 /// The same answer, list and number of parts.
 fn require_same_work(
     file: &[u8],
+    countries: &[u8],
     list: &mut [u32],
     other_list: &mut [u32],
     splitter: &mut Splitter,
 ) {
-    let answer = peliranopi::judge(file, list)
+    let answer = peliranopi::judge(file, countries, list)
         .map(|totals| (totals.lines, totals.parcels, totals.cents))
         .map_err(|refused| (refused.why.number(), refused.place));
-    let other = reference::file::judge(file, other_list)
+    let other = reference::file::judge(file, countries, other_list)
         .map(|totals| (totals.lines, totals.parcels, totals.cents))
         .map_err(|refusal| (refusal.number, refusal.place));
     assert_eq!(answer, other);
@@ -257,15 +262,15 @@ fn measure_parts() {
         "ns a byte",
         "Share of judging",
     ]);
-    for (name, kind) in [KINDS[0], KINDS[2]] {
+    for (name, kind, _) in [ROWS[TYPICAL], ROWS[PARCELS]] {
         measure_parts_of(name, &file(kind, LONG));
     }
-    let cleared = format!("{:.0}", judged(b"")[0]);
+    let cleared = format!("{:.0}", judged(b"", b"")[0]);
     println!("| empty | judged: the list cleared twice | 0 | 0 | {cleared} | | |");
 }
 
 fn measure_parts_of(name: &str, file: &[u8]) {
-    let whole = judged(file)[0];
+    let whole = judged(file, b"")[0];
     let print = |part: &str, lines: &[Range<usize>], micros: f64| {
         let bytes: usize = lines.iter().map(Range::len).sum();
         row(&[

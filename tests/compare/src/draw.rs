@@ -2,8 +2,8 @@
 
 use crate::Call;
 use reference::generate::{
-    damaged_iban, damaged_number, file_case, issue_call, line_call, purpose_call, valid_iban,
-    valid_number, writer_call, Rng,
+    countries, damaged_iban, damaged_number, file_case, issue_call, line_call, purpose_call,
+    valid_iban, valid_number, writer_call, Rng,
 };
 
 /// The calls of the library.
@@ -41,23 +41,22 @@ pub fn call(kind: Kind, rng: &mut Rng) -> Call {
 
 /// Mostly a generated file; some of bytes of any kind, and some far over the limit.
 fn file(rng: &mut Rng) -> Call {
-    let words = rng.below(10);
-    match rng.below(200) {
-        0..=3 => Call::File {
-            file: any_bytes(rng, 200),
-            words,
-        },
-        4 => Call::File {
-            file: vec![rng.byte(); rng.between(65_535, 200_000)],
-            words,
-        },
+    let file = match rng.below(200) {
+        0..=3 => any_bytes(rng, 200),
+        4 => vec![rng.byte(); rng.between(65_535, 200_000)],
         _ => {
             let case = file_case(rng);
-            Call::File {
+            return Call::File {
                 file: case.file,
+                countries: case.countries,
                 words: case.words,
-            }
+            };
         }
+    };
+    Call::File {
+        countries: countries(rng, &file),
+        file,
+        words: rng.below(10),
     }
 }
 

@@ -10,8 +10,15 @@ use reference::generate::{IssueCall, LineCall, PurposeCall, Rng, WriterCall};
 /// A call with all that goes into it.
 #[derive(Clone, Debug)]
 pub enum Call {
-    File { file: Vec<u8>, words: usize },
-    Line { file: Vec<u8>, offset: usize },
+    File {
+        file: Vec<u8>,
+        countries: Vec<u8>,
+        words: usize,
+    },
+    Line {
+        file: Vec<u8>,
+        offset: usize,
+    },
     Field(LineCall),
     Write(WriterCall),
     Purpose(PurposeCall),
@@ -30,6 +37,15 @@ impl Call {
             Call::Purpose(call) => &call.file,
             Call::Check(symbols) | Call::Iban(symbols) => symbols,
             Call::Issue(call) => &call.body,
+        }
+    }
+
+    /// The countries that are lent.
+    pub fn countries(&self) -> &[u8] {
+        match self {
+            Call::File { countries, .. } => countries,
+            Call::Purpose(call) => &call.countries,
+            _ => &[],
         }
     }
 
@@ -63,7 +79,12 @@ impl Call {
     /// What goes in beside the bytes, for a report.
     pub fn arguments(&self) -> String {
         match self {
-            Call::File { words, .. } => format!("list of {words}"),
+            Call::File {
+                countries, words, ..
+            } => format!(
+                "countries \"{}\", list of {words}",
+                countries.escape_ascii()
+            ),
             Call::Line { offset, .. } => format!("offset {offset}"),
             Call::Field(call) => format!("offset {}, field {}", call.offset, call.number),
             Call::Write(call) => format!(
@@ -71,8 +92,11 @@ impl Call {
                 call.record, call.ends, call.output, call.fill
             ),
             Call::Purpose(call) => format!(
-                "line {}, list of {}, output of {}",
-                call.line, call.words, call.output
+                "countries \"{}\", line {}, list of {}, output of {}",
+                call.countries.escape_ascii(),
+                call.line,
+                call.words,
+                call.output
             ),
             Call::Issue(call) => format!("output of {}", call.output),
             Call::Check(_) | Call::Iban(_) => "nothing else".to_string(),
@@ -93,8 +117,9 @@ pub struct Left {
     pub place: usize,
     /// The other numbers behind pointers, in the header's order.
     pub values: Vec<u64>,
-    /// The bytes and ends that were only read.
+    /// The bytes, countries and ends that were only read.
     pub input: Vec<u8>,
+    pub countries: Vec<u8>,
     pub ends: Vec<usize>,
     /// The list and the output, each between its margins.
     pub words: Vec<u32>,
@@ -114,6 +139,7 @@ impl Left {
             place: NONSENSE,
             values: Vec::new(),
             input: call.input().to_vec(),
+            countries: call.countries().to_vec(),
             ends: call.ends().to_vec(),
             words: any(call.words()).iter().map(|word| *word as u32).collect(),
             output: any(call.output()).iter().map(|word| *word as u8).collect(),
@@ -138,6 +164,7 @@ pub fn difference(library: &Left, promised: &Left) -> Option<String> {
     }
     let found = [
         first("input", &library.input, &promised.input, 0),
+        first("countries", &library.countries, &promised.countries, 0),
         first("ends", &library.ends, &promised.ends, 0),
         first("list", &library.words, &promised.words, MARGIN),
         first("output", &library.output, &promised.output, MARGIN),

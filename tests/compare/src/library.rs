@@ -30,6 +30,8 @@ fn judge(left: &mut Left) {
         sys::peliranopi_judge(
             left.input.as_ptr(),
             left.input.len(),
+            left.countries.as_ptr(),
+            left.countries.len(),
             list.as_mut_ptr(),
             list.len(),
             &mut lines,
@@ -105,6 +107,8 @@ fn write_purpose(left: &mut Left, line: usize) {
         sys::peliranopi_write_purpose(
             left.input.as_ptr(),
             left.input.len(),
+            left.countries.as_ptr(),
+            left.countries.len(),
             line,
             list.as_mut_ptr(),
             list.len(),

@@ -26,7 +26,7 @@ const SHARES: [Share; 8] = [
         kind: Kind::File,
         name: "files",
         share: 30,
-        refusals: &[1, 2, 3, 4, 5, 6, 7, 8, 9, 10, 11, 12],
+        refusals: &[1, 2, 3, 4, 5, 6, 7, 8, 9, 10, 11, 12, 19, 20],
     },
     Share {
         kind: Kind::Line,
@@ -50,7 +50,7 @@ const SHARES: [Share; 8] = [
         kind: Kind::Purpose,
         name: "purposes",
         share: 15,
-        refusals: &[1, 2, 3, 4, 5, 6, 7, 8, 9, 10, 11, 12, 13, 15],
+        refusals: &[1, 2, 3, 4, 5, 6, 7, 8, 9, 10, 11, 12, 13, 15, 19, 20],
     },
     Share {
         kind: Kind::Check,
@@ -205,16 +205,19 @@ fn check_itself(seed: u64) {
         "no call of SHARES gives one of these"
     );
     for share in &SHARES {
-        let (call, before) = drawn(share.kind, seed, 0);
-        let left = library::left(&call, before);
-        for wrong in wrong_in_one_part(&left) {
-            assert!(
-                difference(&wrong, &left).is_some(),
-                "a wrong {:?} is not noticed",
-                share.kind
-            );
+        // Some calls lend no countries, or have no ends.
+        for index in 0..20 {
+            let (call, before) = drawn(share.kind, seed, index);
+            let left = library::left(&call, before);
+            for wrong in wrong_in_one_part(&left) {
+                assert!(
+                    difference(&wrong, &left).is_some(),
+                    "a wrong {:?} is not noticed",
+                    share.kind
+                );
+            }
+            assert_eq!(difference(&left, &left.clone()), None);
         }
-        assert_eq!(difference(&left, &left.clone()), None);
         assert_eq!(
             Tally::default().missing(share.refusals).len(),
             share.refusals.len() + 1
@@ -239,6 +242,9 @@ fn wrong_in_one_part(left: &Left) -> Vec<Left> {
         let last = |length: usize| if end { length - 1 } else { 0 };
         if !left.input.is_empty() {
             changed(&|wrong| wrong.input[last(left.input.len())] ^= 1);
+        }
+        if !left.countries.is_empty() {
+            changed(&|wrong| wrong.countries[last(left.countries.len())] ^= 1);
         }
         if !left.ends.is_empty() {
             changed(&|wrong| wrong.ends[last(left.ends.len())] ^= 1);

@@ -40,8 +40,10 @@ fn values(call: &Call, left: &mut Left) -> Result<Vec<u64>, Refusal> {
     let list = lent(&mut left.words);
     let output = lent(&mut left.output);
     match call {
-        Call::File { file, .. } => {
-            let totals = judge(file, list)?;
+        Call::File {
+            file, countries, ..
+        } => {
+            let totals = judge(file, countries, list)?;
             Ok(vec![
                 totals.lines as u64,
                 totals.parcels as u64,
@@ -64,7 +66,10 @@ fn values(call: &Call, left: &mut Left) -> Result<Vec<u64>, Refusal> {
             let written = write_line(call.record, &call.text, &call.ends, output, call.fill)?;
             Ok(vec![written as u64])
         }
-        Call::Purpose(call) => Ok(vec![purpose(&call.file, call.line, list, output)? as u64]),
+        Call::Purpose(call) => {
+            let written = purpose(&call.file, &call.countries, call.line, list, output)?;
+            Ok(vec![written as u64])
+        }
         Call::Check(symbols) => match check_number(symbols)? {
             Kind::Tracking => Ok(vec![1]),
             Kind::Label => Ok(vec![2]),

@@ -5,14 +5,25 @@ use reference::generate::{IssueCall, LineCall, PurposeCall, WriterCall};
 /// A call with the sizes of what is lent.
 #[derive(Clone, Debug)]
 pub enum Call {
-    Judge { file: Vec<u8>, words: usize },
-    ReadLine { file: Vec<u8>, offset: usize },
+    Judge {
+        file: Vec<u8>,
+        countries: Vec<u8>,
+        words: usize,
+    },
+    ReadLine {
+        file: Vec<u8>,
+        offset: usize,
+    },
     FindField(LineCall),
     WriteLine(WriterCall),
     WritePurpose(PurposeCall),
-    CheckNumber { symbols: Vec<u8> },
+    CheckNumber {
+        symbols: Vec<u8>,
+    },
     IssueNumber(IssueCall),
-    CheckIban { symbols: Vec<u8> },
+    CheckIban {
+        symbols: Vec<u8>,
+    },
 }
 
 impl Call {

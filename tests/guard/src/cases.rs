@@ -4,13 +4,13 @@
 use crate::call::Call;
 use reference::generate::*;
 
-/// Six lines that are accepted, the last of them a cash line.
+/// Six lines that are accepted, the last of them a cash line. The shipment goes to AT.
 const EXAMPLE: &[u8] = include_bytes!("../../../examples/preadvice.csv");
 /// Where they start.
 const STARTS: [usize; 6] = [0, 74, 116, 178, 208, 216];
 const CASH_LINE: usize = 5;
 
-/// Bounds of the lengths of numbers and outputs, and of lists.
+/// Bounds of the lengths of numbers, countries and outputs, and of lists.
 const BYTES: usize = 64;
 const WORDS: usize = 40;
 
@@ -20,6 +20,7 @@ pub fn all(rng: &mut Rng) -> Vec<Call> {
     issues(rng, &mut calls);
     cut_files(rng, &mut calls);
     lists(rng, &mut calls);
+    lent_countries(rng, &mut calls);
     whole_files(rng, &mut calls);
     files_at_the_limit(rng, &mut calls);
     lines(rng, &mut calls);
@@ -79,6 +80,7 @@ fn cut_files(rng: &mut Rng, calls: &mut Vec<Call>) {
             let file = whole[..length].to_vec();
             calls.push(Call::Judge {
                 file: file.clone(),
+                countries: Vec::new(),
                 words: WORDS,
             });
             let offset = last_line(&file);
@@ -110,10 +112,12 @@ fn lists(rng: &mut Rng, calls: &mut Vec<Call>) {
         for words in 0..=WORDS {
             calls.push(Call::Judge {
                 file: file.clone(),
+                countries: Vec::new(),
                 words,
             });
             calls.push(Call::WritePurpose(PurposeCall {
                 file: file.clone(),
+                countries: Vec::new(),
                 line: CASH_LINE,
                 words,
                 output: 35,
@@ -122,10 +126,44 @@ fn lists(rng: &mut Rng, calls: &mut Vec<Call>) {
     }
 }
 
+/// Countries of every length that name none, or in their last pair the shipment's, with contacts and
+/// without.
+fn lent_countries(rng: &mut Rng, calls: &mut Vec<Call>) {
+    let silent = String::from_utf8_lossy(EXAMPLE).replace(";1;1;a@b;", ";1;;;");
+    for file in [EXAMPLE, silent.as_bytes()] {
+        for length in 0..=BYTES {
+            let none = vec![b'X'; length];
+            let mut last = none.clone();
+            if let Some(pair) = last.last_chunk_mut() {
+                *pair = *b"AT";
+            }
+            let any = (0..length).map(|_| rng.byte()).collect();
+            for countries in [none, last, any] {
+                calls.push(Call::Judge {
+                    file: file.to_vec(),
+                    countries: countries.clone(),
+                    words: WORDS,
+                });
+                calls.push(Call::WritePurpose(PurposeCall {
+                    file: file.to_vec(),
+                    countries,
+                    line: CASH_LINE,
+                    words: WORDS,
+                    output: 35,
+                }));
+            }
+        }
+    }
+}
+
 fn whole_files(rng: &mut Rng, calls: &mut Vec<Call>) {
     for _ in 0..200 {
-        let FileCase { file, words, .. } = file_case(rng);
-        calls.push(Call::Judge { file, words });
+        let case = file_case(rng);
+        calls.push(Call::Judge {
+            file: case.file,
+            countries: case.countries,
+            words: case.words,
+        });
     }
 }
 
@@ -146,10 +184,12 @@ fn files_at_the_limit(rng: &mut Rng, calls: &mut Vec<Call>) {
             let offset = rng.pick(&[last_line(&file), length - 1, length]);
             calls.push(Call::Judge {
                 file: file.clone(),
+                countries: b"AT".to_vec(),
                 words: 4_096,
             });
             calls.push(Call::WritePurpose(PurposeCall {
                 file: file.clone(),
+                countries: b"AT".to_vec(),
                 line: CASH_LINE,
                 words: 4_096,
                 output: 35,
@@ -244,6 +284,7 @@ fn purposes(rng: &mut Rng, calls: &mut Vec<Call>) {
         for line in (0..=6).chain([usize::MAX]) {
             calls.push(Call::WritePurpose(PurposeCall {
                 file: EXAMPLE.to_vec(),
+                countries: Vec::new(),
                 line,
                 words: 6,
                 output,

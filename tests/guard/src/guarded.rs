@@ -5,9 +5,9 @@ use crate::pages::{Lent, Room, Side};
 use peliranopi::sys;
 use reference::generate::{IssueCall, LineCall, PurposeCall, WriterCall};
 
-/// A room for each buffer of a call: six at most, the single numbers among them.
+/// A room for each buffer of a call: seven at most, the single numbers among them.
 pub struct Desk {
-    rooms: [Room; 6],
+    rooms: [Room; 7],
     used: usize,
     side: Side,
 }
@@ -27,7 +27,11 @@ impl Desk {
         self.used = 0;
         self.side = side;
         match call {
-            Call::Judge { file, words } => self.judge(file, *words),
+            Call::Judge {
+                file,
+                countries,
+                words,
+            } => self.judge(file, countries, *words),
             Call::ReadLine { file, offset } => self.read_line(file, *offset),
             Call::FindField(call) => self.find_field(call),
             Call::WriteLine(call) => self.write_line(call),
@@ -48,8 +52,9 @@ impl Desk {
         self.lay(&[WORD as usize])
     }
 
-    fn judge(&mut self, bytes: &[u8], words: usize) -> Answer {
+    fn judge(&mut self, bytes: &[u8], pairs: &[u8], words: usize) -> Answer {
         let file = self.lay(bytes);
+        let countries = self.lay(pairs);
         let list = self.lay(&vec![WORD; words]);
         let (lines, parcels, place) = (self.number(), self.number(), self.number());
         let cents = self.lay(&[u64::from(WORD)]);
@@ -59,6 +64,8 @@ impl Desk {
             sys::peliranopi_judge(
                 file.start,
                 file.length,
+                countries.start,
+                countries.length,
                 list.start,
                 list.length,
                 lines.start,
@@ -68,6 +75,7 @@ impl Desk {
             )
         };
         stayed(&file, bytes);
+        stayed(&countries, pairs);
         let numbers = vec![value(lines), value(parcels), cents.content()[0]];
         answer("judge", refusal, place, numbers).with_list(list)
     }
@@ -140,6 +148,7 @@ impl Desk {
 
     fn write_purpose(&mut self, call: &PurposeCall) -> Answer {
         let file = self.lay(&call.file);
+        let countries = self.lay(&call.countries);
         let list = self.lay(&vec![WORD; call.words]);
         let output = self.lay(&vec![BYTE; call.output]);
         let (written, place) = (self.number(), self.number());
@@ -148,6 +157,8 @@ impl Desk {
             sys::peliranopi_write_purpose(
                 file.start,
                 file.length,
+                countries.start,
+                countries.length,
                 call.line,
                 list.start,
                 list.length,
@@ -158,6 +169,7 @@ impl Desk {
             )
         };
         stayed(&file, &call.file);
+        stayed(&countries, &call.countries);
         answer("write_purpose", refusal, place, vec![value(written)])
             .with_list(list)
             .with_output(output)

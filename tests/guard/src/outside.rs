@@ -12,7 +12,7 @@ type Try = fn(Lent<u8>);
 
 const BODY: &[u8; 14] = b"09980000020041";
 
-const INSIDE: [(&str, Side, Try); 4] = [
+const INSIDE: [(&str, Side, Try); 5] = [
     ("reads the last byte", Side::Behind, |lent| {
         read(lent.start.wrapping_add(13))
     }),
@@ -25,9 +25,12 @@ const INSIDE: [(&str, Side, Try); 4] = [
     ("checks 14 symbols", Side::Behind, |lent| {
         check(lent.start, 14)
     }),
+    ("lends 7 countries", Side::Behind, |lent| {
+        lend_countries(lent.start, 14)
+    }),
 ];
 
-const OUTSIDE: [(&str, Side, Try); 7] = [
+const OUTSIDE: [(&str, Side, Try); 9] = [
     ("reads one byte past", Side::Behind, |lent| {
         read(lent.start.wrapping_add(14))
     }),
@@ -48,6 +51,12 @@ const OUTSIDE: [(&str, Side, Try); 7] = [
     }),
     ("issues one byte past", Side::Behind, |lent| {
         issue(lent.start, 15)
+    }),
+    ("lends one country past", Side::Behind, |lent| {
+        lend_countries(lent.start, 16)
+    }),
+    ("lends one country before", Side::Before, |lent| {
+        lend_countries(lent.start.wrapping_sub(2), 16)
     }),
 ];
 
@@ -97,6 +106,29 @@ fn issue(output: *mut u8, length: usize) {
             output,
             length,
             &mut written,
+            &mut place,
+        )
+    };
+}
+
+/// Judges a file whose sender has neither phone nor mail, so that its country is looked for in every
+/// pair.
+fn lend_countries(countries: *const u8, length: usize) {
+    let file = include_str!("../../../examples/preadvice.csv").replace(";1;1;a@b;", ";1;;;");
+    let mut list = [0; 6];
+    let (mut lines, mut parcels, mut cents, mut place) = (0, 0, 0, 0);
+    // SAFETY: as for `read`, where the length is not that of the buffer.
+    unsafe {
+        sys::peliranopi_judge(
+            file.as_ptr(),
+            file.len(),
+            countries,
+            length,
+            list.as_mut_ptr(),
+            list.len(),
+            &mut lines,
+            &mut parcels,
+            &mut cents,
             &mut place,
         )
     };

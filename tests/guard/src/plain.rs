@@ -38,8 +38,10 @@ type Named = (&'static str, Result<Vec<u64>, (Refusal, usize)>);
 
 fn result(call: &Call, list: &mut [u32], output: &mut [u8]) -> Named {
     match call {
-        Call::Judge { file, .. } => {
-            let totals = peliranopi::judge(file, list);
+        Call::Judge {
+            file, countries, ..
+        } => {
+            let totals = peliranopi::judge(file, countries, list);
             let numbers = totals.map(|t| [t.lines as u64, t.parcels as u64, t.cents]);
             named("judge", numbers)
         }
@@ -61,7 +63,8 @@ fn result(call: &Call, list: &mut [u32], output: &mut [u8]) -> Named {
             named("write_line", written.map(|count| [count as u64]))
         }
         Call::WritePurpose(call) => {
-            let written = peliranopi::write_purpose(&call.file, call.line, list, output);
+            let (file, countries) = (&call.file, &call.countries);
+            let written = peliranopi::write_purpose(file, countries, call.line, list, output);
             named("write_purpose", written.map(|count| [count as u64]))
         }
         Call::CheckNumber { symbols } => {

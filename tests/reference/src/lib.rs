@@ -1,4 +1,5 @@
-//! A second, independent implementation of document 01, for tests only.
+//! A second, independent implementation of document 01 and of request 1 of document 02, for tests
+//! only.
 //!
 //! It is written from the paper alone, in ways that are easy to believe. Nothing here is proved: it
 //! is a partner to compare with. `generate` draws the inputs for such comparisons.
@@ -6,7 +7,7 @@
 //! ```
 //! let file = b"010;\r\n";
 //! let mut list = [0; 8];
-//! let answer = reference::file::judge(file, &mut list);
+//! let answer = reference::file::judge(file, b"", &mut list);
 //! assert_eq!(answer, Err(reference::Refusal { number: 5, place: 0 }));
 //! ```
 

@@ -83,11 +83,12 @@ impl Record {
         }
     }
 
-    /// "R = must be filled": the numbers of these fields.
+    /// "R = must be filled": the numbers of these fields. Not 020.12 and 020.13: "A line read or
+    /// written alone no longer asks for the two" (document 02, request 1).
     pub fn required(self) -> &'static [usize] {
         match self {
             R010 => &[1, 2, 3, 4, 5, 6],
-            R020 => &[1, 5, 6, 7, 9, 11, 12, 13],
+            R020 => &[1, 5, 6, 7, 9, 11],
             R030 => &[16, 20, 21, 22, 24, 26],
             R040 => &[1],
             R050 => &[1],

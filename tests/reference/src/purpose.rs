@@ -8,15 +8,17 @@ use crate::{refuse, Refusal};
 const MOST: usize = 35;
 
 /// "Payment purpose of the line with a given number in an accepted file, list lent as for the whole
-/// file." "Order: the file's refusals, 15, 13 (output under 35). The output's other bytes stay, and
-/// all of them on a refusal; the list's words are all 0 after 15 or 13 too."
+/// file", and the countries as well. "Order: the file's refusals, 15, 13 (output under 35). The
+/// output's other bytes stay, and all of them on a refusal; the list's words are all 0 after 15 or
+/// 13 too."
 pub fn purpose(
     file: &[u8],
+    countries: &[u8],
     line: usize,
     list: &mut [u32],
     out: &mut [u8],
 ) -> Result<usize, Refusal> {
-    let totals = judge(file, list)?;
+    let totals = judge(file, countries, list)?;
     let Some(text) = purpose_text(file, line, &list[..totals.lines]) else {
         list.fill(0);
         return refuse(15, 0);

@@ -63,7 +63,7 @@ fn valid_files_are_accepted() {
         let file = valid_file(&mut rng);
         let (totals, starts) = counted(&file);
         let mut list = vec![7; starts.len() + 2];
-        assert_eq!(judge(&file, &mut list), Ok(totals));
+        assert_eq!(judge(&file, b"", &mut list), Ok(totals));
         assert_eq!(list[..starts.len()], starts);
         assert_eq!(list[starts.len()..], [0, 0]);
         assert_eq!(put_together(&take_apart(&file)), file);
@@ -82,11 +82,12 @@ fn damaged_files_bring_every_refusal() {
     for _ in 0..20_000 {
         let case = file_case(&mut rng);
         let mut list = vec![7; case.words];
-        let answer = judge(&case.file, &mut list);
+        let answer = judge(&case.file, &case.countries, &mut list);
         assert!(
             case.outcome.allows(&answer),
-            "{:?} {:?} {:?}",
+            "{:?} {:?} {:?} {:?}",
             case.damages,
+            case.countries,
             case.outcome,
             answer
         );
@@ -105,10 +106,87 @@ fn damaged_files_bring_every_refusal() {
         }
         count(&mut counts, &answer);
     }
-    assert_each(&counts, &(0..=12).collect::<Vec<_>>());
+    assert_each(&counts, &(0..=12).chain([19, 20]).collect::<Vec<_>>());
     assert!(counts.values().all(|count| *count >= 100), "{counts:?}");
     assert!(known > 8_000, "{known}");
     println!("{counts:?}, {known} known");
+}
+
+/// What stands below one 020 line.
+struct Sender {
+    has_contacts: bool,
+    /// Where each starts, and its country.
+    shipments: Vec<(usize, Vec<u8>)>,
+}
+
+/// The senders of an accepted file.
+fn senders(file: &[u8]) -> Vec<Sender> {
+    let mut senders: Vec<Sender> = Vec::new();
+    let mut offset = 0;
+    for line in take_apart(file) {
+        match (&line[0][..], senders.last_mut()) {
+            (b"020", _) => senders.push(Sender {
+                has_contacts: !line[12].is_empty() && !line[13].is_empty(),
+                shipments: Vec::new(),
+            }),
+            (b"030", Some(sender)) => sender.shipments.push((offset, line[20].clone())),
+            _ => {}
+        }
+        offset += line.join(&b';').len() + 2;
+    }
+    senders
+}
+
+/// "They are needed only if some shipment under that sender has a consignee country on a list the
+/// caller lends."
+#[test]
+fn a_sender_needs_contacts_only_for_the_countries_of_its_shipments() {
+    let mut rng = Rng::new(16);
+    let mut counts = Counts::new();
+    for _ in 0..5_000 {
+        let file = valid_file(&mut rng);
+        let countries = countries(&mut rng, &file);
+        if countries.len() % 2 == 1 {
+            continue;
+        }
+        let is_listed = |country: &Vec<u8>| countries.chunks(2).any(|pair| pair == country);
+        let first_in_need = senders(&file).into_iter().find_map(|sender| {
+            let mut shipments = sender.shipments.into_iter();
+            let needs = shipments.find(|(_, country)| is_listed(country));
+            needs.filter(|_| !sender.has_contacts)
+        });
+        let expected = first_in_need.map(|(place, _)| Refusal { number: 19, place });
+        let answer = judge(&file, &countries, &mut [0; 4096]);
+        assert_eq!(answer.err(), expected, "{countries:?}");
+        count(&mut counts, &answer);
+    }
+    assert!(counts.values().all(|count| *count >= 500), "{counts:?}");
+    println!("{counts:?}");
+}
+
+/// Every country of the file asks every sender; none asks none, and pairs that are moved by one
+/// place ask for nothing either.
+#[test]
+fn lists_of_all_countries_and_of_none() {
+    let mut rng = Rng::new(17);
+    let (mut accepted, mut refused) = (0, 0);
+    for _ in 0..2_000 {
+        let file = valid_file(&mut rng);
+        let own = own(&file);
+        let judged = |countries: &[u8]| judge(&file, countries, &mut [0; 4096]);
+        let all_have = senders(&file).iter().all(|sender| sender.has_contacts);
+        assert_eq!(judged(&own).is_ok(), all_have);
+        assert!(judged(b"").is_ok());
+        assert!(judged(&own.to_ascii_lowercase()).is_ok());
+        let moved: Vec<u8> = own
+            .chunks(2)
+            .flat_map(|pair| [b"1", pair, b"1"].concat())
+            .collect();
+        assert!(judged(&moved).is_ok());
+        accepted += usize::from(all_have);
+        refused += usize::from(!all_have);
+    }
+    assert!(accepted > 300 && refused > 300, "{accepted} {refused}");
 }
 
 #[test]
@@ -119,7 +197,7 @@ fn each_damage_alone() {
         for _ in 0..200 {
             let mut file = valid_file(&mut rng);
             let outcome = damage(kind, &mut rng, &mut file);
-            let answer = judge(&file, &mut [0; 4096]);
+            let answer = judge(&file, b"", &mut [0; 4096]);
             assert!(outcome.allows(&answer), "{kind:?} {outcome:?} {answer:?}");
             count(&mut counts, &answer);
         }
@@ -135,7 +213,7 @@ fn the_limit_is_exact() {
         let mut full = file.clone();
         if damage(Damage::GrowToLimit, &mut rng, &mut full) == Outcome::Accepted {
             assert_eq!(full.len(), 65_535);
-            assert!(judge(&full, &mut [0; 4096]).is_ok());
+            assert!(judge(&full, b"", &mut [0; 4096]).is_ok());
         }
         let mut over = file.clone();
         if damage(Damage::GrowPastLimit, &mut rng, &mut over) != Outcome::Unknown {
@@ -144,7 +222,9 @@ fn the_limit_is_exact() {
                 number: 1,
                 place: 65_535,
             };
-            assert_eq!(judge(&over, &mut [0; 4096]), Err(one));
+            for countries in [&b""[..], b"AT", b"A"] {
+                assert_eq!(judge(&over, countries, &mut [0; 4096]), Err(one));
+            }
         }
     }
 }
@@ -191,7 +271,7 @@ fn a_file_is_its_lines() {
             offset = read_line(&file, offset).unwrap().next;
             read += 1;
         }
-        assert_eq!(judge(&file, &mut [0; 4096]).unwrap().lines, read);
+        assert_eq!(judge(&file, b"", &mut [0; 4096]).unwrap().lines, read);
     }
 }
 
@@ -343,9 +423,9 @@ fn purposes() {
     for _ in 0..10_000 {
         let call = purpose_call(&mut rng);
         let (mut list, mut out) = (vec![7; call.words], vec![9; call.output]);
-        let answer = purpose(&call.file, call.line, &mut list, &mut out);
+        let answer = purpose(&call.file, &call.countries, call.line, &mut list, &mut out);
         let mut judged = vec![7; call.words];
-        let totals = judge(&call.file, &mut judged);
+        let totals = judge(&call.file, &call.countries, &mut judged);
         let expected = match totals {
             Err(refusal) => Err(refusal),
             Ok(_) => match purpose_of_parts(&call.file, call.line) {
@@ -377,7 +457,7 @@ fn purposes() {
         }
         count(&mut counts, &answer);
     }
-    for number in [0, 13, 15] {
+    for number in [0, 13, 15, 19, 20] {
         assert!(counts[&number] > 300, "{counts:?}");
     }
     assert!(cut > 100);

@@ -23,7 +23,12 @@ fn no<T>(number: u32, place: usize) -> Result<T, Refusal> {
 }
 
 fn judged(file: impl AsRef<[u8]>) -> Result<Totals, Refusal> {
-    judge(file.as_ref(), &mut [7; 4096])
+    judged_under(b"", file)
+}
+
+/// The same with these countries lent.
+fn judged_under(countries: &[u8], file: impl AsRef<[u8]>) -> Result<Totals, Refusal> {
+    judge(file.as_ref(), countries, &mut [7; 4096])
 }
 
 fn totals(lines: usize, parcels: usize, cents: u64) -> Result<Totals, Refusal> {
@@ -48,18 +53,24 @@ fn at(piece: &str) -> usize {
 #[test]
 fn the_example_is_accepted() {
     let mut list = [7; 10];
-    assert_eq!(judge(EXAMPLE.as_bytes(), &mut list), totals(6, 1, 1250));
+    assert_eq!(
+        judge(EXAMPLE.as_bytes(), b"", &mut list),
+        totals(6, 1, 1250)
+    );
     assert_eq!(list[..6], STARTS);
     assert_eq!(list[6..], [0; 4]);
     let mut exact = [7; 6];
-    assert_eq!(judge(EXAMPLE.as_bytes(), &mut exact), totals(6, 1, 1250));
+    assert_eq!(
+        judge(EXAMPLE.as_bytes(), b"", &mut exact),
+        totals(6, 1, 1250)
+    );
     assert_eq!(exact, STARTS);
 }
 
 #[test]
 fn the_example_has_its_purpose() {
     let (mut list, mut out) = ([7; 7], [9; 40]);
-    let answer = purpose(EXAMPLE.as_bytes(), 5, &mut list, &mut out);
+    let answer = purpose(EXAMPLE.as_bytes(), b"", 5, &mut list, &mut out);
     assert_eq!(answer, Ok(24));
     assert_eq!(&out[..24], b"1000000000000000000001/B");
     assert_eq!(out[24..], [9; 16]);
@@ -70,7 +81,7 @@ fn the_example_has_its_purpose() {
 #[test]
 fn the_three_short_inputs() {
     assert_eq!(judged(""), no(12, 0));
-    assert_eq!(judge(b"", &mut []), no(12, 0));
+    assert_eq!(judge(b"", b"", &mut []), no(12, 0));
     assert_eq!(judged("\r\n"), no(3, 0));
     assert_eq!(judged("010;\r\n"), no(5, 0));
 }
@@ -314,7 +325,7 @@ fn refusals_of_files() {
     // 11
     for (words, start) in STARTS.into_iter().enumerate() {
         let mut list = vec![7; words];
-        let answer = judge(EXAMPLE.as_bytes(), &mut list);
+        let answer = judge(EXAMPLE.as_bytes(), b"", &mut list);
         assert_eq!(answer, no(11, start as usize));
         assert!(list.iter().all(|word| *word == 0));
     }
@@ -341,12 +352,129 @@ fn the_order_of_refusals() {
         judged(with("12.50;EUR", ";eur")),
         no(8, at("12.50;EUR") + 1)
     );
-    assert_eq!(judge(with("12.50", "").as_bytes(), &mut [7; 5]), no(9, 216));
+    assert_eq!(
+        judge(with("12.50", "").as_bytes(), b"", &mut [7; 5]),
+        no(9, 216)
+    );
     let parcel = "040;1000000000000000000001;;\r\n";
     let twice = with(parcel, &parcel.repeat(2));
-    assert_eq!(judge(twice.as_bytes(), &mut [7; 4]), no(10, 212));
+    assert_eq!(judge(twice.as_bytes(), b"", &mut [7; 4]), no(10, 212));
     // 11 before 12.
-    assert_eq!(judge(&EXAMPLE.as_bytes()[..74], &mut []), no(11, 0));
+    assert_eq!(judge(&EXAMPLE.as_bytes()[..74], b"", &mut []), no(11, 0));
+}
+
+/// The example without the sender's phone, without the mail, and without both.
+fn without_contacts() -> [String; 3] {
+    [";1;;a@b;", ";1;1;;", ";1;;;"].map(|contacts| with(";1;1;a@b;", contacts))
+}
+
+#[test]
+fn contacts_are_needed_for_the_lent_countries() {
+    for file in without_contacts() {
+        let shipment = file.find("030;").unwrap();
+        // "With an empty list [..] nobody needs them." "A line read or written alone no longer asks
+        // for the two."
+        assert_eq!(judged(&file), totals(6, 1, 1250));
+        assert!(read_line(file.as_bytes(), 74).is_ok());
+        // The pairs stand at even places; what are no capitals names nothing.
+        for countries in ["DE", "TA", "XATX", "DEXATX", "at", "At", "\0\0", "  "] {
+            let answer = judged_under(countries.as_bytes(), &file);
+            assert_eq!(answer, totals(6, 1, 1250), "{countries}");
+        }
+        for countries in ["AT", "DEAT", "ATDE", "XAAT", "ATAT"] {
+            let answer = judged_under(countries.as_bytes(), &file);
+            assert_eq!(answer, no(19, shipment), "{countries}");
+        }
+    }
+    // "a consignee country": neither the sender's (020.5) nor that of 030.7.
+    let [_, _, file] = without_contacts();
+    let file = file.replace("030;;;;;;;;", "030;;;;;;;CH;");
+    let file = file.replace(";AT;1010;", ";LI;1010;");
+    assert_eq!(judged_under(b"CHLI", file), totals(6, 1, 1250));
+    // A sender who has both, and "a field of spaces is filled".
+    assert_eq!(judged_under(b"AT", EXAMPLE), totals(6, 1, 1250));
+    let spaces = with(";1;1;a@b;", ";1; ;  ;");
+    assert_eq!(judged_under(b"AT", spaces), totals(6, 1, 1250));
+    // The widths stay.
+    let (phone, mail) = ("1".repeat(41), "m".repeat(65));
+    let wide = with(";1;1;a@b;", &format!(";1;{phone};;"));
+    assert_eq!(judged(wide), no(6, at(";1;1;a@b;") + 3));
+    let wide = with(";1;1;a@b;", &format!(";1;;{mail};"));
+    assert_eq!(judged(wide), no(6, at(";1;1;a@b;") + 4));
+}
+
+/// Another shipment to this country, with its parcel and product.
+fn another_shipment(country: &str, identcode: &str) -> String {
+    EXAMPLE[116..216]
+        .replace(";;;;AT;1020", &format!(";;;;{country};1020"))
+        .replace("1000000000000000000001", identcode)
+}
+
+#[test]
+fn each_sender_answers_for_its_own_shipments() {
+    let [_, _, file] = without_contacts();
+    let sender = |contacts: &str| format!("020;C;;;;AT;1010;Wien;;Gasse;;1;{contacts};;;\r\n");
+    let german = another_shipment("DE", "1000000000000000000002");
+    // "place the start of the first 030 line that needs it": not the sender's first.
+    let later = file.clone() + &german;
+    assert_eq!(judged_under(b"DE", &later), no(19, file.len()));
+    assert_eq!(
+        judged_under(b"DEAT", &later),
+        no(19, file.find("030;").unwrap())
+    );
+    // A second sender: the first one's contacts are not its own, nor the other way round.
+    let second = EXAMPLE.to_string() + &sender(";") + &german;
+    let shipment = second.rfind("030;").unwrap();
+    assert_eq!(judged_under(b"DE", &second), no(19, shipment));
+    assert_eq!(judged_under(b"ATDE", &second), no(19, shipment));
+    assert_eq!(judged_under(b"AT", &second), totals(10, 2, 1250));
+    let second = file.clone() + &sender("2;c@d") + &german;
+    assert_eq!(judged_under(b"DE", &second), totals(10, 2, 1250));
+    assert_eq!(
+        judged_under(b"AT", &second),
+        no(19, file.find("030;").unwrap())
+    );
+}
+
+#[test]
+fn the_order_of_refusals_under_lent_countries() {
+    let [_, _, file] = without_contacts();
+    let shipment = file.find("030;").unwrap();
+    // 1 before 20, and 20 before all others.
+    assert_eq!(judged_under(b"A", " ".repeat(65_536)), no(1, 65_535));
+    for file in ["", "x", "010;\r\n", EXAMPLE, &file] {
+        assert_eq!(judged_under(b"A", file), no(20, 0));
+        assert_eq!(judged_under(b"ATDEA", file), no(20, 0));
+    }
+    let mut list = [7; 3];
+    assert_eq!(judge(EXAMPLE.as_bytes(), b"A", &mut list), no(20, 0));
+    assert_eq!(list, [0; 3]);
+    // An earlier line, and the line's own fields and count, before 19.
+    let wrong = file.replace("1005;5", "1005;4");
+    assert_eq!(judged_under(b"AT", wrong), no(8, at("5;;;;\r")));
+    let wrong = file.replace("AT;1020", "AT;102a");
+    assert_eq!(
+        judged_under(b"AT", wrong),
+        no(8, file.find("1020").unwrap())
+    );
+    let wrong = file.replace("030;;", "030;");
+    assert_eq!(judged_under(b"AT", wrong), no(5, shipment));
+    // 19 before 11 on its line, and not before an earlier line's.
+    for (words, due) in [
+        (1, no(11, 74)),
+        (2, no(19, shipment)),
+        (3, no(19, shipment)),
+    ] {
+        let mut list = vec![7; words];
+        assert_eq!(judge(file.as_bytes(), b"AT", &mut list), due);
+        assert!(list.iter().all(|word| *word == 0));
+    }
+    // 19 before a later line's 2, 3 and 10, and before 12.
+    let parcel = &EXAMPLE[178..208];
+    for behind in ["x", "\r\n", &parcel.repeat(2), ""] {
+        let file = file[..shipment + 62].to_string() + behind;
+        assert_eq!(judged_under(b"AT", file), no(19, shipment));
+    }
 }
 
 #[test]
@@ -409,7 +537,7 @@ fn one_line_and_one_field() {
 fn every_source_of_the_purpose() {
     let of = |file: &str, line: usize| {
         let (mut list, mut out) = ([7; 20], [0; 35]);
-        let length = purpose(file.as_bytes(), line, &mut list, &mut out)?;
+        let length = purpose(file.as_bytes(), b"", line, &mut list, &mut out)?;
         Ok(String::from_utf8(out[..length].to_vec()).unwrap())
     };
     let text = |text: &str| Ok::<_, Refusal>(text.to_string());
@@ -443,12 +571,15 @@ fn every_source_of_the_purpose() {
 #[test]
 fn refusals_of_the_purpose() {
     let file = EXAMPLE.as_bytes();
-    let ask = |file: &[u8], line: usize, words: usize, bytes: usize| {
+    let ask_under = |countries: &[u8], file: &[u8], line: usize, words: usize, bytes: usize| {
         let (mut list, mut out) = (vec![7; words], vec![9; bytes]);
-        let answer = purpose(file, line, &mut list, &mut out);
+        let answer = purpose(file, countries, line, &mut list, &mut out);
         assert!(answer.is_ok() || list.iter().all(|word| *word == 0));
         assert!(answer.is_ok() || out.iter().all(|byte| *byte == 9));
         answer
+    };
+    let ask = |file: &[u8], line: usize, words: usize, bytes: usize| {
+        ask_under(b"", file, line, words, bytes)
     };
     assert_eq!(ask(file, 5, 6, 35), Ok(24));
     assert_eq!(ask(file, 5, 6, 34), no(13, 0));
@@ -460,6 +591,14 @@ fn refusals_of_the_purpose() {
     assert_eq!(ask(other.as_bytes(), 5, 6, 35), no(15, 0));
     assert_eq!(ask(b"", 0, 0, 0), no(12, 0));
     assert_eq!(ask(&[b'x'; 65_536], 0, 6, 35), no(1, 65_535));
+    // "the file's refusals" are those under the lent countries.
+    let silent = with(";1;1;a@b;", ";1;;a@b;");
+    assert_eq!(ask_under(b"AT", silent.as_bytes(), 5, 6, 35), no(19, 115));
+    assert_eq!(ask_under(b"AT", silent.as_bytes(), 9, 6, 0), no(19, 115));
+    assert_eq!(ask_under(b"DE", silent.as_bytes(), 5, 6, 35), Ok(24));
+    assert_eq!(ask_under(b"AT", file, 5, 6, 35), Ok(24));
+    assert_eq!(ask_under(b"DEA", b"", 9, 0, 0), no(20, 0));
+    assert_eq!(ask_under(b"A", &[b'x'; 65_536], 0, 6, 35), no(1, 65_535));
 }
 
 #[test]
@@ -498,6 +637,9 @@ fn refusals_of_the_writer() {
     let identcode = "1000000000000000000001";
     assert_eq!(write(40, identcode, &[22; 3], 0, 0), no(13, 0));
     assert_eq!(write(40, &identcode[1..], &[21; 3], 0, 0), no(8, 1));
+    // A sender without phone and mail is written.
+    let ends = [1, 1, 1, 1, 3, 7, 11, 11, 16, 16, 17, 17, 17, 17, 17, 17];
+    assert_eq!(write(20, "AAT1010WienGasse1", &ends, 38, 0), Ok(38));
     // 9, then 13
     assert_eq!(write(60, "006", &[3; 10], 0, 0), no(9, 0));
     assert_eq!(write(60, "004", &[3; 10], 17, 0), no(13, 0));

@@ -50,11 +50,12 @@ fn widths_are_the_papers() {
     );
 }
 
+/// Without 020.12 and 020.13, of which a line alone is no longer asked (document 02, request 1).
 #[test]
 fn duties_are_the_papers() {
     let duties = [
         "1, 2, 3, 4, 5, 6",
-        "1, 5, 6, 7, 9, 11, 12, 13",
+        "1, 5, 6, 7, 9, 11",
         "16, 20, 21, 22, 24, 26",
         "1",
         "1",

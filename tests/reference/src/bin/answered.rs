@@ -35,14 +35,21 @@ fn writings(input: &[u8]) -> Vec<u8> {
     answers
 }
 
-/// "`#`, a line's number, the output's and the list's length, a line feed, and a file": the answer, the whole output of 40 bytes, which
-/// was full of points, and the whole list of 20 words, which was full of sevens.
+/// "`#`, a line's number, the output's and the list's length, each with a space behind it, the countries, a line feed, and a file": the
+/// answer, the whole output of 40 bytes, which was full of points, and the whole list of 20 words, which was full of sevens.
 fn purposes(input: &[u8]) -> Vec<u8> {
     let mut answers = Vec::new();
     for mut case in input.split(|byte| *byte == b'#').skip(1) {
         let [line, room, words] = [(); 3].map(|()| number(&mut case));
+        let countries = up_to_line_feed(&mut case);
         let (mut output, mut list) = ([b'.'; 40], [7; 20]);
-        let answer = purpose(case, line, &mut list[..words], &mut output[..room]);
+        let answer = purpose(
+            case,
+            countries,
+            line,
+            &mut list[..words],
+            &mut output[..room],
+        );
         answers.extend(said("ok", answer).bytes());
         answers.extend([b" |", &output[..], b"|"].concat());
         answers.extend(list.iter().flat_map(|word| format!(" {word}").into_bytes()));
@@ -68,6 +75,14 @@ fn number(input: &mut &[u8]) -> usize {
     let value = text.parse().expect("a number stands here");
     *input = &input[input.len().min(digits + 1)..];
     value
+}
+
+/// Takes the bytes up to the first line feed, and that, off the input's start.
+fn up_to_line_feed<'a>(input: &mut &'a [u8]) -> &'a [u8] {
+    let line_feed = input.iter().position(|byte| *byte == b'\n');
+    let (bytes, rest) = input.split_at(line_feed.expect("a line feed stands here"));
+    *input = &rest[1..];
+    bytes
 }
 
 /// How many bytes were written, or the refusal, in the words of the test programs.

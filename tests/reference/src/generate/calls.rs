@@ -1,5 +1,6 @@
 //! Calls of the other entry points: one line, one field, the writer, the purpose and issuing.
 
+use super::countries::countries;
 use super::damage::{damage, file_case, Damage};
 use super::files::{take_apart, valid_file_of};
 use super::values::number_body;
@@ -244,10 +245,11 @@ fn damage_writer_call(rng: &mut Rng, call: &mut WriterCall) {
     }
 }
 
-/// A call of the payment purpose, with so many words and output bytes lent.
+/// A call of the payment purpose, with these countries and so many words and output bytes lent.
 #[derive(Clone, Debug)]
 pub struct PurposeCall {
     pub file: Vec<u8>,
+    pub countries: Vec<u8>,
     pub line: usize,
     pub words: usize,
     pub output: usize,
@@ -288,8 +290,13 @@ pub fn purpose_call(rng: &mut Rng) -> PurposeCall {
         2..=5 => 35,
         _ => rng.between(35, 80),
     };
+    let countries = match rng.percent(50) {
+        true => Vec::new(),
+        false => countries(rng, &file),
+    };
     PurposeCall {
         file,
+        countries,
         line,
         words,
         output,

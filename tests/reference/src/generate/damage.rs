@@ -1,5 +1,6 @@
 //! The ways in which a file gets damaged.
 
+use super::countries::{countries, under};
 use super::files::{put_together, take_apart, valid_file, Lines};
 use super::values::{barred_iban, boundary_values, damaged_iban, text, Style};
 use super::{Outcome, Rng};
@@ -91,10 +92,11 @@ impl Damage {
     ];
 }
 
-/// A file to judge, how many words to lend, and the answer where it is known.
+/// A file to judge, the countries and how many words to lend, and the answer where it is known.
 #[derive(Clone, Debug)]
 pub struct FileCase {
     pub file: Vec<u8>,
+    pub countries: Vec<u8>,
     pub words: usize,
     pub outcome: Outcome,
     pub damages: Vec<Damage>,
@@ -120,11 +122,16 @@ pub fn file_case(rng: &mut Rng) -> FileCase {
         };
     }
     let starts = line_starts(&file);
-    let words = match rng.below(10) {
-        0..=4 => starts.len(),
-        5..=6 => 4096,
-        7 => starts.len() + rng.between(1, 3),
-        8 => starts.len().saturating_sub(1),
+    let shipments: Vec<usize> = (0..starts.len())
+        .filter(|line| file[starts[*line]..].starts_with(b"030"))
+        .collect();
+    let words = match rng.below(21) {
+        0..=9 => starts.len(),
+        10..=13 => 4096,
+        14..=15 => starts.len() + rng.between(1, 3),
+        16..=17 => starts.len().saturating_sub(1),
+        // None left for a shipment, which may be refused by 19 instead.
+        18 if !shipments.is_empty() => rng.pick(&shipments),
         _ => rng.between(0, starts.len()),
     };
     if words < starts.len() {
@@ -133,8 +140,11 @@ pub fn file_case(rng: &mut Rng) -> FileCase {
             _ => Outcome::Unknown,
         };
     }
+    let countries = countries(rng, &file);
+    let outcome = under(&countries, &file, outcome);
     FileCase {
         file,
+        countries,
         words,
         outcome,
         damages,
@@ -150,7 +160,8 @@ fn line_starts(file: &[u8]) -> Vec<usize> {
 }
 
 /// Damages a file in one way. The outcome is that of a file which was accepted before, judged with
-/// a list that is long enough. A damage that finds nothing to damage leaves the file as it was.
+/// a list that is long enough and no countries. A damage that finds nothing to damage leaves the
+/// file as it was.
 pub fn damage(kind: Damage, rng: &mut Rng, file: &mut Vec<u8>) -> Outcome {
     match kind {
         FlipByte | InsertByte | DeleteByte | Truncate => damage_bytes(kind, rng, file),
@@ -434,7 +445,7 @@ fn lengthen(rng: &mut Rng, field: &mut Vec<u8>, length: usize) {
 }
 
 /// Where a part of a line starts in the file, the record type being part 0.
-fn start_of(lines: &Lines, line: usize, part: usize) -> usize {
+pub(super) fn start_of(lines: &Lines, line: usize, part: usize) -> usize {
     let length = |parts: &[Vec<u8>]| parts.iter().map(|part| part.len() + 1).sum::<usize>();
     // A line has one semicolon less than parts, and two bytes CR LF.
     let before: usize = lines[..line].iter().map(|line| length(line) + 1).sum();

@@ -38,7 +38,7 @@ pub fn put_together(lines: &Lines) -> Vec<u8> {
     joined.join(&b"\r\n"[..])
 }
 
-/// An accepted file: mostly a few lines, sometimes some hundred.
+/// A file that is accepted where no countries are lent: mostly a few lines, sometimes some hundred.
 pub fn valid_file(rng: &mut Rng) -> Vec<u8> {
     let lines = match rng.below(20) {
         0..=2 => 5,
@@ -49,7 +49,7 @@ pub fn valid_file(rng: &mut Rng) -> Vec<u8> {
     valid_file_of(rng, lines)
 }
 
-/// An accepted file of about so many lines, five at least, fewer where the limit stops it.
+/// Such a file of about so many lines, five at least, fewer where the limit stops it.
 pub fn valid_file_of(rng: &mut Rng, lines: usize) -> Vec<u8> {
     let mut maker = Maker {
         style: Style::any(rng),
@@ -134,13 +134,22 @@ impl Maker {
         let mut line = vec![record.type_name().to_vec()];
         for number in 1..=count {
             let needed = record.required().contains(&number) || self.is_needed(&line, number);
-            let field = match needed || rng.percent(self.style.filled) {
+            let field = match needed || rng.percent(self.share(record, number)) {
                 true => self.field(rng, record, number, &line),
                 false => Vec::new(),
             };
             line.push(field);
         }
         line
+    }
+
+    /// How many of a hundred fields are filled that need not be. A sender's phone and mail often
+    /// are and often are not, whatever the style.
+    fn share(&self, record: Record, number: usize) -> usize {
+        match (record, number) {
+            (Record::R020, 12 | 13) => 70,
+            _ => self.style.filled,
+        }
     }
 
     /// Whether the feature code in field 1 needs this field.
@@ -168,6 +177,7 @@ impl Maker {
             (10, 6) => b"5".to_vec(),
             (20, 5) | (30, 7 | 20) => country(rng),
             (20, 6) | (30, 8 | 21) => post_code(rng, style, &line[number - 1]),
+            (20, 12 | 13) if rng.percent(20) => vec![b' '; rng.between(1, width)],
             (30, 1 | 2) => digit_text(rng, style, width),
             (30, 39) => Vec::new(),
             (40, 1) => self.identcode(rng),

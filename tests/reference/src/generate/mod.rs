@@ -5,6 +5,7 @@
 //! says so (`Outcome`); this is a second opinion on the implementation in this package as well.
 
 mod calls;
+mod countries;
 mod damage;
 mod fields;
 mod files;
@@ -14,6 +15,7 @@ pub use calls::{
     issue_call, line_call, purpose_call, valid_writer_call, writer_call, IssueCall, LineCall,
     PurposeCall, WriterCall,
 };
+pub use countries::{countries, own};
 pub use damage::{damage, file_case, Damage, FileCase};
 pub use fields::{field_cases, FieldCase};
 pub use files::{put_together, take_apart, valid_file, valid_file_of, Lines};
