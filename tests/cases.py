@@ -139,44 +139,64 @@ def contact_cases():
         yield f"no_{name}", accepted(lines, 4096, 1250)
         yield f"no_{name}_listed", refused(lines, 19, place(lines, 2), countries="AT")
     yield "contacts_listed", accepted(EXAMPLE, 4096, 1250, "AT")
+    lines = with_line(1, sender(f12=" ", f13=""))
+    yield "phone_of_spaces_no_mail", refused(lines, 19, place(lines, 2), countries="AT")
     yield "contacts_of_spaces", accepted(with_line(1, sender(f12=" ", f13="  ")), 4096, 1250, "AT")
     yield "phone_full", accepted(with_line(1, sender(f12="1" * 40)), 4096, 1250, "AT")
     yield "phone_over", field_case(1, sender(f12="1" * 41, f13=""), 6, 12)
     yield "mail_full", accepted(with_line(1, sender(f13="m" * 64)), 4096, 1250, "AT")
     yield "mail_over", field_case(1, sender(f12="", f13="m" * 65), 6, 13)
+    # The fields beside the two keep their duty and their width.
+    yield "number_still_required", field_case(1, sender(f11="", f12="", f13=""), 7, 11)
+    yield "behind_mail_over", field_case(1, sender(f12="", f13="", f14="x" * 65), 6, 14)
     # Which countries a list names.
     lines = with_line(1, NO_CONTACTS)
-    for name, countries in (("second", "DEAT"), ("last", "CHLIGBNOISUSCAAT"), ("first", "ATDE")):
+    for name, countries in (("second", "DEAT"), ("last", "CHLIGBNOISUSCAAT"), ("first", "ATDE"), ("middle", "DEATCH"), ("twice", "ATAT")):
         yield f"country_{name}", refused(lines, 19, place(lines, 2), countries=countries)
-    for name, countries in (("other", "DECH"), ("moved", "XATX"), ("turned", "TA"), ("small", "at"), ("half_small", "aTAt")):
+    for name, countries in (("other", "DECH"), ("moved", "XATX"), ("across", "TADE"), ("turned", "TA"), ("small", "at"), ("half_small", "aTAt"), ("signs", "A;T_")):
         yield f"countries_{name}", accepted(lines, 4096, 1250, countries)
     lines = EXAMPLE[:1] + [NO_CONTACTS, shipment(f7="CH")] + EXAMPLE[3:]
     yield "country_of_field_7", accepted(lines, 4096, 1250, "CH")
+    lines = EXAMPLE[:1] + [sender(f5="DE", f12="", f13="")] + EXAMPLE[2:]
+    yield "country_of_sender", accepted(lines, 4096, 1250, "DE")
     # Whose shipment it is.
     two = EXAMPLE[:1] + [NO_CONTACTS] + shipped("DE", 1) + shipped("AT", 2)
     yield "second_shipment_listed", refused(two, 19, place(two, 5), countries="AT")
     yield "both_shipments_listed", refused(two, 19, place(two, 2), countries="ATDE")
+    three = EXAMPLE[:1] + [NO_CONTACTS] + shipped("DE", 1) + shipped("CH", 2) + shipped("AT", 3)
+    yield "third_shipment_listed", refused(three, 19, place(three, 8), countries="AT")
     lines = two_senders(sender(), NO_CONTACTS)
     yield "first_sender_has", accepted(lines, 4096, 0, "DE")
     yield "second_sender_lacks", refused(lines, 19, place(lines, 6), countries="AT")
     lines = two_senders(NO_CONTACTS, sender())
     yield "first_sender_lacks", refused(lines, 19, place(lines, 2), countries="DE")
     yield "second_sender_has", accepted(lines, 4096, 0, "AT")
+    lines = two_senders(sender(), NO_CONTACTS)[:6] + shipped("CH", 3) + [sender()] + shipped("DE", 4)
+    yield "middle_sender_not_asked", accepted(lines, 4096, 0, "DE")
 
 
 def contact_order_cases():
-    """19 among the others: on its line behind 4 and 8 and in front of 11; lines in file order; 12 last."""
+    """19 among the others: on its line behind 2, 4, 5 and 8 and in front of 11; lines in file order; 12 last."""
     lines = EXAMPLE[:1] + [NO_CONTACTS, shipment(f20="DE")] + shipped("AT", 1)
     yield "no_contacts_out_of_order", refused(lines, 4, place(lines, 3), countries="AT")
+    lines = EXAMPLE[:1] + [NO_CONTACTS, EXAMPLE[2][:-1]] + EXAMPLE[3:]
+    yield "no_contacts_field_less", refused(lines, 5, place(lines, 2), countries="AT")
+    cut = render(with_line(1, NO_CONTACTS)[:3])[:-2]
+    yield "no_contacts_no_line_end", refused(cut, 2, len(cut), countries="AT")
+    lines = EXAMPLE[:1] + [NO_CONTACTS, shipment(f20="at")] + EXAMPLE[3:]
+    yield "no_contacts_small_country", refused(lines, 8, place(lines, 2, 20), countries="at")
     lines = EXAMPLE[:1] + [NO_CONTACTS, shipment(f39="x")] + EXAMPLE[3:]
     yield "no_contacts_wrong_form", refused(lines, 8, place(lines, 2, 39), countries="AT")
     lines = with_line(1, NO_CONTACTS)
     yield "no_contacts_list_full", refused(lines, 19, place(lines, 2), 2, "AT")
     yield "no_contacts_list_full_before", refused(lines, 11, place(lines, 1), 1, "AT")
+    yield "no_contacts_no_words", refused(lines, 11, 0, 0, "AT")
     yield "no_contacts_file_ends", refused(lines[:3], 19, place(lines, 2), countries="AT")
     wrong = with_line(1, sender(f6="10101", f12=""))
     yield "no_contacts_earlier_fault", refused(wrong, 8, place(wrong, 1, 6), countries="AT")
     yield "no_contacts_later_fault", refused(lines[:5] + [feature("005")], 19, place(lines, 2), countries="AT")
+    early = EXAMPLE[:1] + [NO_CONTACTS, shipment(f20="DE"), parcel(1), parcel(1), product()] + shipped("AT", 2)
+    yield "no_contacts_earlier_code", refused(early, 10, place(early, 4, 1), countries="AT")
     yield "no_contacts_later_code", refused(lines[:4] + lines[3:], 19, place(lines, 2), countries="AT")
 
 
@@ -185,6 +205,7 @@ def odd_cases():
     yield "odd_one", refused(EXAMPLE, 20, 0, countries="A")
     yield "odd_three", refused(with_line(1, NO_CONTACTS), 20, 0, countries="ATD")
     yield "odd_empty", refused(b"", 20, 0, countries="ATDEX")
+    yield "odd_at_limit", refused(b" " * 65535, 20, 0, countries="A")
     yield "odd_no_line_end", refused(render(EXAMPLE)[:-2], 20, 0, countries="A")
     yield "odd_no_words", refused(EXAMPLE, 20, 0, 0, "A")
     yield "odd_over_limit", refused(b" " * 65536, 1, 65535, countries="A")

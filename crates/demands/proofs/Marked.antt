@@ -1,5 +1,5 @@
 -- The marked cases of document 01 hold, all of them. So the promises are not empty: a file is allowed.
-use mathlib.Core.Path.{_≡_, refl}
+use mathlib.Core.Path.{refl}
 use mathlib.Core.List.{[], _∷_}
 use Rattle.check_characters.specs.Symbol.{valueOf}
 use Rattle.check_characters.specs.Mod37.{step, passes}

@@ -1,10 +1,11 @@
 -- A sender's contacts, by the cases that the code meets.
 use Prim.Native.Nat.{ℕ}
-use mathlib.Core.Path.{_≡_, sym}
+use mathlib.Core.Path.{_≡_}
 use mathlib.Core.Bool.{Bool, true, false, not, and-true, and-false}
 use mathlib.Core.List.{List, []}
-use lib.ListN.{getD}
+use lib.ListN.{length, getD}
 use borrow.Author.Tests.{not-true, not-false}
+use Rattle.text.proofs.Scans.{no-bytes}
 use Rattle.countries.specs.List.{isListed}
 use Rattle.fields.specs.Record.{_isA_}
 use Rattle.fields.specs.declared.record.Record.{Record}
@@ -34,6 +35,12 @@ module _ (parts : List (List ℕ)) (countries : List ℕ) (contacts : Bool) wher
   pub has-both : (kind : Record) → contacts ≡ true → false ≡ lacksContact kind parts countries contacts
   unfolding lacksContact
   has-both kind e = rw (e, and-false (kind isA Shipment))
+
+  pub none-lent : (kind : Record) → length countries ≡ 0 → false ≡ lacksContact kind parts countries contacts
+  unfolding lacksContact
+  none-lent kind e =
+      let empty : countries ≡ [] = no-bytes countries e in
+      rw (empty, and-false (not contacts), and-false (kind isA Shipment))
 
   pub lacks-listed : (kind : Record) → kind ≡ Shipment → contacts ≡ false → (country : List ℕ) → country ≡ getD parts 20 [] → (t : Bool) →
       t ≡ isListed countries country → t ≡ lacksContact kind parts countries contacts

@@ -36,6 +36,10 @@ pub fn lacks_contact(kind: Record, line: &[u8], countries: &[u8], contacts: bool
     if contacts {
         return false;
     }
+    // An empty list names no country: the shipment's need not be looked for.
+    if countries.len() == 0 {
+        return false;
+    }
     match kind {
         Record::Header => false,
         Record::Sender => false,

@@ -1,5 +1,4 @@
 // The payment purpose of a line of a file: the file judged, the text's source found, the text written.
-ghost use mathlib.Core.Path.{_≡_};
 ghost use lib.ListN.{length};
 ghost use Rattle.purpose.specs.Purpose.{Purposes};
 use crate::cut;

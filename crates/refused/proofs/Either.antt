@@ -17,7 +17,7 @@ use Rattle.slips.proofs.Numbers as numbers
 use Rattle.slips.proofs.Ibans as ibans
 use Rattle.fields.specs.Profile.{Rules}
 use Rattle.line.specs.Told.{Told}
-use Rattle.line.specs.Line.{lineAnswer, alone, lineVerdict}
+use Rattle.line.specs.Line.{lineAnswer, lineVerdict}
 use Rattle.line.specs.Find.{fieldAnswer, fieldVerdict}
 use Rattle.line.specs.declared.read.Line.{Line}
 use Rattle.line.specs.declared.read.LineAnswer.{LineAnswer}

@@ -1,6 +1,6 @@
 -- Other lists of countries: a part of a list accepts what the list accepts, and senders with both contacts get one answer with every list.
 use Prim.Native.Nat.{ℕ}
-use mathlib.Core.Path.{_≡_, refl, sym, subst, _∙_}
+use mathlib.Core.Path.{_≡_, sym, subst, _∙_}
 use mathlib.Core.Bool.{true}
 use mathlib.Core.List.{List, [], _∷_, _++_, append-nil}
 use Rattle.refusal.specs.declared.Refusal.{Refusal}

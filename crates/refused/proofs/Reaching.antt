@@ -10,7 +10,7 @@ use borrow.Author.Tests.{lt-ltb, le-ltb}
 use Rattle.text.specs.Quoted.{bytes}
 use Rattle.refusal.specs.Table.{because}
 use Rattle.refusal.specs.declared.Refusal.{Refusal}
-use Rattle.refusal.specs.declared.Reason.the-variants.{IdentcodeRepeated, ListFull, FileEnds, ContactMissing, CountriesOdd}
+use Rattle.refusal.specs.declared.Reason.the-variants.{IdentcodeRepeated, ListFull, FileEnds, ContactMissing}
 use Rattle.fields.specs.Record.{mayEnd}
 use Rattle.line.specs.Line.{fileLimit}
 use Rattle.countries.specs.List.{isPaired}

@@ -9,6 +9,7 @@ use lib.ListN.{length, drop, length-append}
 use borrow.Author.Tests.{ltb-true, ltb-false}
 use Rattle.text.specs.Choice.{if_then_else_}
 use Rattle.text.specs.Quoted.{bytes}
+use Rattle.text.proofs.Scans.{no-bytes}
 use Rattle.refusal.specs.Table.{because}
 use Rattle.refusal.specs.declared.Refusal.{Refusal}
 use Rattle.refusal.specs.declared.Reason.the-variants.{FileTooLong, IdentcodeRepeated, ListFull, FileEnds, ContactMissing, CountriesOdd}
@@ -44,10 +45,6 @@ use Rattle.refused.proofs.Beginning.{Next, begins-more, left-long}
 use Rattle.refused.proofs.Standing.{Here, line-of, there, inside, line-here, behind-line}
 use Rattle.refused.proofs.Standing.{repeats-parcel, repeats-code}
 use Rattle.refused.proofs.Missing.{lacks-told}
-
-none-left : (left : List ℕ) → length left ≡ 0 → left ≡ []
-none-left [] e = refl
-none-left (b ∷ left) e = absurd (omega arith)
 
 -- a refusal at an offset in a file that is not too long is one of the line there
 in-line : (told : Told) (s : List ℕ) (at : ℕ) → length s ≤ fileLimit → at ≤ length s → (refusal : Refusal) → RefusedAt told s at refusal →
@@ -180,7 +177,7 @@ module _ (s : List ℕ) (lent : Lent) where
         go true m q = absurd (no-pass fileVerdict refl refl (sym q))
         go false m q =
             is (because FileEnds (length s)) q
-            (RefusedFile.file-ends ls (subst (Begins (lent .countries) s ls) (none-left left (omega (arith, h .place, left-long s ls left b))) b) room
+            (RefusedFile.file-ends ls (subst (Begins (lent .countries) s ls) (no-bytes left (omega (arith, h .place, left-long s ls left b))) b) room
             (ap mayEnd (sym (h .next)) ∙ m))
 
     from-refused : (turns : ℕ) → Refuses turns

@@ -147,6 +147,11 @@ unlike a b n = ⊎-elim (λ t. absurd (n (same-eq a b t))) (λ f. f) (true-or-fa
 pub same-as : (a b name : List ℕ) (t : Bool) → a ≡ b → t ≡ same a name → t ≡ same b name
 same-as a b name t e q = q ∙ ap (λ (x : List ℕ). same x name) e
 
+-- a run without bytes
+pub no-bytes : (s : List ℕ) → length s ≡ 0 → s ≡ []
+no-bytes [] e = refl
+no-bytes (b ∷ s) e = absurd (omega arith)
+
 -- past the end of a run
 pub read-past : (s : List ℕ) (i : ℕ) → length s ≤ i → 0 ≡ getD s i 0
 read-past [] i h = refl

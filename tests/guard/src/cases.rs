@@ -75,6 +75,7 @@ fn cut_files(rng: &mut Rng, calls: &mut Vec<Call>) {
         EXAMPLE.to_vec(),
         valid_file_of(rng, 5),
         valid_file_of(rng, 12),
+        valid_file_of(rng, 20),
     ] {
         for length in 0..=whole.len() {
             let file = whole[..length].to_vec();
