@@ -136,7 +136,8 @@ module _ (s : List ℕ) (lent : Lent) (in-limit : length s ≤ fileLimit) (total
       let codes′ = codes ++ codesOn (line .kind) fs in
       let kept = contactsBehind (line .kind) (typeOf (line .kind) ∷ fs) (state .contacts) in
       let r = more (starts ++ (state .at ∷ [])) codes′ (behind s state line) (omega (arith, next-far g)) (next-inside g)
-      (omega (arith, word-left (lent .words) (state .lines) (w .room))) (seen-more s starts codes (state .at) (line .kind) fs (g .rest) seen (g .stands) (g .allowed)) (rw
+      (omega (arith, word-left (lent .words) (state .lines) (w .room)))
+      (seen-more s starts codes (state .at) (line .kind) fs (g .rest) seen (g .stands) (g .allowed)) (rw
       (← w .there) at e) in
       record {
         lines = record { kind = line .kind; fields = fs } ∷ r .lines;
@@ -174,8 +175,10 @@ module _ (s : List ℕ) (lent : Lent) (in-limit : length s ≤ fileLimit) where
 
   step-there :
       (starts : List ℕ) (codes : List (List ℕ)) (state : State) (line : Line) (fs : List (List ℕ))
-      (g : Reads (toldBy state) s (state .at) line fs) → lacksContact (line .kind) (typeOf (line .kind) ∷ fs) (lent .countries) (state .contacts) ≡ false →
-      Seen s starts codes → Fresh codes (codesOn (line .kind) fs) → state .lines < lent .words → stepAnswer s lent starts state ≡ Next (behind s state line)
+      (g : Reads (toldBy state) s (state .at) line fs) →
+      lacksContact (line .kind) (typeOf (line .kind) ∷ fs) (lent .countries) (state .contacts) ≡ false →
+      Seen s starts codes → Fresh codes (codesOn (line .kind) fs) → state .lines < lent .words →
+      stepAnswer s lent starts state ≡ Next (behind s state line)
   unfolding stepAnswer onLine listing
   step-there starts codes state line fs g reached seen fresh room =
       rw (
@@ -186,7 +189,8 @@ module _ (s : List ℕ) (lent : Lent) (in-limit : length s ≤ fileLimit) where
       )
 
   pub runs : (ls : List FileLine) (turns : ℕ) (starts : List ℕ) (codes : List (List ℕ)) (state : State) → length ls ≤ turns →
-      state .at ≤ length s → state .lines + length ls ≤ lent .words → Seen s starts codes → AllowedFrom (lent .countries) (drop (state .at) s) codes (state .due) (state .contacts) ls →
+      state .at ≤ length s → state .lines + length ls ≤ lent .words → Seen s starts codes →
+      AllowedFrom (lent .countries) (drop (state .at) s) codes (state .due) (state .contacts) ls →
       fileFrom turns s lent starts state ≡ judgedWith starts state ls
   runs [] turns starts codes state few inside room seen a = end-there turns starts state
       (omega (arith, length-drop (state .at) s, ap length (a .0))) (a .1)

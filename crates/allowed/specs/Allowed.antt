@@ -1,5 +1,6 @@
 -- Demand 2: "A file is accepted exactly when our profile of the pre-advice manual allows it. Line list, parcel count and cash total
--- are those of the file's own lines." Document 02, request 1: "demand 2 reads with the list as part of the file's rules". What an allowed file is, as a list of lines, apart from any way of judging it.
+-- are those of the file's own lines." Document 02, request 1: "demand 2 reads with the list as part of the file's rules". What an
+-- allowed file is, as a list of lines, apart from any way of judging it.
 use Prim.Native.Nat.{ℕ, _+_, _≤_}
 use mathlib.Core.Path.{_≡_}
 use mathlib.Core.Bool.{Bool, true, false, _&&_, _||_}

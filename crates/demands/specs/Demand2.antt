@@ -36,9 +36,9 @@ use Rattle.writer.specs.declared.write.WriteAnswer.the-variants.{Written}
 use Rattle.allowed.specs.Allowed.{FileLine, AllowedFile, Accepts}
 use Rattle.slips.specs.Exactly.{SoundNumber, SoundIban, bodyOf}
 
--- A file is accepted, with these totals and this list, exactly when it is allowed with the countries that were lent, the list has a word for each of its lines, the
--- totals are those of its lines, and each word is where that line starts, every other 0. So a judge that refuses everything, one
--- with a constant answer and invented counts are shut out.
+-- A file is accepted, with these totals and this list, exactly when it is allowed with the countries that were lent, the list has a
+-- word for each of its lines, the totals are those of its lines, and each word is where that line starts, every other 0. So a judge
+-- that refuses everything, one with a constant answer and invented counts are shut out.
 abbrev pub FileExactly : Type 0
 FileExactly =
     (file : List ℕ) (lent : Lent) (totals : Totals) (list : List ℕ) → Judges file lent (AcceptedFile totals) list ↔ Accepts file lent totals list

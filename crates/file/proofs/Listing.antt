@@ -72,7 +72,8 @@ module _ (lent : Lent) where
       go (Next next) e on =
           let w = went s lent starts state next e in
           let n : state .lines + 1 ≡ next .lines = ap (λ (x : State). x .lines) (w .there) in
-          on next (length-append starts (state .at ∷ []) ∙ omega (arith, long, n)) (omega (arith, n, word-left (lent .words) (state .lines) (w .room)))
+          on next (length-append starts (state .at ∷ []) ∙ omega (arith, long, n))
+          (omega (arith, n, word-left (lent .words) (state .lines) (w .room)))
 
   whole : (s : List ℕ) → Listed lent (judged s lent)
   unfolding judged

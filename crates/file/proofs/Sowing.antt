@@ -49,7 +49,8 @@ module _ (s starts : List ℕ) (parcels : ℕ) (tree : List ℕ) (g : Sown s sta
             ∙ or-false (onEarlier s starts z) ∙ g .tells z dz;
       })
 
-  parcel-sown : treeWords ≤ length tree → parcels ≤ parcelsMost → at ≤ fileLimit → identcode (identcodeAt s at) ≡ true → take 3 (drop at s) ≡ typeOf Parcel →
+  parcel-sown : treeWords ≤ length tree → parcels ≤ parcelsMost → at ≤ fileLimit → identcode (identcodeAt s at) ≡ true →
+      take 3 (drop at s) ≡ typeOf Parcel →
       isThere s tree parcels at ≡ false →
       Sown s (starts ++ (at ∷ [])) (parcels + 1) (grown s tree parcels at)
   parcel-sown long few in-limit d type e =
@@ -61,7 +62,8 @@ module _ (s starts : List ℕ) (parcels : ℕ) (tree : List ℕ) (g : Sown s sta
             ∙ ap (λ (t : Bool). isThere s tree parcels z || t) (parcel-code s at z Parcel type refl) ∙ sym (more .tells z dz);
       }
 
-  pub sown-line : (kind : Record) → treeWords ≤ length tree → parcels ≤ parcelsMost → at ≤ fileLimit → (kind ≡ Parcel → identcode (identcodeAt s at) ≡ true) →
+  pub sown-line : (kind : Record) → treeWords ≤ length tree → parcels ≤ parcelsMost → at ≤ fileLimit →
+      (kind ≡ Parcel → identcode (identcodeAt s at) ≡ true) →
       take 3 (drop at s) ≡ typeOf kind →
       isThereFor kind s tree parcels at ≡ false → Sown s (starts ++ (at ∷ [])) (parcels + parcelsIn kind) (grownFor kind s tree parcels at)
   unfolding isThereFor grownFor

@@ -155,7 +155,8 @@ went s lent starts state next e = go (lineAnswer (toldBy state) s (state .at)) r
         let twice = repeats (line .kind) s starts (state .at) in
         let last : Step = if full then Stopped (because ListFull (state .at)) else Next (behind s state line) in
         let v = came-else (lacksContact (line .kind) (split (textAt s (state .at))) (lent .countries) (state .contacts))
-        (Stopped (because ContactMissing (state .at))) (if twice then Stopped (because IdentcodeRepeated (state .at + 4)) else last) (Next next) stopped e in
+        (Stopped (because ContactMissing (state .at))) (if twice then Stopped (because IdentcodeRepeated (state .at + 4)) else last)
+        (Next next) stopped e in
         let a = came-else twice (Stopped (because IdentcodeRepeated (state .at + 4))) last (Next next) stopped (v .1) in
         let b = came-else full (Stopped (because ListFull (state .at))) (Next (behind s state line)) (Next next) stopped (a .1) in
         record {

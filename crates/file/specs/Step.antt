@@ -62,7 +62,8 @@ listing file words starts state line =
 unfoldable pub onLine : LineAnswer → List ℕ → Lent → List ℕ → State → Step
 onLine (Refused refusal) file lent starts state = Stopped refusal
 onLine (Accepted line) file lent starts state =
-    if lacksContact (line .kind) (split (textAt file (state .at))) (lent .countries) (state .contacts) then Stopped (because ContactMissing (state .at))
+    if lacksContact (line .kind) (split (textAt file (state .at))) (lent .countries) (state .contacts)
+    then Stopped (because ContactMissing (state .at))
     else listing file (lent .words) starts state line
 
 -- what the judge of the next line is told

@@ -1,4 +1,5 @@
-// A whole file: its lines in order, no identcode twice, the list of its lines, its parcels and its cash.
+// A whole file: its lines in order, contacts where the lent countries ask for them, no identcode twice, the list of its lines, its
+// parcels and its cash.
 mod cash;
 mod contact;
 mod identcode;

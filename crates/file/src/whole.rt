@@ -1,8 +1,8 @@
 // A whole file, judged line by line; the lent list then holds where each line starts.
 ghost use mathlib.Core.Path.{_≡_};
+ghost use mathlib.Core.Bool.{true};
 ghost use Prim.Native.Nat.{_≤_};
 ghost use lib.ListN.{length, replicate};
-ghost use mathlib.Core.Bool.{true};
 ghost use Rattle.countries.specs.List.{isPaired};
 ghost use Rattle.line.specs.Line.{fileLimit};
 ghost use Rattle.file.specs.File.{Judges};
@@ -28,10 +28,11 @@ pub enum FileAnswer {
     Refused(Refusal),
 }
 
-// Judges a file, with a list of countries into which no sender ships without both contacts. Accepted, each word of the list below the number of lines is that line's offset and every other word is 0;
-// refused, all words are 0.
+// Judges a file, with a list of countries into which a sender ships only with phone and mail. Accepted, each word of the list for the
+// lines is, below the number of lines, that line's offset, and every other word is 0; refused, all words are 0.
 pub fn judge(file: &[u8], countries: &[u8], list: &mut [u32]) -> FileAnswer
-    ensures { λ r. ⌜ Judges (now (file .entry)) (record { countries = now (countries .entry); words = length (now (list .entry)) }) r (now (list .exit)) ⌝ }
+    ensures { λ r. ⌜ Judges (now (file .entry)) (record { countries = now (countries .entry); words = length (now (list .entry)) })
+        r (now (list .exit)) ⌝ }
 {
     list::clear(list);
     if FILE_LIMIT < file.len() {
@@ -52,8 +53,10 @@ pub fn judge(file: &[u8], countries: &[u8], list: &mut [u32]) -> FileAnswer
 
 // The lines of a file that is not too long, with a list that is clear, and room for a tree of their identcodes.
 fn run(file: &[u8], countries: &[u8], list: &mut [u32], codes: &mut [u32]) -> FileAnswer
-    requires { ⌜ (length (now file) ≤ fileLimit) × (isPaired (now countries) ≡ true) × (now list ≡ replicate (length (now list)) 0) × (treeWords ≤ length (now codes)) ⌝ }
-    ensures { λ r. ⌜ Judges (now (file .entry)) (record { countries = now (countries .entry); words = length (now (list .entry)) }) r (now (list .exit)) ⌝ }
+    requires { ⌜ (length (now file) ≤ fileLimit) × (isPaired (now countries) ≡ true) × (now list ≡ replicate (length (now list)) 0)
+        × (treeWords ≤ length (now codes)) ⌝ }
+    ensures { λ r. ⌜ Judges (now (file .entry)) (record { countries = now (countries .entry); words = length (now (list .entry)) })
+        r (now (list .exit)) ⌝ }
 {
     let mut state = State {
         at: 0,

@@ -1,4 +1,5 @@
--- Document 01, 'The file': "Date-time (010.3 and 010.4 only): `YYYY-MM-DDThh:mm:ss`, year 2000 to 2099, Gregorian, hour to 23, minute and second to 59."
+-- Document 01, 'The file': "Date-time (010.3 and 010.4 only): `YYYY-MM-DDThh:mm:ss`, year 2000 to 2099, Gregorian, hour to 23, minute
+-- and second to 59."
 use Prim.Native.Nat.{ℕ, _%_}
 use mathlib.Core.Bool.{Bool, _&&_, _||_, not}
 use mathlib.Core.List.{List, [], _∷_}

@@ -35,7 +35,8 @@ allowed-with countries others file ls a paired kept =
       contacts = kept;
     }
 
-accepts-with : (countries others file : List ℕ) (words : ℕ) (totals : Totals) (list : List ℕ) (g : Accepts file (lentWith countries words) totals list) →
+accepts-with : (countries others file : List ℕ) (words : ℕ) (totals : Totals) (list : List ℕ)
+    (g : Accepts file (lentWith countries words) totals list) →
     isPaired others ≡ true → ContactsKept others (g .lines) → Accepts file (lentWith others words) totals list
 accepts-with countries others file words totals list g paired kept =
     record {
@@ -52,7 +53,8 @@ pub part-accepts : (file countries part : List ℕ) (words : ℕ) (totals : Tota
 part-accepts file countries part words totals list p j =
     let g = judge-exactly file (lentWith countries words) (Accepted totals) list .0 j in
     judge-exactly file (lentWith part words) (Accepted totals) list .1
-    (accepts-with countries part file words totals list g (part-paired part countries p) (kept-part part countries p (g .lines) (g .allowed .contacts)))
+    (accepts-with countries part file words totals list g (part-paired part countries p)
+    (kept-part part countries p (g .lines) (g .allowed .contacts)))
 
 -- senders with both contacts
 reachable-at : (front : List FileLine) (l : FileLine) (ls : List FileLine) → AllReachable (front ++ (l ∷ ls)) → l .kind ≡ Sender → HasContacts l
@@ -91,7 +93,8 @@ module _ (file countries others : List ℕ) (words : ℕ) (even : isPaired count
   refused-with refusal (RefusedFile.list-full ls l left b full) = RefusedFile.list-full ls l left (begins-with (ls ++ (l ∷ [])) left b) full
   refused-with refusal (RefusedFile.file-ends ls b room e) = RefusedFile.file-ends ls (begins-with ls [] b) room e
 
-  means-with : (answer : FileAnswer) (list : List ℕ) → Means file (lentWith countries words) answer list → Means file (lentWith others words) answer list
+  means-with : (answer : FileAnswer) (list : List ℕ) → Means file (lentWith countries words) answer list →
+      Means file (lentWith others words) answer list
   means-with (Accepted totals) list g =
       accepts-with countries others file words totals list g paired
       (kept-reachable others (g .lines)

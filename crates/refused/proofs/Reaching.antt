@@ -68,7 +68,8 @@ module _ (s : List ℕ) (lent : Lent) where
                   );
             }
 
-  reach : (todo : List FileLine) (done : List FileLine) (left : List ℕ) → Begins (lent .countries) s (done ++ todo) left → length done + length todo ≤ lent .words →
+  reach : (todo : List FileLine) (done : List FileLine) (left : List ℕ) → Begins (lent .countries) s (done ++ todo) left →
+      length done + length todo ≤ lent .words →
       Reached done → Reached (done ++ todo)
   reach [] done left b room r = subst Reached (sym (append-nil done)) r
   reach (l ∷ todo) done left b room r =
@@ -106,7 +107,8 @@ module _ (s : List ℕ) (lent : Lent) where
   ends-there (suc turns) starts state h e = rw (le-ltb (state .at) (length s) h, e)
 
   -- the answer at the place reached
-  answer-there : (ls : List FileLine) (r : Reached ls) → length s ≤ fileLimit → isPaired (lent .countries) ≡ true → (refusal : Refusal) → r .state .at < length s →
+  answer-there : (ls : List FileLine) (r : Reached ls) → length s ≤ fileLimit → isPaired (lent .countries) ≡ true → (refusal : Refusal) →
+      r .state .at < length s →
       stepAnswer s lent (r .starts) (r .state) ≡ Stopped refusal → judged s lent .answer ≡ Refused refusal
   answer-there ls r in-limit paired refusal some e =
       ap (λ (j : Judged). j .answer) (from-begin in-limit paired ∙ r .same) ∙ stops-there (r .turns) (r .starts) (r .state) refusal (r .enough) some e
@@ -138,13 +140,16 @@ module _ (s : List ℕ) (lent : Lent) where
       let at-line = there s ls (r .starts) (r .state) h (lineBytes l ++ left) (f .begins) in
       let t = repeats-code (l .kind) s (r .starts) (r .state .at) (identcodes ls) (l .fields) left (h .seen) k at-line (f .ok) ∙ e in
       let p : r .state .at + 4 ≡ length (fileBytes ls ++ bytes "040;") = omega (arith, h .place, length-append (fileBytes ls) (bytes "040;")) in
-      answer-there ls r (f .begins .in-limit) (f .begins .paired) (because IdentcodeRepeated (r .state .at + 4)) (before-end s ls (r .starts) (r .state) h lent l left f)
-      (step-repeats s ls (r .starts) (r .state) h lent l left f (parcel-spared (lent .countries) ls l k) t) ∙ ap (λ (x : ℕ). Refused (because IdentcodeRepeated x)) p
+      answer-there ls r (f .begins .in-limit) (f .begins .paired) (because IdentcodeRepeated (r .state .at + 4))
+      (before-end s ls (r .starts) (r .state) h lent l left f)
+      (step-repeats s ls (r .starts) (r .state) h lent l left f (parcel-spared (lent .countries) ls l k) t)
+      ∙ ap (λ (x : ℕ). Refused (because IdentcodeRepeated x)) p
   refused-judged refusal (RefusedFile.list-full ls l left b full) =
       let n = next-at (lent .countries) s ls l [] left b in
       let r = reached ls (lineBytes l ++ left) (n .follows .begins) (omega arith) in
       let h = r .here in
-      answer-there ls r (b .in-limit) (b .paired) (because ListFull (r .state .at)) (before-end s ls (r .starts) (r .state) h lent l left (n .follows))
+      answer-there ls r (b .in-limit) (b .paired) (because ListFull (r .state .at))
+      (before-end s ls (r .starts) (r .state) h lent l left (n .follows))
       (step-full s ls (r .starts) (r .state) h lent l left (n .follows) (n .reached) (n .fresh) (omega (arith, h .count)))
       ∙ ap (λ (x : ℕ). Refused (because ListFull x)) (h .place)
   refused-judged refusal (RefusedFile.file-ends ls b room e) =

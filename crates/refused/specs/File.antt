@@ -1,4 +1,5 @@
--- Document 01, 'Refusal numbers', and document 02, request 1: when a file is refused, by which number and at which place, said of the file's own lines.
+-- Document 01, 'Refusal numbers', and document 02, request 1: when a file is refused, by which number and at which place, said of the
+-- file's own lines.
 use Prim.Native.Nat.{ℕ, _≤_, _<_}
 use mathlib.Core.Path.{_≡_}
 use mathlib.Core.Bool.{true, false}
