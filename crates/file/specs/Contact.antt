@@ -20,7 +20,7 @@ hasContacts parts = all (isFilled parts) (12 ∷ 13 ∷ [])
 unfoldable pub contactsBehind : Record → List (List ℕ) → Bool → Bool
 contactsBehind kind parts before = if kind isA Sender then hasContacts parts else before
 
--- "either contact field is empty under a sender who needs both": a shipment into a listed country, 030.20, under a sender that has them
+-- "either contact field is empty under a sender who needs both": asked of a shipment, whose country is 030.20, where its sender has both
 -- or has not
 unfoldable pub lacksContact : Record → List (List ℕ) → List ℕ → Bool → Bool
 lacksContact kind parts countries contacts = kind isA Shipment && (not contacts && isListed countries (getD parts 20 []))
