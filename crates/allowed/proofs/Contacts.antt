@@ -38,6 +38,10 @@ Asked countries before [] = Unit {0}
 Asked countries before (l ∷ ls) =
     (lacksContact (l .kind) (partsOf l) countries before ≡ false) × Asked countries (contactsBehind (l .kind) (partsOf l) before) ls
 
+-- a record that is no sender
+pub other : {A : Type 0} (kind : Record) → (rowOf kind ≡ 1 → ⊥) → kind ≡ Sender → A
+other kind n e = absurd (n (ap rowOf e))
+
 -- the two rules for one line, and those behind it
 module _ (countries : List ℕ) (ls : List FileLine) (b : Bool) (fs : List (List ℕ)) where
   abbrev into : Bool
@@ -57,9 +61,6 @@ module _ (countries : List ℕ) (ls : List FileLine) (b : Bool) (fs : List (List
   -- as the rule says
   abbrev BySender : Record → Type 0
   BySender kind = Spared b (someInto countries (shipmentsUnder (line kind ∷ ls))) × (kind ≡ Sender → into ≡ true → HasContacts (line kind))
-
-  other : {A : Type 0} (kind : Record) → (rowOf kind ≡ 1 → ⊥) → kind ≡ Sender → A
-  other kind n e = absurd (n (ap rowOf e))
 
   into-here : (listed : Bool) → (not b && listed) ≡ false → Spared b into → Spared b (listed || into)
   into-here listed e h z = let f : listed ≡ false = rw z at e in rw (f, h z)

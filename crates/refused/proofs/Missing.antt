@@ -8,19 +8,16 @@ use native.Mathlib.Omega.{arith}
 use borrow.Author.Tests.{not-true}
 use Rattle.text.proofs.Choices.{and-left, and-right, true-or-false, clash}
 use Rattle.countries.specs.List.{isListed}
-use Rattle.fields.specs.Record.{rowOf, typeOf}
+use Rattle.fields.specs.Record.{typeOf}
 use Rattle.fields.specs.declared.record.Record.{Record}
 use Rattle.fields.specs.declared.record.Record.the-variants.{Header, Sender, Shipment, Parcel, Product, Feature}
 use Rattle.line.specs.Parts.{fieldNo}
 use Rattle.file.specs.Contact.{hasContacts, contactsBehind, lacksContact}
 use Rattle.allowed.specs.Allowed.{FileLine, HasContacts}
-use Rattle.allowed.proofs.Contacts.{partsOf, contactsAfter, contacts-told, told-contacts}
+use Rattle.allowed.proofs.Contacts.{partsOf, contactsAfter, other, contacts-told, told-contacts}
 use Rattle.refused.specs.File.{NoSender, Unreachable}
 
 -- one line: it is a sender, or leaves what is known of the sender as it was
-other : (kind : Record) → (rowOf kind ≡ 1 → ⊥) → kind ≡ Sender → ⊥
-other kind n e = n (ap rowOf e)
-
 pub sender-or-not : (kind : Record) (fs : List (List ℕ)) (b : Bool) →
     ((kind ≡ Sender) × (contactsBehind kind (typeOf kind ∷ fs) b ≡ hasContacts (typeOf kind ∷ fs))) ⊎
     ((kind ≡ Sender → ⊥) × (contactsBehind kind (typeOf kind ∷ fs) b ≡ b))

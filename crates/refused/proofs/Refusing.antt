@@ -23,7 +23,7 @@ use Rattle.line.specs.declared.read.Line.{Line}
 use Rattle.line.specs.declared.read.LineAnswer.{LineAnswer}
 use Rattle.line.specs.declared.read.LineAnswer.the-variants.{Accepted as AcceptedLine, Refused as RefusedAnswer}
 use Rattle.grammar.specs.Grammar.{Reads}
-use Rattle.grammar.proofs.Lines.{accepted-reads, read-parts}
+use Rattle.grammar.proofs.Lines.{accepted-reads}
 use Rattle.countries.specs.List.{isPaired}
 use Rattle.file.specs.Lent.{Lent}
 use Rattle.file.specs.Contact.{lacksContact}
@@ -43,7 +43,7 @@ use Rattle.refused.specs.File.{Begins, NextLine, RefusedFile}
 use Rattle.refused.proofs.Lines.{answer-refused}
 use Rattle.refused.proofs.Beginning.{Next, begins-more, left-long}
 use Rattle.refused.proofs.Standing.{Here, line-of, there, inside, line-here, behind-line}
-use Rattle.refused.proofs.Standing.{repeats-parcel, repeats-code}
+use Rattle.refused.proofs.Standing.{asks, repeats-parcel, repeats-code}
 use Rattle.refused.proofs.Missing.{lacks-told}
 
 -- a refusal at an offset in a file that is not too long is one of the line there
@@ -89,12 +89,6 @@ module _ (s : List ℕ) (lent : Lent) where
 
         abbrev lacks : Bool
         lacks = lacksContact (line .kind) (partsOf l) (lent .countries) (contactsAfter true ls)
-
-        -- what the judge asks of it
-        asks : lacksContact (line .kind) (split (textAt s (state .at))) (lent .countries) (state .contacts) ≡ lacks
-        asks =
-            ap (λ (parts : List (List ℕ)). lacksContact (line .kind) parts (lent .countries) (state .contacts)) (read-parts g)
-            ∙ ap (lacksContact (line .kind) (partsOf l) (lent .countries)) (h .contacts)
 
         missing : lacks ≡ true → Refused (because ContactMissing (state .at)) ≡ Refused refusal → RefusedFile s lent refusal
         missing m e =
@@ -154,7 +148,8 @@ module _ (s : List ℕ) (lent : Lent) where
           (line-here s ls starts state h left b other r))
       step-refused (AcceptedLine line) ea e =
           go (lacksContact (line .kind) (split (textAt s (state .at))) (lent .countries) (state .contacts))
-          (repeats (line .kind) s starts (state .at)) (hasWord (lent .words) (state .lines)) (sym (asks line ea)) refl refl e
+          (repeats (line .kind) s starts (state .at)) (hasWord (lent .words) (state .lines))
+          (sym (asks s ls starts state h (lent .countries) line (fieldsOf (textAt s (state .at))) (g line ea))) refl refl e
         where
           go : (v t u : Bool) → lacks line ea ≡ v → repeats (line .kind) s starts (state .at) ≡ t → hasWord (lent .words) (state .lines) ≡ u →
               onStep (if v then Stopped (because ContactMissing (state .at))

@@ -8,7 +8,7 @@ use lib.ListN.{length, drop, length-append}
 use Rattle.refusal.specs.Table.{because}
 use Rattle.refusal.specs.declared.Refusal.{Refusal}
 use Rattle.refusal.specs.declared.Reason.the-variants.{ContactMissing, IdentcodeRepeated, ListFull}
-use Rattle.fields.specs.Record.{mayCome}
+use Rattle.fields.specs.Record.{typeOf, mayCome}
 use Rattle.fields.specs.Profile.{profile}
 use Rattle.fields.specs.declared.record.Record.{Record}
 use Rattle.fields.specs.declared.record.Record.the-variants.{Header, Sender, Shipment, Parcel, Product, Feature}
@@ -49,6 +49,14 @@ line-of at l = record { kind = l .kind; count = length (l .fields); next = at + 
 
 -- an allowed line stands where the judge is
 module _ (s : List ℕ) (ls : List FileLine) (starts : List ℕ) (state : State) (h : Here s ls starts state) where
+  -- what it asks of an accepted line: what the lines so far say of the sender
+  pub asks : (countries : List ℕ) (line : Line) (fs : List (List ℕ)) → Reads (toldBy state) s (state .at) line fs →
+      lacksContact (line .kind) (split (textAt s (state .at))) countries (state .contacts) ≡
+      lacksContact (line .kind) (typeOf (line .kind) ∷ fs) countries (contactsAfter true ls)
+  asks countries line fs g =
+      ap (λ (parts : List (List ℕ)). lacksContact (line .kind) parts countries (state .contacts)) (read-parts g)
+      ∙ ap (lacksContact (line .kind) (typeOf (line .kind) ∷ fs) countries) (h .contacts)
+
   told-is : toldBy state ≡ toldBehind ls
   told-is = ap (λ (d : Due). record { rules = profile; due = d }) (h .next)
 
@@ -122,22 +130,20 @@ module _ (s : List ℕ) (ls : List FileLine) (starts : List ℕ) (state : State)
     abbrev lacks : Bool
     lacks = lacksContact (l .kind) (partsOf l) (lent .countries) (contactsAfter true ls)
 
-    asks : lacksContact (l .kind) (split (textAt s (state .at))) (lent .countries) (state .contacts) ≡ lacks
+    asked : lacksContact (l .kind) (split (textAt s (state .at))) (lent .countries) (state .contacts) ≡ lacks
     unfolding line-of
-    asks =
-        ap (λ (parts : List (List ℕ)). lacksContact (l .kind) parts (lent .countries) (state .contacts)) (read-parts reads)
-        ∙ ap (lacksContact (l .kind) (partsOf l) (lent .countries)) (h .contacts)
+    asked = asks (lent .countries) (line-of (state .at) l) (l .fields) reads
 
     -- its step, by cases
     pub step-lacks : lacks ≡ true → stepAnswer s lent starts state ≡ Stopped (because ContactMissing (state .at))
     unfolding stepAnswer onLine line-of
-    step-lacks e = rw (reads-accepted reads, asks, e)
+    step-lacks e = rw (reads-accepted reads, asked, e)
 
     module _ (reached : lacks ≡ false) where
       pub step-repeats : repeats (l .kind) s starts (state .at) ≡ true →
           stepAnswer s lent starts state ≡ Stopped (because IdentcodeRepeated (state .at + 4))
       unfolding stepAnswer onLine listing line-of
-      step-repeats r = rw (reads-accepted reads, asks, reached, r)
+      step-repeats r = rw (reads-accepted reads, asked, reached, r)
 
       module _ (fresh : Fresh (identcodes ls) (codesOn (l .kind) (l .fields))) where
         new : repeats (l .kind) s starts (state .at) ≡ false
@@ -145,11 +151,11 @@ module _ (s : List ℕ) (ls : List FileLine) (starts : List ℕ) (state : State)
 
         pub step-full : lent .words ≤ state .lines → stepAnswer s lent starts state ≡ Stopped (because ListFull (state .at))
         unfolding stepAnswer onLine listing line-of
-        step-full full = rw (reads-accepted reads, asks, reached, new, no-word (lent .words) (state .lines) full)
+        step-full full = rw (reads-accepted reads, asked, reached, new, no-word (lent .words) (state .lines) full)
 
         pub step-on : state .lines < lent .words → stepAnswer s lent starts state ≡ On (behind s state (line-of (state .at) l))
         unfolding stepAnswer onLine listing line-of
-        step-on r = rw (reads-accepted reads, asks, reached, new, left-word (lent .words) (state .lines) r)
+        step-on r = rw (reads-accepted reads, asked, reached, new, left-word (lent .words) (state .lines) r)
 
 -- a repeated identcode
 pub repeats-parcel : (kind : Record) (s starts : List ℕ) (at : ℕ) → repeats kind s starts at ≡ true → kind ≡ Parcel
