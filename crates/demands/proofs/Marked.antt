@@ -31,7 +31,8 @@ unfolding valueOf step passes shapeOf allowedInNumber checkedAs checkedNumber di
     pointed leadingZero cents digits allDigits dateTime like standsFor goodDay goodTime calendar daysIn leap identcode capitals customer
     version bic mail purposeText featureCodes isFeature codeOf named mayFollow mayCome mayEnd isCash profile widthInTable widthOf
     isRequired hasForm tested isFilled serves isServed lacks endsWell textAnswer afterWalk ofKind ofNamed ofText lineAnswer isTyped cashIn
-    cashOf sameParcel repeats isPaired hasContacts contactsBehind lacksContact hasWord listing onLine stepAnswer judged isCashLine fromShipment forFeature sourceOf
+    cashOf sameParcel repeats isPaired hasContacts contactsBehind lacksContact hasWord listing onLine stepAnswer judged isCashLine
+    fromShipment forFeature sourceOf
 marked-hold = (
   refl,
   (

@@ -171,7 +171,10 @@ lacks-not Sender fs = (λ e. other Sender (omega arith), λ g. refl)
 lacks-not Shipment fs = (λ e. other Shipment (omega arith), λ g. refl)
 lacks-not Parcel fs = (λ e. other Parcel (omega arith), λ g. refl)
 lacks-not Product fs = (λ e. other Product (omega arith), λ g. refl)
-lacks-not Feature fs = (λ e k. served-fields (typeOf Feature) fs (not-false (isServed (typeOf Feature ∷ fs)) e), λ g. ap not (fields-served (typeOf Feature) fs (g refl)))
+lacks-not Feature fs = (
+  λ e k. served-fields (typeOf Feature) fs (not-false (isServed (typeOf Feature ∷ fs)) e),
+  λ g. ap not (fields-served (typeOf Feature) fs (g refl)),
+)
 
 -- a feature lacks something exactly when it has not what it needs
 pub lacks-some : (fs : List (List ℕ)) → (lacks Feature (typeOf Feature ∷ fs) ≡ true) ↔ (Served fs → ⊥)

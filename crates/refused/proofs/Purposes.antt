@@ -33,8 +33,8 @@ use Rattle.refused.proofs.Refusing.{judged-refused}
 use Rattle.refused.proofs.Reaching.{refused-judged}
 
 -- the line with a number is a 006 line, or there is no source
-source-cash : {countries : List ℕ} (s : List ℕ) (ls : List FileLine) (g : AllowedFile countries s ls) (n : ℕ) (x : Sourced) → sourceOf s (lineStarts 0 ls) n ≡ x →
-    (x ≡ Nowhere) ⊎ ((l : FileLine) × LineNo ls n l × CashLine l)
+source-cash : {countries : List ℕ} (s : List ℕ) (ls : List FileLine) (g : AllowedFile countries s ls) (n : ℕ) (x : Sourced) →
+    sourceOf s (lineStarts 0 ls) n ≡ x → (x ≡ Nowhere) ⊎ ((l : FileLine) × LineNo ls n l × CashLine l)
 unfolding sourceOf
 source-cash s ls g n x e =
     choice (leb (length (lineStarts 0 ls)) n) Nowhere _ x (λ t q. inl (sym q))
