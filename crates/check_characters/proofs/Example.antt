@@ -1,4 +1,4 @@
--- The examples that the numbers and the IBANs open with, worked out.
+-- The examples that the numbers, the IBANs and the identcodes open with, worked out.
 use Prim.Native.Nat.{ℕ, _%_}
 use mathlib.Core.Path.{_≡_, refl}
 use mathlib.Core.List.{List, [], _∷_}
@@ -6,6 +6,7 @@ use Rattle.text.specs.Quoted.{byte, bytes}
 use Rattle.check_characters.specs.Symbol.{valueOf, symbolOf}
 use Rattle.check_characters.specs.Mod37.{step, carry, checkOf}
 use Rattle.check_characters.specs.Iban.{digitsOf, ibanNumber}
+use Rattle.check_characters.specs.Identcode.{weightAt, weighed, checkDigit, checkDigitOf}
 
 -- the carry behind each symbol
 abbrev carries : ℕ → List ℕ → List ℕ
@@ -25,3 +26,7 @@ pub example-iban : (ibanNumber (bytes "AT611904300234573201") ≡ 19043002345732
     × (ibanNumber (bytes "AT161904300234573201") ≡ 1904300234573201102916) × (1904300234573201102916 % 97 ≡ 53)
 unfolding valueOf digitsOf
 example-iban = (refl, refl, refl, refl)
+
+pub example-identcode : (weighed (bytes "854637900327598186342") ≡ 204) × (checkDigitOf (bytes "854637900327598186342") ≡ byte "6")
+unfolding valueOf symbolOf weightAt checkDigit
+example-identcode = (refl, refl)

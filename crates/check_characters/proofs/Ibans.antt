@@ -12,7 +12,7 @@ use Rattle.refusal.specs.Table.{because}
 use Rattle.text.specs.Byte.{digit, capital, symbol}
 use Rattle.check_characters.specs.Symbol.{valueOf}
 use Rattle.check_characters.specs.Iban.{allowedInIban, wrongInIban, barred, ibanNumber, soundOf, checkedIban}
-use Rattle.check_characters.specs.declared.iban.IbanAnswer.the-variants.{Accepted, Refused}
+use Rattle.check_characters.specs.declared.answer.CheckAnswer.the-variants.{Accepted, Refused}
 
 module _ (i b : ℕ) (t : Bool) where
   pub allowed-country : i < 2 → t ≡ capital b → t ≡ allowedInIban i b

@@ -5,4 +5,5 @@ pub mod Checking
 pub mod Issuing
 pub mod Digits
 pub mod Ibans
+pub mod Identcodes
 pub mod Example

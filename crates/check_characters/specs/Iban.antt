@@ -12,10 +12,10 @@ use Rattle.text.specs.Byte.{digit, capital, symbol}
 use Rattle.text.specs.Decimal.{numberFrom}
 use Rattle.text.specs.Scan.{firstFailing}
 use Rattle.refusal.specs.declared.Reason.the-variants.{WrongLength, WrongSymbol, WrongCheck}
-use Rattle.refusal.specs.Table.{because, verdictOf, Verdict}
+use Rattle.refusal.specs.Table.{because}
 use Rattle.check_characters.specs.Symbol.{valueOf}
-use Rattle.check_characters.specs.declared.iban.IbanAnswer.{IbanAnswer}
-use Rattle.check_characters.specs.declared.iban.IbanAnswer.the-variants.{Accepted, Refused}
+use Rattle.check_characters.specs.declared.answer.CheckAnswer.{CheckAnswer}
+use Rattle.check_characters.specs.declared.answer.CheckAnswer.the-variants.{Accepted, Refused}
 
 -- "two capitals, two digits, then capitals or digits"
 unfoldable pub allowedInIban : ℕ → ℕ → Bool
@@ -57,14 +57,9 @@ unfoldable pub soundOf : List ℕ → Bool
 soundOf symbols = not (barred (checkDigits symbols)) && eqb (ibanNumber symbols % 97) 1
 
 -- "IBAN: 15 to 34 long", and "the order 16, 17, 18"
-unfoldable pub checkedIban : List ℕ → IbanAnswer
+unfoldable pub checkedIban : List ℕ → CheckAnswer
 checkedIban symbols =
     if not (leb 15 (length symbols) && leb (length symbols) 34) then Refused (because WrongLength 0)
     else if ltb (wrongInIban symbols) (length symbols) then Refused (because WrongSymbol (wrongInIban symbols))
     else if soundOf symbols then Accepted
     else Refused (because WrongCheck 2)
-
--- the paper's number and place for each answer
-abbrev pub ibanVerdict : IbanAnswer → Verdict
-ibanVerdict Accepted = Verdict.passes
-ibanVerdict (Refused refusal) = verdictOf refusal

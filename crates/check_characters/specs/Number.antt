@@ -13,19 +13,20 @@ use mathlib.Core.Path.{_≡_}
 use mathlib.Core.Bool.{Bool, false}
 use mathlib.Core.List.{List, [], _∷_, _++_}
 use lib.Dec.{eqb, ltb}
-use lib.ListN.{length, getD, drop, replicate}
+use lib.ListN.{length, getD, replicate}
 use Rattle.text.specs.Choice.{if_then_else_}
 use Rattle.text.specs.Byte.{digit, symbol}
 use Rattle.text.specs.Scan.{firstFailing}
-use Rattle.refusal.specs.declared.Reason.the-variants.{OutputTooShort, WrongLength, WrongSymbol, WrongCheck}
+use Rattle.refusal.specs.declared.Reason.the-variants.{WrongLength, WrongSymbol, WrongCheck}
 use Rattle.refusal.specs.Table.{because, verdictOf, Verdict}
 use Rattle.check_characters.specs.Mod37.{passes, checkOf}
+use Rattle.check_characters.specs.Answer.{roomFor, issuedTo}
 use Rattle.check_characters.specs.declared.number.Kind.{Kind}
 use Rattle.check_characters.specs.declared.number.Kind.the-variants.{Tracking, Label}
 use Rattle.check_characters.specs.declared.number.NumberAnswer.{NumberAnswer}
 use Rattle.check_characters.specs.declared.number.NumberAnswer.the-variants.{Accepted, Refused}
-use Rattle.check_characters.specs.declared.number.IssueAnswer.{IssueAnswer}
-use Rattle.check_characters.specs.declared.number.IssueAnswer.the-variants.{Issued, Refused}
+use Rattle.check_characters.specs.declared.answer.IssueAnswer.{IssueAnswer}
+use Rattle.check_characters.specs.declared.answer.IssueAnswer.the-variants.{Refused}
 
 -- "Tracking number: 14 digits and a check. Label code: 7 symbols (A-Z, 0-9), 14 digits, 3 digits of service, 3 of country, a
 -- check, 28 in all. A check is A-Z or 0-9."
@@ -63,8 +64,7 @@ checkedNumber symbols =
 unfoldable pub issueAs : Kind → List ℕ → ℕ → IssueAnswer
 issueAs kind body room =
     if ltb (wrongInNumber kind body) (length body) then Refused (because WrongSymbol (wrongInNumber kind body))
-    else if ltb room (lengthOf kind) then Refused (because OutputTooShort 0)
-    else Issued (lengthOf kind)
+    else roomFor (lengthOf kind) room
 
 unfoldable pub issueAnswer : List ℕ → ℕ → IssueAnswer
 issueAnswer body room =
@@ -72,20 +72,11 @@ issueAnswer body room =
     else if eqb (length body) 27 then issueAs Label body room
     else Refused (because WrongLength 0)
 
--- "it writes body and check at the output's start and nothing else, and a refusal writes nothing"
-unfoldable pub issuedTo : IssueAnswer → List ℕ → List ℕ → List ℕ
-issuedTo (Issued n) body output = body ++ checkOf body ∷ drop n output
-issuedTo (Refused refusal) body output = output
-
 -- the answer and the output that issuing allows
 abbrev pub Issues : List ℕ → List ℕ → IssueAnswer → List ℕ → Type 0
-Issues body output answer after = (answer ≡ issueAnswer body (length output)) × (after ≡ issuedTo answer body output)
+Issues body output answer after = (answer ≡ issueAnswer body (length output)) × (after ≡ issuedTo answer body (checkOf body) output)
 
 -- the paper's number and place for each answer
-abbrev pub checkVerdict : NumberAnswer → Verdict
-checkVerdict (Accepted kind) = Verdict.passes
-checkVerdict (Refused refusal) = verdictOf refusal
-
-abbrev pub issueVerdict : IssueAnswer → Verdict
-issueVerdict (Issued n) = Verdict.passes
-issueVerdict (Refused refusal) = verdictOf refusal
+abbrev pub numberVerdict : NumberAnswer → Verdict
+numberVerdict (Accepted kind) = Verdict.passes
+numberVerdict (Refused refusal) = verdictOf refusal

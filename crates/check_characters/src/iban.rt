@@ -11,44 +11,40 @@ ghost use mathlib.Core.Path.{_≡_};
 ghost use Prim.Native.Nat.{_≤_};
 ghost use lib.ListN.{length};
 ghost use Rattle.check_characters.specs.Iban.{allowedInIban, wrongInIban, barred, soundOf, checkedIban};
+use crate::answer::CheckAnswer;
 use crate::remainder;
 use crate::symbol;
 use refusal::Reason;
 use refusal::Refusal;
 
-pub enum IbanAnswer {
-    Accepted,
-    Refused(Refusal),
-}
-
 // Checks an IBAN.
-pub fn check_iban(symbols: &[u8]) -> IbanAnswer
+pub fn check_iban(symbols: &[u8]) -> CheckAnswer
     ensures { λ r. ⌜ r ≡ checkedIban (now (symbols .entry)) ⌝ }
 {
     let n = symbols.len();
     if n < 15 {
-        return IbanAnswer::Refused(Refusal {
+        return CheckAnswer::Refused(Refusal {
             why: Reason::WrongLength,
             place: 0,
         });
     }
     if 34 < n {
-        return IbanAnswer::Refused(Refusal {
+        return CheckAnswer::Refused(Refusal {
             why: Reason::WrongLength,
             place: 0,
         });
     }
     let wrong = wrong_symbol(symbols);
     if wrong < n {
-        return IbanAnswer::Refused(Refusal {
+        return CheckAnswer::Refused(Refusal {
             why: Reason::WrongSymbol,
             place: wrong,
         });
     }
     if is_sound(symbols) {
-        return IbanAnswer::Accepted;
+        return CheckAnswer::Accepted;
     }
-    IbanAnswer::Refused(Refusal {
+    CheckAnswer::Refused(Refusal {
         why: Reason::WrongCheck,
         place: 2,
     })

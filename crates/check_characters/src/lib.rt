@@ -1,15 +1,23 @@
-// Check characters: DPD numbers by ISO/IEC 7064 MOD 37,36, and IBANs by ISO 13616 with MOD 97-10.
+// Check characters: DPD numbers by ISO/IEC 7064 MOD 37,36, IBANs by ISO 13616 with MOD 97-10, and the Post's identcodes by its manual.
+mod answer;
 mod carry;
 mod iban;
+mod identcode;
 mod number;
 mod remainder;
 mod symbol;
 
+pub use answer::CheckAnswer;
+pub use answer::IssueAnswer;
 pub use carry::carry_after;
 pub use carry::check_of;
-pub use iban::IbanAnswer;
 pub use iban::check_iban;
-pub use number::IssueAnswer;
+pub use identcode::Part;
+pub use identcode::Parts;
+pub use identcode::PartsAnswer;
+pub use identcode::check_identcode;
+pub use identcode::issue_identcode;
+pub use identcode::read_identcode;
 pub use number::Kind;
 pub use number::NumberAnswer;
 pub use number::check_number;

@@ -13,7 +13,11 @@ ghost use mathlib.Core.Path.{_≡_};
 ghost use Prim.Native.Nat.{_+_, _<_, _≤_};
 ghost use lib.ListN.{length};
 ghost use Rattle.check_characters.specs.Number.{lengthOf, allowedInNumber, wrongInNumber, checkedAs, checkedNumber};
-ghost use Rattle.check_characters.specs.Number.{issueAs, issuedTo, Issues};
+ghost use Rattle.check_characters.specs.Number.{issueAs, Issues};
+ghost use Rattle.check_characters.specs.Answer.{issuedTo};
+ghost use Rattle.check_characters.specs.Mod37.{checkOf};
+use crate::answer;
+use crate::answer::IssueAnswer;
 use crate::carry;
 use crate::symbol;
 use refusal::Reason;
@@ -26,12 +30,6 @@ pub enum Kind {
 
 pub enum NumberAnswer {
     Accepted(Kind),
-    Refused(Refusal),
-}
-
-pub enum IssueAnswer {
-    // How many bytes were written.
-    Issued(usize),
     Refused(Refusal),
 }
 
@@ -98,27 +96,17 @@ fn check_as(kind: Kind, symbols: &[u8]) -> NumberAnswer
 fn issue_as(kind: Kind, body: &[u8], output: &mut [u8]) -> IssueAnswer
     requires { ⌜ length (now body) + 1 ≡ lengthOf kind ⌝ }
     ensures { λ r. ⌜ (r ≡ issueAs kind (now (body .entry)) (length (now (output .entry))))
-        × (now (output .exit) ≡ issuedTo r (now (body .entry)) (now (output .entry))) ⌝ }
+        × (now (output .exit) ≡ issuedTo r (now (body .entry)) (checkOf (now (body .entry))) (now (output .entry))) ⌝ }
 {
-    let n = body.len();
-    let whole = n + 1;
     let wrong = wrong_symbol(kind, body);
-    if wrong < n {
+    if wrong < body.len() {
         return IssueAnswer::Refused(Refusal {
             why: Reason::WrongSymbol,
             place: wrong,
         });
     }
-    if output.len() < whole {
-        return IssueAnswer::Refused(Refusal {
-            why: Reason::OutputTooShort,
-            place: 0,
-        });
-    }
     let check = carry::check_of(body);
-    text::place(output, 0, body);
-    output[n] = check;
-    IssueAnswer::Issued(whole)
+    answer::issue(body, check, output)
 }
 
 // The place of the first symbol that is not allowed where it stands, or the end.

@@ -4,9 +4,12 @@ use mathlib.Core.Path.{_≡_, sym, ap, _∙_}
 use mathlib.Core.List.{List}
 use lib.ListN.{length, replicate}
 use Rattle.text.specs.Placed.{placed}
-use Rattle.check_characters.specs.Number.{issueAnswer, issuedTo, checkedNumber}
+use Rattle.check_characters.specs.Answer.{issuedTo}
+use Rattle.check_characters.specs.Mod37.{checkOf}
+use Rattle.check_characters.specs.Number.{issueAnswer, checkedNumber}
 use Rattle.check_characters.specs.Iban.{checkedIban}
-use Rattle.check_characters.specs.declared.number.IssueAnswer.{IssueAnswer}
+use Rattle.check_characters.specs.Identcode.{checkDigitOf, checkedIdentcode, partsAnswer, identcodeAnswer}
+use Rattle.check_characters.specs.declared.answer.IssueAnswer.{IssueAnswer}
 use Rattle.fields.specs.Profile.{profile}
 use Rattle.fields.specs.Field.{tested}
 use Rattle.line.specs.Line.{lineAnswer, alone}
@@ -20,6 +23,9 @@ use Rattle.demands.specs.Demand1.{
   CheckNumberUnique,
   IssueNumberUnique,
   CheckIbanUnique,
+  CheckIdentcodeUnique,
+  ReadIdentcodeUnique,
+  IssueIdentcodeUnique,
   ReadLineUnique,
   FindFieldUnique,
   TestFieldUnique,
@@ -37,6 +43,9 @@ use Rattle.demands.specs.Demand1.{
   CheckNumberCallUnique,
   IssueNumberCallUnique,
   CheckIbanCallUnique,
+  CheckIdentcodeCallUnique,
+  ReadIdentcodeCallUnique,
+  IssueIdentcodeCallUnique,
 }
 
 -- two answers that equal one definition of one input are equal
@@ -46,13 +55,28 @@ one-answer definition input a b p q = p ∙ sym q
 pub check-number-unique : CheckNumberUnique
 check-number-unique s = one-answer checkedNumber s
 
+-- and what they write is equal
+one-output : (answer : ℕ → IssueAnswer) (body out : List ℕ) (check : ℕ) (a b : IssueAnswer) (x y : List ℕ) →
+    (a ≡ answer (length out)) × (x ≡ issuedTo a body check out) → (b ≡ answer (length out)) × (y ≡ issuedTo b body check out) →
+    (a ≡ b) × (x ≡ y)
+one-output answer body out check a b x y p q =
+    let same = one-answer answer (length out) a b (p .0) (q .0) in
+    (same, p .1 ∙ ap (λ (r : IssueAnswer). issuedTo r body check out) same ∙ sym (q .1))
+
 pub issue-number-unique : IssueNumberUnique
-issue-number-unique body out a b x y p q =
-    let same = one-answer (issueAnswer body) (length out) a b (p .0) (q .0) in
-    (same, p .1 ∙ ap (λ (r : IssueAnswer). issuedTo r body out) same ∙ sym (q .1))
+issue-number-unique body out = one-output (issueAnswer body) body out (checkOf body)
 
 pub check-iban-unique : CheckIbanUnique
 check-iban-unique s = one-answer checkedIban s
+
+pub check-identcode-unique : CheckIdentcodeUnique
+check-identcode-unique code = one-answer checkedIdentcode code
+
+pub read-identcode-unique : ReadIdentcodeUnique
+read-identcode-unique code = one-answer partsAnswer code
+
+pub issue-identcode-unique : IssueIdentcodeUnique
+issue-identcode-unique body out = one-output (identcodeAnswer body) body out (checkDigitOf body)
 
 pub read-line-unique : ReadLineUnique
 read-line-unique s = one-answer (lineAnswer (alone profile) s)
@@ -118,3 +142,13 @@ issue-number-call-unique body output n bytes place n₂ bytes₂ place₂ x y p 
 
 pub check-iban-call-unique : CheckIbanCallUnique
 check-iban-call-unique symbols n place n₂ place₂ p q = (p .0 ∙ sym (q .0), p .1 ∙ sym (q .1))
+
+pub check-identcode-call-unique : CheckIdentcodeCallUnique
+check-identcode-call-unique code n place n₂ place₂ p q = (p .0 ∙ sym (q .0), p .1 ∙ sym (q .1))
+
+pub read-identcode-call-unique : ReadIdentcodeCallUnique
+read-identcode-call-unique code n place n₂ place₂ parts parts₂ p q = (p .0 .0 ∙ sym (q .0 .0), p .1 ∙ sym (q .1), p .0 .1 ∙ sym (q .0 .1))
+
+pub issue-identcode-call-unique : IssueIdentcodeCallUnique
+issue-identcode-call-unique body output n bytes place n₂ bytes₂ place₂ x y p q =
+    (p .0 .0 ∙ sym (q .0 .0), p .1 ∙ sym (q .1), p .0 .1 ∙ sym (q .0 .1), p .2 ∙ sym (q .2))

@@ -1,8 +1,14 @@
 -- Proofs of the statements in specs/Demand2.
+use Prim.Native.Nat.{ℕ}
 use mathlib.Core.Path.{sym, _∙_}
+use mathlib.Core.List.{List, [], _∷_, _++_}
 use lib.ListN.{take}
 use Rattle.fields.specs.Profile.{profile}
+use Rattle.fields.specs.declared.record.Record.{Record}
+use Rattle.fields.specs.declared.record.Record.the-variants.{Header, Sender, Shipment, Parcel, Product, Feature}
 use Rattle.line.specs.Line.{alone}
+use Rattle.grammar.specs.Grammar.{LineOk}
+use Rattle.allowed.specs.Allowed.{FileLine, LinesOk, codesOn, identcodes as identcodesOf}
 use Rattle.grammar.proofs.Lines as lines
 use Rattle.grammar.proofs.Finding as finding
 use Rattle.file.specs.declared.whole.FileAnswer.the-variants.{Accepted as AcceptedFile}
@@ -12,6 +18,10 @@ use Rattle.refused.proofs.Deciding.{judge-exactly}
 use Rattle.slips.proofs.Numbers as numbers
 use Rattle.slips.proofs.Ibans as ibans
 use Rattle.slips.proofs.Issues.{issued-sound, sound-issued}
+use Rattle.slips.proofs.Identcodes as identcodes
+use Rattle.slips.proofs.IdentcodeIssues as codes
+use Rattle.slips.proofs.Parts as parts
+use Rattle.refused.proofs.Parcels.{parcel-passes}
 use Rattle.demands.specs.Demand2.{
   FileExactly,
   OneDivisionIntoLines,
@@ -26,6 +36,13 @@ use Rattle.demands.specs.Demand2.{
   IbanExactly,
   IssuedIsAccepted,
   AcceptedIsIssued,
+  IdentcodeExactly,
+  PartsExactly,
+  PartsJoined,
+  IssuedIdentcodeIsAccepted,
+  AcceptedIdentcodeIsIssued,
+  EachPasses,
+  CodesPass,
 }
 
 pub file-exactly : FileExactly
@@ -67,3 +84,34 @@ issued-is-accepted body out after n h = let g = issued-sound body out after n h 
 
 pub accepted-is-issued : AcceptedIsIssued
 accepted-is-issued k s out after answer e room h = sound-issued k s out after answer (numbers.accepted-sound k s e) room h
+
+pub identcode-exactly : IdentcodeExactly
+identcode-exactly code = (identcodes.accepted-sound code, identcodes.sound-accepted code)
+
+pub parts-exactly : PartsExactly
+parts-exactly = parts.parts-exactly
+
+pub parts-joined : PartsJoined
+parts-joined = parts.parts-joined
+
+pub issued-identcode-is-accepted : IssuedIdentcodeIsAccepted
+issued-identcode-is-accepted body out after n h = identcodes.sound-accepted (take n after) (codes.issued-sound body out after n h)
+
+pub accepted-identcode-is-issued : AcceptedIdentcodeIsIssued
+accepted-identcode-is-issued code out after answer e room h =
+    codes.sound-issued code out after answer (identcodes.accepted-sound code e) room h
+
+pub codes-pass : CodesPass
+codes-pass countries s ls g = go ls (g .lines)
+  where
+    more : (kind : Record) (fs : List (List ℕ)) → LineOk profile kind fs → (codes : List (List ℕ)) → EachPasses codes → EachPasses (codesOn kind fs ++ codes)
+    more Parcel fs ok codes each = (parcel-passes fs ok, each)
+    more Header fs ok codes each = each
+    more Sender fs ok codes each = each
+    more Shipment fs ok codes each = each
+    more Product fs ok codes each = each
+    more Feature fs ok codes each = each
+
+    go : (ls : List FileLine) → LinesOk ls → EachPasses (identcodesOf ls)
+    go [] ok = tt
+    go (l ∷ ls) ok = more (l .kind) (l .fields) (ok .0) (identcodesOf ls) (go ls (ok .1))

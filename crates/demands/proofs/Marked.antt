@@ -1,11 +1,13 @@
 -- The marked cases of document 01 hold, all of them. So the promises are not empty: a file is allowed.
 use mathlib.Core.Path.{refl}
 use mathlib.Core.List.{[], _∷_}
-use Rattle.check_characters.specs.Symbol.{valueOf}
+use Rattle.check_characters.specs.Symbol.{valueOf, symbolOf}
+use Rattle.check_characters.specs.Answer.{roomFor, issuedTo}
 use Rattle.check_characters.specs.Mod37.{step, passes}
 use Rattle.check_characters.specs.Number.{shapeOf, checkedAs, allowedInNumber, checkedNumber}
 use Rattle.check_characters.specs.Iban.{digitsOf, barred, soundOf, allowedInIban, checkedIban}
-use Rattle.forms.specs.Shape.{allDigits, digits, identcode, capitals, customer, version, bic, mail, purposeText}
+use Rattle.check_characters.specs.Identcode.{weightAt, checkDigit, passes as codePasses, checkedIdentcode, partsAnswer, identcodeAnswer}
+use Rattle.forms.specs.Shape.{allDigits, digits, capitals, customer, version, bic, mail, purposeText}
 use Rattle.forms.specs.Amount.{cents, pointed, leadingZero, amount}
 use Rattle.forms.specs.Date.{standsFor, like, leap, daysIn, calendar, goodDay, goodTime, dateTime}
 use Rattle.forms.specs.Feature.{featureCodes, isFeature, codeOf}
@@ -27,8 +29,8 @@ use Rattle.allowed.proofs.Files.{accepted-allowed}
 use Rattle.demands.specs.Marked.{example, lentWith, MarkedHold, AFileIsAllowed}
 
 pub marked-hold : MarkedHold
-unfolding valueOf step passes shapeOf allowedInNumber checkedAs checkedNumber digitsOf barred soundOf allowedInIban checkedIban amount
-    pointed leadingZero cents digits allDigits dateTime like standsFor goodDay goodTime calendar daysIn leap identcode capitals customer
+unfolding valueOf symbolOf roomFor issuedTo weightAt checkDigit codePasses checkedIdentcode partsAnswer identcodeAnswer step passes shapeOf allowedInNumber checkedAs checkedNumber digitsOf barred soundOf allowedInIban checkedIban amount
+    pointed leadingZero cents digits allDigits dateTime like standsFor goodDay goodTime calendar daysIn leap capitals customer
     version bic mail purposeText featureCodes isFeature codeOf named mayFollow mayCome mayEnd isCash profile widthInTable widthOf
     isRequired hasForm tested isFilled serves isServed lacks endsWell textAnswer afterWalk ofKind ofNamed ofText lineAnswer isTyped cashIn
     cashOf sameParcel repeats isPaired hasContacts contactsBehind lacksContact hasWord listing onLine stepAnswer judged isCashLine
@@ -65,7 +67,7 @@ marked-hold = (
                               refl,
                               (
                                 refl,
-                                (refl, (refl, (refl, (refl, (refl, (refl, (refl, (refl, (refl, (refl, tt)))))))))),
+                                (refl, (refl, (refl, (refl, (refl, (refl, (refl, (refl, (refl, (refl, (refl, (refl, (refl, (refl, (refl, (refl, (refl, tt))))))))))))))))),
                               ),
                             ),
                           ),

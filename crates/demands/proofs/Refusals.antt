@@ -8,6 +8,8 @@ use Rattle.refused.proofs.Deciding as deciding
 use Rattle.refused.proofs.Writing as writing
 use Rattle.refused.proofs.Purposes as purposes
 use Rattle.refused.proofs.Numbers as numbers
+use Rattle.refused.proofs.Identcodes as identcodes
+use Rattle.refused.proofs.Parcels as parcels
 use Rattle.refused.proofs.Either as either
 use Rattle.demands.specs.Refusals.{
   FileRefusedExactly,
@@ -23,6 +25,10 @@ use Rattle.demands.specs.Refusals.{
   NumberRefusedExactly,
   IbanRefusedExactly,
   IssueRefusedExactly,
+  IdentcodeRefusedExactly,
+  PartsRefusedExactly,
+  IssueIdentcodeRefusedExactly,
+  FailingCodeRefused,
   LineAlwaysOne,
   LineNeverBoth,
   FieldAlwaysOne,
@@ -33,6 +39,8 @@ use Rattle.demands.specs.Refusals.{
   NumberNeverBoth,
   IbanAlwaysOne,
   IbanNeverBoth,
+  IdentcodeAlwaysOne,
+  IdentcodeNeverBoth,
 }
 
 pub file-refused-exactly : FileRefusedExactly
@@ -74,6 +82,18 @@ iban-refused-exactly = numbers.iban-refused-exactly
 pub issue-refused-exactly : IssueRefusedExactly
 issue-refused-exactly = numbers.issue-refused-exactly
 
+pub identcode-refused-exactly : IdentcodeRefusedExactly
+identcode-refused-exactly = identcodes.identcode-refused-exactly
+
+pub parts-refused-exactly : PartsRefusedExactly
+parts-refused-exactly = identcodes.parts-refused-exactly
+
+pub issue-identcode-refused-exactly : IssueIdentcodeRefusedExactly
+issue-identcode-refused-exactly = identcodes.identcode-issue-refused-exactly
+
+pub failing-code-refused : FailingCodeRefused
+failing-code-refused = parcels.failing-code
+
 pub line-always-one : LineAlwaysOne
 line-always-one = either.line-always-one (alone profile)
 
@@ -103,3 +123,9 @@ iban-always-one = either.iban-always-one
 
 pub iban-never-both : IbanNeverBoth
 iban-never-both = either.iban-never-both
+
+pub identcode-always-one : IdentcodeAlwaysOne
+identcode-always-one = identcodes.identcode-always-one
+
+pub identcode-never-both : IdentcodeNeverBoth
+identcode-never-both = identcodes.identcode-never-both

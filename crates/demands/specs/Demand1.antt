@@ -9,9 +9,11 @@ use lib.ListN.{length, replicate}
 use Rattle.text.specs.Placed.{placed}
 use Rattle.check_characters.specs.Number.{Issues, checkedNumber}
 use Rattle.check_characters.specs.Iban.{checkedIban}
+use Rattle.check_characters.specs.Identcode.{checkedIdentcode, partsAnswer, IssuesIdentcode}
 use Rattle.check_characters.specs.declared.number.NumberAnswer.{NumberAnswer}
-use Rattle.check_characters.specs.declared.number.IssueAnswer.{IssueAnswer}
-use Rattle.check_characters.specs.declared.iban.IbanAnswer.{IbanAnswer}
+use Rattle.check_characters.specs.declared.answer.IssueAnswer.{IssueAnswer}
+use Rattle.check_characters.specs.declared.answer.CheckAnswer.{CheckAnswer}
+use Rattle.check_characters.specs.declared.identcode.PartsAnswer.{PartsAnswer}
 use Rattle.identcodes.specs.Tree.{Finds}
 use Rattle.identcodes.specs.declared.CodeAnswer.{CodeAnswer}
 use Rattle.fields.specs.Profile.{profile}
@@ -30,6 +32,7 @@ use Rattle.purpose.specs.Purpose.{Purposes}
 use Rattle.purpose.specs.declared.write.PurposeAnswer.{PurposeAnswer}
 use Rattle.file.specs.declared.whole.FileAnswer.{FileAnswer}
 use Rattle.peliranopi.specs.Calls.{JudgeTells, LineTells, FieldTells, WriteTells, PurposeTells, NumberTells, IssueTells, IbanTells}
+use Rattle.peliranopi.specs.Calls.{IdentcodeTells, PartsTells, IssueIdentcodeTells}
 
 -- A contract `answer ≡ definition of the inputs` leaves one answer. That is the contract of every public function but those that
 -- write into a buffer, which have relations of their own (`Issues`, `Judges` and so on).
@@ -44,7 +47,20 @@ IssueNumberUnique =
 
 abbrev pub CheckIbanUnique : Type 0
 CheckIbanUnique =
-    (symbols : List ℕ) (a b : IbanAnswer) → a ≡ checkedIban symbols → b ≡ checkedIban symbols → a ≡ b
+    (symbols : List ℕ) (a b : CheckAnswer) → a ≡ checkedIban symbols → b ≡ checkedIban symbols → a ≡ b
+
+abbrev pub CheckIdentcodeUnique : Type 0
+CheckIdentcodeUnique =
+    (code : List ℕ) (a b : CheckAnswer) → a ≡ checkedIdentcode code → b ≡ checkedIdentcode code → a ≡ b
+
+abbrev pub ReadIdentcodeUnique : Type 0
+ReadIdentcodeUnique =
+    (code : List ℕ) (a b : PartsAnswer) → a ≡ partsAnswer code → b ≡ partsAnswer code → a ≡ b
+
+abbrev pub IssueIdentcodeUnique : Type 0
+IssueIdentcodeUnique =
+    (body output : List ℕ) (a b : IssueAnswer) (x y : List ℕ) → IssuesIdentcode body output a x → IssuesIdentcode body output b y →
+    (a ≡ b) × (x ≡ y)
 
 abbrev pub ReadLineUnique : Type 0
 ReadLineUnique =
@@ -133,3 +149,17 @@ IssueNumberCallUnique =
 abbrev pub CheckIbanCallUnique : Type 0
 CheckIbanCallUnique =
     (symbols : List ℕ) (n place n₂ place₂ : ℕ) → IbanTells symbols n place → IbanTells symbols n₂ place₂ → (n ≡ n₂) × (place ≡ place₂)
+
+abbrev pub CheckIdentcodeCallUnique : Type 0
+CheckIdentcodeCallUnique =
+    (code : List ℕ) (n place n₂ place₂ : ℕ) → IdentcodeTells code n place → IdentcodeTells code n₂ place₂ → (n ≡ n₂) × (place ≡ place₂)
+
+abbrev pub ReadIdentcodeCallUnique : Type 0
+ReadIdentcodeCallUnique =
+    (code : List ℕ) (n place n₂ place₂ : ℕ) (parts parts₂ : List ℕ) → PartsTells code n parts place → PartsTells code n₂ parts₂ place₂ →
+    (n ≡ n₂) × (parts ≡ parts₂) × (place ≡ place₂)
+
+abbrev pub IssueIdentcodeCallUnique : Type 0
+IssueIdentcodeCallUnique =
+    (body output : List ℕ) (n bytes place n₂ bytes₂ place₂ : ℕ) (x y : List ℕ) → IssueIdentcodeTells body output n bytes place x →
+    IssueIdentcodeTells body output n₂ bytes₂ place₂ y → (n ≡ n₂) × (bytes ≡ bytes₂) × (place ≡ place₂) × (x ≡ y)

@@ -1,19 +1,22 @@
 -- Demand 2: "A file is accepted exactly when our profile of the pre-advice manual allows it. Line list, parcel count and cash total
 -- are those of the file's own lines. A written line reads back to its fields, and an accepted line written again gives its own bytes.
 -- DPD numbers and IBANs pass exactly by ISO 7064." With the list of countries that is lent as part of the file's rules (document 02,
--- request 1); what that list does stands in Countries.
+-- request 1); what that list does stands in Countries. Identcodes pass exactly by the manual (request 2).
 use Prim.Native.Nat.{ℕ, _+_, _-_, _≤_}
 use mathlib.Core.Path.{_≡_}
-use mathlib.Core.List.{List, _++_}
+use mathlib.Core.List.{List, [], _∷_, _++_}
 use mathlib.Core.Logic.{_↔_}
 use lib.ListN.{length, take, drop}
 use Rattle.check_characters.specs.Number.{Issues, checkedNumber}
 use Rattle.check_characters.specs.Iban.{checkedIban}
+use Rattle.check_characters.specs.Identcode.{checkedIdentcode, partsAnswer, IssuesIdentcode}
 use Rattle.check_characters.specs.declared.number.Kind.{Kind}
 use Rattle.check_characters.specs.declared.number.NumberAnswer.the-variants.{Accepted}
-use Rattle.check_characters.specs.declared.number.IssueAnswer.{IssueAnswer}
-use Rattle.check_characters.specs.declared.number.IssueAnswer.the-variants.{Issued}
-use Rattle.check_characters.specs.declared.iban.IbanAnswer.the-variants.{Accepted as AcceptedIban}
+use Rattle.check_characters.specs.declared.answer.IssueAnswer.{IssueAnswer}
+use Rattle.check_characters.specs.declared.answer.IssueAnswer.the-variants.{Issued}
+use Rattle.check_characters.specs.declared.answer.CheckAnswer.the-variants.{Accepted as Passed}
+use Rattle.check_characters.specs.declared.identcode.Parts.{Parts}
+use Rattle.check_characters.specs.declared.identcode.PartsAnswer.the-variants.{Read}
 use Rattle.fields.specs.Profile.{profile}
 use Rattle.line.specs.Line.{lineAnswer, alone}
 use Rattle.line.specs.Find.{fieldAnswer}
@@ -33,8 +36,8 @@ use Rattle.writer.specs.Write.{recordNumbered, between, writeAnswer, Writes}
 use Rattle.grammar.specs.Written.{inOne, endsFrom, Writable, ReadsBack}
 use Rattle.writer.specs.declared.write.WriteAnswer.{WriteAnswer}
 use Rattle.writer.specs.declared.write.WriteAnswer.the-variants.{Written}
-use Rattle.allowed.specs.Allowed.{FileLine, AllowedFile, Accepts}
-use Rattle.slips.specs.Exactly.{SoundNumber, SoundIban, bodyOf}
+use Rattle.allowed.specs.Allowed.{FileLine, AllowedFile, Accepts, identcodes}
+use Rattle.slips.specs.Exactly.{SoundNumber, SoundIban, SoundIdentcode, Divides, inOrder, joined, bodyOf}
 
 -- A file is accepted, with these totals and this list, exactly when it is allowed with the countries that were lent, the list has a
 -- word for each of its lines, the totals are those of its lines, and each word is where that line starts, every other 0. So a judge
@@ -105,7 +108,7 @@ NumberExactly =
 -- an IBAN is accepted exactly when it has the length and shape of one, its check digits may stand, and the remainder by 97 is 1
 abbrev pub IbanExactly : Type 0
 IbanExactly =
-    (symbols : List ℕ) → (checkedIban symbols ≡ AcceptedIban) ↔ SoundIban symbols
+    (symbols : List ℕ) → (checkedIban symbols ≡ Passed) ↔ SoundIban symbols
 
 -- what issuing writes is accepted
 abbrev pub IssuedIsAccepted : Type 0
@@ -119,3 +122,38 @@ AcceptedIsIssued =
     (kind : Kind) (symbols output after : List ℕ) (answer : IssueAnswer) → checkedNumber symbols ≡ Accepted kind → length symbols ≤ length output →
     Issues (bodyOf symbols) output answer after
     → (answer ≡ Issued (length symbols)) × (after ≡ symbols ++ drop (length symbols) output)
+
+-- an identcode is accepted exactly when it has 22 digits and the last is the check digit of the others
+abbrev pub IdentcodeExactly : Type 0
+IdentcodeExactly =
+    (code : List ℕ) → (checkedIdentcode code ≡ Passed) ↔ SoundIdentcode code
+
+-- its six parts are read exactly then, each behind the other with the manual's widths;
+abbrev pub PartsExactly : Type 0
+PartsExactly =
+    (code : List ℕ) (parts : Parts) → (partsAnswer code ≡ Read parts) ↔ (SoundIdentcode code × Divides parts)
+
+-- and joined again they are the code
+abbrev pub PartsJoined : Type 0
+PartsJoined =
+    (code : List ℕ) (parts : Parts) → partsAnswer code ≡ Read parts → joined code (inOrder parts) ≡ code
+
+-- an identcode that is issued is accepted
+abbrev pub IssuedIdentcodeIsAccepted : Type 0
+IssuedIdentcodeIsAccepted =
+    (body output after : List ℕ) (n : ℕ) → IssuesIdentcode body output (Issued n) after → checkedIdentcode (take n after) ≡ Passed
+
+-- and an accepted one is what issuing its body writes, wherever there is room for it
+abbrev pub AcceptedIdentcodeIsIssued : Type 0
+AcceptedIdentcodeIsIssued =
+    (code output after : List ℕ) (answer : IssueAnswer) → checkedIdentcode code ≡ Passed → length code ≤ length output →
+    IssuesIdentcode (bodyOf code) output answer after → (answer ≡ Issued (length code)) × (after ≡ code ++ drop (length code) output)
+
+-- "040.1 must pass from now on": each identcode of an allowed file does
+abbrev pub EachPasses : List (List ℕ) → Type 0
+EachPasses [] = Unit {0}
+EachPasses (code ∷ codes) = (checkedIdentcode code ≡ Passed) × EachPasses codes
+
+abbrev pub CodesPass : Type 0
+CodesPass =
+    (countries file : List ℕ) (ls : List FileLine) → AllowedFile countries file ls → EachPasses (identcodes ls)

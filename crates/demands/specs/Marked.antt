@@ -3,14 +3,20 @@ use Prim.Native.Nat.{ℕ}
 use Prim.Native.String.{String}
 use mathlib.Core.Path.{_≡_}
 use mathlib.Core.Bool.{Bool, true, false}
-use mathlib.Core.List.{List, [], _∷_, _++_}
+use mathlib.Core.List.{List, [], _∷_, _++_, map}
+use lib.ListN.{replicate}
 use Rattle.refusal.specs.Table.{because, Verdict}
-use Rattle.refusal.specs.declared.Reason.the-variants.{UnknownRecord, FieldCount, FileEnds, ContactMissing, CountriesOdd}
+use Rattle.refusal.specs.declared.Reason.the-variants.{UnknownRecord, FieldCount, FieldForm, FileEnds, ContactMissing, CountriesOdd}
 use Rattle.text.specs.Quoted.{bytes}
 use Rattle.forms.specs.Amount.{amount}
 use Rattle.forms.specs.Date.{dateTime}
-use Rattle.check_characters.specs.Number.{checkVerdict, checkedNumber}
-use Rattle.check_characters.specs.Iban.{ibanVerdict, checkedIban}
+use Rattle.check_characters.specs.Answer.{checkVerdict, issuedTo}
+use Rattle.check_characters.specs.Number.{numberVerdict, checkedNumber}
+use Rattle.check_characters.specs.Iban.{checkedIban}
+use Rattle.check_characters.specs.Identcode.{checkDigitOf, checkedIdentcode, partsAnswer, identcodeAnswer}
+use Rattle.check_characters.specs.declared.identcode.PartsAnswer.{PartsAnswer}
+use Rattle.check_characters.specs.declared.identcode.PartsAnswer.the-variants.{Read, Refused as NotRead}
+use Rattle.slips.specs.Exactly.{digitsOf, inOrder}
 use Rattle.file.specs.Lent.{Lent}
 use Rattle.file.specs.File.{judged}
 use Rattle.file.specs.declared.whole.FileAnswer.{FileAnswer}
@@ -23,26 +29,36 @@ abbrev pub lines : List String → List ℕ
 lines [] = []
 lines (text ∷ more) = bytes text ++ bytes "\r\n" ++ lines more
 
-abbrev pub exampleOf : String → List ℕ
-exampleOf sender =
+abbrev pub exampleOf : String → String → List ℕ
+exampleOf sender parcel =
     lines
     ("010;0012345678;Muster;2021-02-23T13:37:50;2021-02-24T14:20:55;1005;5;;;;" ∷ sender ∷
-    "030;;;;;;;;;;;;;;;;B;;;;AT;1020;Wien;;Gasse;;2;;;;;;;;;;;;;;" ∷ "040;1000000000000000000001;;" ∷ "050;10" ∷
+    "030;;;;;;;;;;;;;;;;B;;;;AT;1020;Wien;;Gasse;;2;;;;;;;;;;;;;;" ∷ parcel ∷ "050;10" ∷
     "060;006;;12.50;EUR;Muster;AT611904300234573201;ABCDATWW;;;" ∷ [])
 
+-- document 02, request 2: "Our example file's identcode is exchanged for a valid one."
 abbrev pub example : List ℕ
-example = exampleOf "020;A;;;;AT;1010;Wien;;Gasse;;1;1;a@b;;;"
+example = exampleOf "020;A;;;;AT;1010;Wien;;Gasse;;1;1;a@b;;;" "040;1000000000000000000007;;"
 
--- the same without the sender's phone
+-- the same without the sender's phone, and with the identcode that it had
 abbrev pub unreachable : List ℕ
-unreachable = exampleOf "020;A;;;;AT;1010;Wien;;Gasse;;1;;a@b;;;"
+unreachable = exampleOf "020;A;;;;AT;1010;Wien;;Gasse;;1;;a@b;;;" "040;1000000000000000000007;;"
+
+abbrev pub failing : List ℕ
+failing = exampleOf "020;A;;;;AT;1010;Wien;;Gasse;;1;1;a@b;;;" "040;1000000000000000000001;;"
 
 -- "lends 4,096 words"; document 02, request 1: "an empty list, which the program lends"
 abbrev pub lentWith : String → Lent
 lentWith countries = record { countries = bytes countries; words = 4096 }
 
+-- the digits of a code's parts, none where it is refused
+abbrev pub cut : List ℕ → PartsAnswer → List (List ℕ)
+cut code (Read parts) = map (λ part. digitsOf code part) (inOrder parts)
+cut code (NotRead refusal) = []
+
 -- what the paper says of an input: the verdict on a DPD number or an IBAN, whether an amount or a date-time holds; what judging a file
--- with these countries answers, and where its lines start; the purpose of the line with a number
+-- with these countries answers, and where its lines start; the purpose of the line with a number; the verdict on an identcode, the
+-- digits of its parts, and the code that is issued from digits
 pub data Case : Type 0 where
   number : String → Verdict → Case
   iban : String → Verdict → Case
@@ -50,14 +66,20 @@ pub data Case : Type 0 where
   date : String → Bool → Case
   file : List ℕ → String → FileAnswer → List ℕ → Case
   purpose : List ℕ → ℕ → String → Case
+  identcode : String → Verdict → Case
+  parts : String → List String → Case
+  issued : String → String → Case
 
 abbrev pub Holds : Case → Type 0
-Holds (number text verdict) = checkVerdict (checkedNumber (bytes text)) ≡ verdict
-Holds (iban text verdict) = ibanVerdict (checkedIban (bytes text)) ≡ verdict
+Holds (number text verdict) = numberVerdict (checkedNumber (bytes text)) ≡ verdict
+Holds (iban text verdict) = checkVerdict (checkedIban (bytes text)) ≡ verdict
 Holds (money text holds) = amount (bytes text) ≡ holds
 Holds (date text holds) = dateTime (bytes text) ≡ holds
 Holds (file input countries answer starts) = judged input (lentWith countries) ≡ record { answer = answer; starts = starts }
 Holds (purpose input n text) = purposeOf input n (lentWith "") ≡ bytes text
+Holds (identcode text verdict) = checkVerdict (checkedIdentcode (bytes text)) ≡ verdict
+Holds (parts text pieces) = cut (bytes text) (partsAnswer (bytes text)) ≡ map bytes pieces
+Holds (issued body text) = issuedTo (identcodeAnswer (bytes body) 22) (bytes body) (checkDigitOf (bytes body)) (replicate 22 0) ≡ bytes text
 
 abbrev pub AllHold : List Case → Type 0
 AllHold [] = Unit {0}
@@ -83,8 +105,8 @@ marked =
     ∷ Case.date "2023-02-29T00:00:00" false
     -- "gives `ok 6 1 1250`"
     ∷ Case.file example "" (Accepted (record { lines = 6; parcels = 1; cents = 1250 })) (0 ∷ 74 ∷ 116 ∷ 178 ∷ 208 ∷ 216 ∷ [])
-    -- "Line 5, counted from 0, has the purpose `1000000000000000000001/B`."
-    ∷ Case.purpose example 5 "1000000000000000000001/B"
+    -- "Line 5, counted from 0, has the purpose `1000000000000000000001/B`"; it is now that of the code exchanged
+    ∷ Case.purpose example 5 "1000000000000000000007/B"
     -- "Empty input gives `no 12 0`; CR LF alone `no 3 0`; `010;` with CR LF `no 5 0`."
     ∷ Case.file [] "" (Refused (because FileEnds 0)) []
     ∷ Case.file (lines ("" ∷ [])) "" (Refused (because UnknownRecord 0)) []
@@ -96,6 +118,15 @@ marked =
     ∷ Case.file unreachable "DEAT" (Refused (because ContactMissing 115)) []
     ∷ Case.file example "DEAT" (Accepted (record { lines = 6; parcels = 1; cents = 1250 })) (0 ∷ 74 ∷ 116 ∷ 178 ∷ 208 ∷ 216 ∷ [])
     ∷ Case.file unreachable "DEA" (Refused (because CountriesOdd 0)) []
+    -- document 02, request 2; document 000, section 4.1.6, the worked example; 4.2, the code of the figure
+    ∷ Case.issued "854637900327598186342" "8546379003275981863426"
+    ∷ Case.identcode "8546379003275981863426" Verdict.passes
+    ∷ Case.identcode "8546379003275981863427" (Verdict.refused 18 21)
+    ∷ Case.identcode "85463790032759818634:6" (Verdict.refused 17 20)
+    ∷ Case.identcode "854637900327598186342" (Verdict.refused 16 0)
+    ∷ Case.parts "1012345123456781212349" ("10" ∷ "12345" ∷ "12345678" ∷ "12" ∷ "1234" ∷ "9" ∷ [])
+    -- "a failing code in a file is 8"
+    ∷ Case.file failing "" (Refused (because FieldForm 182)) []
     ∷ []
 
 abbrev pub MarkedHold : Type 0

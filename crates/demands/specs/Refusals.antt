@@ -1,23 +1,29 @@
 -- Demand 1: "It refuses by the numbers in our table, at the first place the table's order gives". Document 01, 'Refusal numbers': "Each is
 -- given exactly then." Each call refuses, with this number and place, exactly when the input's own lines, fields and symbols say so; and
 -- what the lent buffers then hold.
-use Prim.Native.Nat.{ℕ, _≤_}
+use Prim.Native.Nat.{ℕ, _+_, _≤_}
 use mathlib.Core.Path.{_≡_}
 use mathlib.Core.Bool.{true}
-use mathlib.Core.List.{List, []}
+use mathlib.Core.List.{List, [], _∷_}
 use mathlib.Core.Logic.{_⊎_, _↔_}
-use lib.ListN.{length, replicate}
+use lib.ListN.{length, drop, replicate}
+use Rattle.refusal.specs.Table.{because}
 use Rattle.refusal.specs.declared.Refusal.{Refusal}
+use Rattle.refusal.specs.declared.Reason.the-variants.{FieldForm}
 use Rattle.check_characters.specs.Number.{Issues, checkedNumber}
 use Rattle.check_characters.specs.Iban.{checkedIban}
+use Rattle.check_characters.specs.Identcode.{checkedIdentcode, partsAnswer, IssuesIdentcode}
+use Rattle.check_characters.specs.declared.identcode.PartsAnswer.the-variants.{Refused as NotRead}
 use Rattle.check_characters.specs.declared.number.Kind.{Kind}
 use Rattle.check_characters.specs.declared.number.NumberAnswer.the-variants.{Refused as RefusedAsNumber}
-use Rattle.check_characters.specs.declared.number.IssueAnswer.the-variants.{Refused as NotIssued}
-use Rattle.check_characters.specs.declared.iban.IbanAnswer.the-variants.{Refused as RefusedAsIban}
+use Rattle.check_characters.specs.declared.answer.IssueAnswer.the-variants.{Refused as NotIssued}
+use Rattle.check_characters.specs.declared.answer.CheckAnswer.the-variants.{Accepted as Passed, Refused as Failed}
 use Rattle.fields.specs.Record.{mayEnd}
 use Rattle.fields.specs.Profile.{profile}
+use Rattle.fields.specs.declared.record.Due.{Due}
 use Rattle.fields.specs.declared.record.Due.the-variants.{First}
-use Rattle.line.specs.Line.{lineAnswer, alone}
+use Rattle.fields.specs.declared.record.Record.the-variants.{Parcel}
+use Rattle.line.specs.Line.{lineAnswer, alone, fileLimit}
 use Rattle.line.specs.Find.{fieldAnswer}
 use Rattle.line.specs.declared.read.Line.{Line}
 use Rattle.line.specs.declared.read.LineAnswer.the-variants.{Refused as RefusedAsLine}
@@ -30,15 +36,16 @@ use Rattle.writer.specs.Write.{Writes}
 use Rattle.writer.specs.declared.write.WriteAnswer.the-variants.{Refused as NotWritten}
 use Rattle.purpose.specs.Purpose.{Purposes}
 use Rattle.purpose.specs.declared.write.PurposeAnswer.the-variants.{Refused as NoPurpose}
-use Rattle.grammar.specs.Grammar.{Reads, StandsInLine}
+use Rattle.grammar.specs.Grammar.{Filled, Reads, StandsInLine}
 use Rattle.grammar.specs.Written.{Writable}
 use Rattle.allowed.specs.Allowed.{FileLine, AllowedFile}
-use Rattle.slips.specs.Exactly.{SoundNumber, SoundIban}
-use Rattle.refused.specs.Line.{RefusedAt, RefusedFind}
+use Rattle.slips.specs.Exactly.{SoundNumber, SoundIban, SoundIdentcode}
+use Rattle.refused.specs.Line.{Counted, RefusedAt, RefusedFind}
 use Rattle.refused.specs.File.{Begins, dueBehind, RefusedFile, Means}
 use Rattle.refused.specs.Write.{RefusedWrite}
 use Rattle.refused.specs.Purpose.{RefusedPurpose}
 use Rattle.refused.specs.Number.{RefusedNumber, RefusedIban, RefusedIssue}
+use Rattle.refused.specs.Identcode.{RefusedIdentcode, RefusedIdentcodeIssue}
 
 -- A file is refused exactly when it is too long; or the list of countries has an odd length; or it begins with lines that are allowed,
 -- and the next one is refused by its own rule, is a shipment into a listed country whose sender lacks a contact, repeats an identcode, or
@@ -114,14 +121,39 @@ NumberRefusedExactly =
 abbrev pub IbanRefusedExactly : Type 0
 IbanRefusedExactly =
     (symbols : List ℕ) (refusal : Refusal) →
-    (checkedIban symbols ≡ RefusedAsIban refusal) ↔ RefusedIban symbols refusal
+    (checkedIban symbols ≡ Failed refusal) ↔ RefusedIban symbols refusal
 
 abbrev pub IssueRefusedExactly : Type 0
 IssueRefusedExactly =
     (body output : List ℕ) (refusal : Refusal) (after : List ℕ) →
     Issues body output (NotIssued refusal) after ↔ (RefusedIssue body (length output) refusal × (after ≡ output))
 
--- A line, a field, a writing, a number and an IBAN pass or are refused, never both.
+-- Document 02, request 2. An identcode, its parts, and the 21 digits of one to be issued: "with nothing written".
+abbrev pub IdentcodeRefusedExactly : Type 0
+IdentcodeRefusedExactly =
+    (code : List ℕ) (refusal : Refusal) →
+    (checkedIdentcode code ≡ Failed refusal) ↔ RefusedIdentcode code refusal
+
+abbrev pub PartsRefusedExactly : Type 0
+PartsRefusedExactly =
+    (code : List ℕ) (refusal : Refusal) →
+    (partsAnswer code ≡ NotRead refusal) ↔ RefusedIdentcode code refusal
+
+abbrev pub IssueIdentcodeRefusedExactly : Type 0
+IssueIdentcodeRefusedExactly =
+    (body output : List ℕ) (refusal : Refusal) (after : List ℕ) →
+    IssuesIdentcode body output (NotIssued refusal) after ↔ (RefusedIdentcodeIssue body (length output) refusal × (after ≡ output))
+
+-- "a failing code in a file is 8", at the field: whatever record is due, a 040 line that may come and whose first field is no wider than
+-- 22 bytes, but does not pass, is refused there.
+abbrev pub FailingCodeRefused : Type 0
+FailingCodeRefused =
+    (due : Due) (file : List ℕ) (offset : ℕ) (code : List ℕ) (more : List (List ℕ)) → length file ≤ fileLimit → offset ≤ length file →
+    Counted (record { rules = profile; due = due }) (drop offset file) Parcel (code ∷ more) →
+    Filled code → length code ≤ 22 → (checkedIdentcode code ≡ Passed → ⊥) →
+    lineAnswer (record { rules = profile; due = due }) file offset ≡ RefusedAsLine (because FieldForm (offset + 4))
+
+-- A line, a field, a writing, a number, an IBAN and an identcode pass or are refused, never both.
 abbrev pub LineAlwaysOne : Type 0
 LineAlwaysOne =
     (file : List ℕ) (offset : ℕ) →
@@ -172,3 +204,11 @@ IbanAlwaysOne =
 abbrev pub IbanNeverBoth : Type 0
 IbanNeverBoth =
     (symbols : List ℕ) (refusal : Refusal) → SoundIban symbols → RefusedIban symbols refusal → ⊥
+
+abbrev pub IdentcodeAlwaysOne : Type 0
+IdentcodeAlwaysOne =
+    (code : List ℕ) → SoundIdentcode code ⊎ ((refusal : Refusal) × RefusedIdentcode code refusal)
+
+abbrev pub IdentcodeNeverBoth : Type 0
+IdentcodeNeverBoth =
+    (code : List ℕ) (refusal : Refusal) → SoundIdentcode code → RefusedIdentcode code refusal → ⊥

@@ -8,11 +8,12 @@ use lib.Dec.{leb}
 use borrow.Author.Tests.{leb-true}
 use Rattle.text.specs.Choice.{if_then_else_}
 use Rattle.text.proofs.Choices.{and-left, and-right}
-use Rattle.forms.specs.Shape.{identcode}
+use Rattle.forms.specs.Shape.{digits}
 use Rattle.fields.specs.Record.{countFits}
 use Rattle.fields.specs.Profile.{Row, names, rowIn, profile, widthInTable, But, always, instead, narrowed, widthOf, Rules, isRequired, hasForm}
 use Rattle.fields.specs.declared.record.Record.{Record}
 use Rattle.fields.specs.declared.record.Record.the-variants.{Header, Sender, Shipment, Parcel, Product, Feature}
+use Rattle.fields.proofs.Forms.{identcode-digits}
 
 -- no width above 100
 abbrev pub narrow : But → Bool
@@ -23,11 +24,11 @@ abbrev pub within : List Row → Bool
 within [] = true
 within (row ∷ rows) = leb (row .width) 100 && (narrow (row .but) && within rows)
 
--- and 040.1 must be filled with an identcode
+-- and 040.1 must be filled, with 22 digits whatever else its form asks
 pub record Sound (rules : Rules) : Type 0 where
   pub narrows : (kind : Record) → within (rules kind) ≡ true
   pub coded : isRequired (rules Parcel) 1 ≡ true
-  pub digital : (beside f : List ℕ) → hasForm (rules Parcel) 1 beside f ≡ identcode f
+  pub digital : (beside f : List ℕ) → hasForm (rules Parcel) 1 beside f ≡ true → digits 22 f ≡ true
 
 row-within : (rows : List Row) (n : ℕ) → within rows ≡ true → (rowIn rows n .width ≤ 100) × (narrow (rowIn rows n .but) ≡ true)
 row-within [] n e = (zero-le, refl)
@@ -65,7 +66,7 @@ count-le Feature n e = omega (arith, leb-true n 10 (and-right (leb 10 n) (leb n 
 
 pub sound : Sound profile
 unfolding profile isRequired hasForm
-sound = record { narrows = narrows; coded = refl; digital = λ beside f. refl }
+sound = record { narrows = narrows; coded = refl; digital = λ beside f e. identcode-digits f e }
   where
     narrows : (kind : Record) → within (profile kind) ≡ true
     narrows Header = refl

@@ -6,9 +6,10 @@ use Rattle.text.specs.Choice.{if_then_else_}
 use Rattle.text.specs.Quoted.{bytes}
 use Rattle.text.specs.Scan.{same}
 use Rattle.forms.specs.Shape.{digits, purposeText}
-use Rattle.check_characters.specs.Iban as iban
-use Rattle.check_characters.specs.declared.iban.IbanAnswer.{IbanAnswer}
-use Rattle.check_characters.specs.declared.iban.IbanAnswer.the-variants.{Accepted, Refused}
+use Rattle.check_characters.specs.Iban.{checkedIban}
+use Rattle.check_characters.specs.Identcode.{checkedIdentcode}
+use Rattle.check_characters.specs.declared.answer.CheckAnswer.{CheckAnswer}
+use Rattle.check_characters.specs.declared.answer.CheckAnswer.the-variants.{Accepted, Refused}
 
 -- a form is a test of a field and of the field in front of it, which is "the country or feature code beside it where the rule
 -- names one"
@@ -32,12 +33,16 @@ abbrev pub reference : Form
 reference code f = if isCash code then purposeText f else true
 
 -- "In a file all these are 8."
-abbrev pub accepted : IbanAnswer → Bool
+abbrev pub accepted : CheckAnswer → Bool
 accepted Accepted = true
 accepted (Refused refusal) = false
 
 abbrev pub isIban : List ℕ → Bool
-isIban f = accepted (iban.checkedIban f)
+isIban f = accepted (checkedIban f)
+
+-- document 02, request 2: "040.1 must pass from now on"; "a failing code in a file is 8"
+abbrev pub isIdentcode : List ℕ → Bool
+isIdentcode f = accepted (checkedIdentcode f)
 
 -- "Field 39 is the carrier's own and must be empty"
 abbrev pub nothing : List ℕ → Bool

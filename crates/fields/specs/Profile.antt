@@ -5,11 +5,11 @@ use mathlib.Core.Bool.{Bool, true, false, _&&_}
 use mathlib.Core.List.{List, [], _∷_}
 use lib.Dec.{leb}
 use Rattle.text.specs.Choice.{if_then_else_}
-use Rattle.forms.specs.Shape.{allDigits, digits, identcode, capitals, customer, version, bic, mail, purposeText}
+use Rattle.forms.specs.Shape.{allDigits, digits, capitals, customer, version, bic, mail, purposeText}
 use Rattle.forms.specs.Amount.{amount}
 use Rattle.forms.specs.Date.{dateTime}
 use Rattle.forms.specs.Feature.{isFeature}
-use Rattle.fields.specs.Form.{Form, alone, postCode, isCash, reference, isIban, nothing}
+use Rattle.fields.specs.Form.{Form, alone, postCode, isCash, reference, isIban, isIdentcode, nothing}
 use Rattle.fields.specs.declared.record.Record.{Record}
 use Rattle.fields.specs.declared.record.Record.the-variants.{Header, Sender, Shipment, Parcel, Product, Feature}
 
@@ -114,9 +114,9 @@ profile Shipment =
     field 38 wide 19 ∷
     field 39 wide 20 is nothing ∷
     field 40 wide 20 ∷ []
--- 040: "1 R 22 digits (width 22); all others 64."
+-- 040: "1 R 22 digits (width 22); all others 64."; document 02, request 2: "040.1 must pass from now on"
 profile Parcel =
-    field 1 R 22 is identcode ∷
+    field 1 R 22 is isIdentcode ∷
     fields 2 to 24 wide 64 ∷ []
 -- 050: "1 R 20; all others 64."
 profile Product =

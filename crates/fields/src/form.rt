@@ -1,9 +1,9 @@
 // The form of each filled field, record by record. Beside a field stands the one in front of it.
 ghost use mathlib.Core.Path.{_≡_};
-ghost use Rattle.fields.specs.Form.{postCode, isCash, reference, isIban};
+ghost use Rattle.fields.specs.Form.{postCode, isCash, reference, accepted, isIban, isIdentcode};
 ghost use Rattle.fields.specs.Profile.{profile, hasForm};
 use crate::record::Record;
-use check_characters::IbanAnswer;
+use check_characters::CheckAnswer;
 
 // Whether a filled field has its form.
 pub fn has_form(kind: Record, number: usize, beside: &[u8], field: &[u8]) -> bool
@@ -71,7 +71,7 @@ fn parcel_form(number: usize, beside: &[u8], field: &[u8]) -> bool
     ensures { λ r. ⌜ r ≡ hasForm (profile Record.Parcel) number (now (beside .entry)) (now (field .entry)) ⌝ }
 {
     match number {
-        1 => forms::is_identcode(field),
+        1 => is_identcode(field),
         _ => true,
     }
 }
@@ -116,9 +116,22 @@ fn is_reference(code: &[u8], field: &[u8]) -> bool
 fn is_iban(field: &[u8]) -> bool
     ensures { λ r. ⌜ r ≡ isIban (now (field .entry)) ⌝ }
 {
-    let answer = check_characters::check_iban(field);
+    is_accepted(check_characters::check_iban(field))
+}
+
+// Whether the check of an identcode passes.
+fn is_identcode(field: &[u8]) -> bool
+    ensures { λ r. ⌜ r ≡ isIdentcode (now (field .entry)) ⌝ }
+{
+    is_accepted(check_characters::check_identcode(field))
+}
+
+// Whether a check passed.
+fn is_accepted(answer: CheckAnswer) -> bool
+    ensures { λ r. ⌜ r ≡ accepted answer ⌝ }
+{
     match answer {
-        IbanAnswer::Accepted => true,
-        IbanAnswer::Refused(_) => false,
+        CheckAnswer::Accepted => true,
+        CheckAnswer::Refused(_) => false,
     }
 }

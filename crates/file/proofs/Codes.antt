@@ -7,8 +7,8 @@ use native.Mathlib.Omega.{arith}
 use lib.ListN.{length, take, drop, length-append}
 use lib.Seq.{take-at, drop-drop}
 use Rattle.text.specs.Quoted.{bytes}
-use Rattle.forms.specs.Shape.{identcode}
-use Rattle.forms.proofs.Shapes.{identcode-parts}
+use Rattle.forms.specs.Shape.{digits}
+use Rattle.forms.proofs.Shapes.{digits-parts}
 use Rattle.identcodes.specs.Tree.{identcodeAt}
 use Rattle.fields.specs.Record.{typeOf, countFits}
 use Rattle.fields.specs.Field.{tested}
@@ -40,10 +40,10 @@ type-there s at kind fs rest there =
     ∙ take-at (typeOf kind) (joined fs ++ bytes "\r\n" ++ rest) 3 (type-long kind)
 
 pub code-there : (s : List ℕ) (at : ℕ) (f : List ℕ) (fs : List (List ℕ)) (rest : List ℕ) → drop at s ≡ render Parcel (f ∷ fs) ++ rest →
-    identcode f ≡ true → identcodeAt s at ≡ f
+    digits 22 f ≡ true → identcodeAt s at ≡ f
 code-there s at f fs rest there e =
     ap (take 22) (sym (drop-drop 4 at s) ∙ ap (drop 4) there ∙ regroup)
-    ∙ take-at f (joined fs ++ bytes "\r\n" ++ rest) 22 (identcode-parts f e .0)
+    ∙ take-at f (joined fs ++ bytes "\r\n" ++ rest) 22 (digits-parts 22 f e .0)
   where
     regroup : ((f ++ joined fs) ++ bytes "\r\n") ++ rest ≡ f ++ (joined fs ++ bytes "\r\n" ++ rest)
     regroup = simp append-assoc
@@ -53,7 +53,7 @@ pub record Coded (fields : List (List ℕ)) : Type 0 where
   pub code : List ℕ
   pub more : List (List ℕ)
   pub are : fields ≡ code ∷ more
-  pub holds : identcode code ≡ true
+  pub holds : digits 22 code ≡ true
 
 parcel-coded : (told : Told) (at : ℕ) (text : List ℕ) (line : Line) → Sound (told .rules) → TextOk told at text line → line .kind ≡ Parcel →
     Coded (fieldsOf text)
@@ -67,7 +67,7 @@ parcel-coded told at text line w g k =
     go (code ∷ more) e c f =
         let good = fine-each (tested (told .rules Parcel)) behind 1 (at + length (nameOf text) + 1) (nameOf text) (code ∷ more) f .0 in
         let passed = good-passed (told .rules Parcel) 1 (nameOf text) code good in
-        record { code = code; more = more; are = e; holds = sym (w .digital (nameOf text) code) ∙ passed .formed (passed .filled (w .coded)) }
+        record { code = code; more = more; are = e; holds = w .digital (nameOf text) code (passed .formed (passed .filled (w .coded))) }
 
 -- what an accepted line tells of its identcode
 module _ (told : Told) (s : List ℕ) (at : ℕ) (a : LineAnswer) (ea : a ≡ lineAnswer told s at) (line : Line) (el : a ≡ Accepted line) where
@@ -84,14 +84,14 @@ module _ (told : Told) (s : List ℕ) (at : ℕ) (a : LineAnswer) (ea : a ≡ li
     coded : line .kind ≡ Parcel → Coded (fieldsOf (textAt s at))
     coded k = parcel-coded told at (textAt s at) line w (here .text) k
 
-    pub accepted-code : line .kind ≡ Parcel → identcode (identcodeAt s at) ≡ true
+    pub accepted-code : line .kind ≡ Parcel → digits 22 (identcodeAt s at) ≡ true
     accepted-code k =
         let c = coded k in
         let there : drop at s ≡ render Parcel (c .code ∷ c .more) ++ rest =
         line-stands told s at line here ∙ ap (λ (r : Record). render r (fieldsOf (textAt s at)) ++ rest) k
         ∙ ap (λ (fs : List (List ℕ)). render Parcel fs ++ rest) (c .are)
         in
-        ap identcode (code-there s at (c .code) (c .more) rest there (c .holds)) ∙ c .holds
+        ap (digits 22) (code-there s at (c .code) (c .more) rest there (c .holds)) ∙ c .holds
 
     -- a parcel line has at least 28 bytes: its type, a semicolon, 22 digits and its end
     parcel-far : line .kind ≡ Parcel → at + 28 ≤ line .next
@@ -107,7 +107,7 @@ module _ (told : Told) (s : List ℕ) (at : ℕ) (a : LineAnswer) (ea : a ≡ li
           ap length text,
           length-append (typeOf Parcel) (joined (c .code ∷ c .more)),
           length-append (c .code) (joined (c .more)),
-          identcode-parts (c .code) (c .holds),
+          digits-parts 22 (c .code) (c .holds),
         )
 
     pub accepted-far : at + 28 * parcelsIn (line .kind) ≤ line .next

@@ -7,7 +7,7 @@ use native.Mathlib.Omega.{arith}
 use lib.ListN.{length, take, drop}
 use Rattle.text.specs.Quoted.{bytes}
 use Rattle.text.specs.Scan.{same}
-use Rattle.forms.specs.Shape.{identcode}
+use Rattle.forms.specs.Shape.{digits}
 use Rattle.identcodes.specs.Tree.{identcodeAt, isThere, grown}
 use Rattle.identcodes.proofs.Growing.{tree-none, none-there, one-more}
 use Rattle.identcodes.proofs.Answers.{room-there}
@@ -49,7 +49,7 @@ module _ (s starts : List ℕ) (parcels : ℕ) (tree : List ℕ) (g : Sown s sta
             ∙ or-false (onEarlier s starts z) ∙ g .tells z dz;
       })
 
-  parcel-sown : treeWords ≤ length tree → parcels ≤ parcelsMost → at ≤ fileLimit → identcode (identcodeAt s at) ≡ true →
+  parcel-sown : treeWords ≤ length tree → parcels ≤ parcelsMost → at ≤ fileLimit → digits 22 (identcodeAt s at) ≡ true →
       take 3 (drop at s) ≡ typeOf Parcel →
       isThere s tree parcels at ≡ false →
       Sown s (starts ++ (at ∷ [])) (parcels + 1) (grown s tree parcels at)
@@ -63,7 +63,7 @@ module _ (s starts : List ℕ) (parcels : ℕ) (tree : List ℕ) (g : Sown s sta
       }
 
   pub sown-line : (kind : Record) → treeWords ≤ length tree → parcels ≤ parcelsMost → at ≤ fileLimit →
-      (kind ≡ Parcel → identcode (identcodeAt s at) ≡ true) →
+      (kind ≡ Parcel → digits 22 (identcodeAt s at) ≡ true) →
       take 3 (drop at s) ≡ typeOf kind →
       isThereFor kind s tree parcels at ≡ false → Sown s (starts ++ (at ∷ [])) (parcels + parcelsIn kind) (grownFor kind s tree parcels at)
   unfolding isThereFor grownFor
@@ -74,7 +74,7 @@ module _ (s starts : List ℕ) (parcels : ℕ) (tree : List ℕ) (g : Sown s sta
   sown-line Product long few in-limit d type e = other-sown Product type refl
   sown-line Feature long few in-limit d type e = other-sown Feature type refl
 
-  pub sown-tells : (kind : Record) → (kind ≡ Parcel → identcode (identcodeAt s at) ≡ true) →
+  pub sown-tells : (kind : Record) → (kind ≡ Parcel → digits 22 (identcodeAt s at) ≡ true) →
       isThereFor kind s tree parcels at ≡ repeats kind s starts at
   unfolding isThereFor repeats
   sown-tells Header d = refl

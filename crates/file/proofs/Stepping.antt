@@ -11,7 +11,7 @@ use Rattle.text.proofs.Choices.{came-else}
 use Rattle.refusal.specs.declared.Reason.the-variants.{ContactMissing, IdentcodeRepeated, ListFull}
 use Rattle.refusal.specs.Table.{because}
 use Rattle.refusal.specs.declared.Refusal.{Refusal}
-use Rattle.forms.specs.Shape.{identcode}
+use Rattle.forms.specs.Shape.{digits}
 use Rattle.identcodes.specs.Tree.{identcodeAt}
 use Rattle.fields.specs.declared.record.Record.{Record}
 use Rattle.fields.specs.declared.record.Record.the-variants.{Parcel}
@@ -65,7 +65,7 @@ module _ (s : List ℕ) (lent : Lent) (starts : List ℕ) (state : State) (a : L
 module _ (s : List ℕ) (words : ℕ) (starts : List ℕ) (state : State) (line : Line) (el : lineAnswer (toldBy state) s (state .at) ≡ Accepted line)
     (codes : List ℕ) (g : Sown s starts (state .parcels) codes) (t : Bool)
     (et : t ≡ isThereFor (line .kind) s codes (state .parcels) (state .at)) where
-  code-holds : line .kind ≡ Parcel → identcode (identcodeAt s (state .at)) ≡ true
+  code-holds : line .kind ≡ Parcel → digits 22 (identcodeAt s (state .at)) ≡ true
   code-holds k = accepted-code (toldBy state) s (state .at) (lineAnswer (toldBy state) s (state .at)) refl line el sound k
 
   repeated : t ≡ repeats (line .kind) s starts (state .at)

@@ -7,7 +7,7 @@ use lib.ListN.{take, drop}
 use Rattle.text.specs.Choice.{if_then_else_}
 use Rattle.text.specs.Quoted.{bytes}
 use Rattle.text.specs.Scan.{same}
-use Rattle.forms.specs.Shape.{identcode}
+use Rattle.forms.specs.Shape.{digits}
 use Rattle.identcodes.specs.Tree.{identcodeAt, isThere, grown}
 use Rattle.identcodes.proofs.Slots.{Tree}
 use Rattle.fields.specs.Record.{_isA_}
@@ -44,4 +44,4 @@ treeWords = 4681
 -- it: it holds from line to line.
 pub record Sown (file starts : List ℕ) (parcels : ℕ) (tree : List ℕ) : Type 0 where
   pub whole : Tree file parcels tree
-  pub tells : (offset : ℕ) → identcode (identcodeAt file offset) ≡ true → onEarlier file starts offset ≡ isThere file tree parcels offset
+  pub tells : (offset : ℕ) → digits 22 (identcodeAt file offset) ≡ true → onEarlier file starts offset ≡ isThere file tree parcels offset

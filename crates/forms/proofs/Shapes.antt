@@ -10,16 +10,11 @@ use borrow.Author.Tests.{eq-eqb, ne-eqb, eqb-true}
 use Rattle.text.specs.Byte.{symbol}
 use Rattle.text.specs.Scan.{all, count}
 use Rattle.text.proofs.Choices.{and-left, and-right}
-use Rattle.forms.specs.Shape.{allDigits, digits, identcode, bic, atSign, mail}
+use Rattle.forms.specs.Shape.{allDigits, digits, bic, atSign, mail}
 
 pub digits-parts : (n : ℕ) (s : List ℕ) → digits n s ≡ true → (length s ≡ n) × (allDigits s ≡ true)
 unfolding digits
 digits-parts n s e = (eqb-true (length s) n (and-left (eqb (length s) n) (allDigits s) e), and-right (eqb (length s) n) (allDigits s) e)
-
--- all that is asked of an identcode elsewhere
-pub identcode-parts : (s : List ℕ) → identcode s ≡ true → (length s ≡ 22) × (allDigits s ≡ true)
-unfolding identcode
-identcode-parts s e = digits-parts 22 s e
 
 pub ten-digits : (s : List ℕ) → digits 10 s ≡ true → 2 ≤ length s
 ten-digits s e = omega (arith, digits-parts 10 s e .0)

@@ -16,10 +16,6 @@ allDigits s = all digit s
 unfoldable pub digits : ℕ → List ℕ → Bool
 digits n s = eqb (length s) n && allDigits s
 
--- "22 digits": an identcode
-unfoldable pub identcode : List ℕ → Bool
-identcode s = digits 22 s
-
 -- "two capitals", "three capitals"
 unfoldable pub capitals : ℕ → List ℕ → Bool
 capitals n s = eqb (length s) n && all capital s

@@ -16,7 +16,6 @@ pub use shape::is_bic;
 pub use shape::is_capitals;
 pub use shape::is_customer;
 pub use shape::is_digits;
-pub use shape::is_identcode;
 pub use shape::is_mail;
 pub use shape::is_purpose;
 pub use shape::is_version;

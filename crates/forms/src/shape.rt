@@ -1,7 +1,7 @@
-// Forms that look at bytes one by one: digits, an identcode, capitals, the customer number, the version, a BIC, an e-mail address
+// Forms that look at bytes one by one: digits, capitals, the customer number, the version, a BIC, an e-mail address
 // and a payment purpose.
 ghost use mathlib.Core.Path.{_≡_};
-ghost use Rattle.forms.specs.Shape.{allDigits, digits, identcode, capitals, customer, version, bic, mail, purposeText};
+ghost use Rattle.forms.specs.Shape.{allDigits, digits, capitals, customer, version, bic, mail, purposeText};
 use text::Class;
 
 // Whether every byte is a digit.
@@ -19,13 +19,6 @@ pub fn is_digits(s: &[u8], n: usize) -> bool
         return false;
     }
     all_digits(s)
-}
-
-// Whether s is an identcode.
-pub fn is_identcode(s: &[u8]) -> bool
-    ensures { λ r. ⌜ r ≡ identcode (now (s .entry)) ⌝ }
-{
-    is_digits(s, 22)
 }
 
 // Whether s is so many capitals.

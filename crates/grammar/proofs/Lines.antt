@@ -12,7 +12,7 @@ use Rattle.text.specs.Byte.{textByte}
 use Rattle.text.specs.Quoted.{bytes}
 use Rattle.text.specs.Scan.{all}
 use Rattle.text.proofs.Runs.{run-once}
-use Rattle.forms.specs.Shape.{identcode}
+use Rattle.forms.specs.Shape.{digits}
 use Rattle.fields.specs.Record.{typeOf, mayCome}
 use Rattle.fields.specs.Profile.{Rules}
 use Rattle.fields.specs.declared.record.Due.{Due}
@@ -146,9 +146,9 @@ one-reading g h =
 
 -- "040: 1 R 22 digits"
 pub parcel-code : {rules : Rules} → Sound rules → (kind : Record) (fs : List (List ℕ)) → kind ≡ Parcel → LineOk rules kind fs →
-    identcode (fieldNo fs 1) ≡ true
+    digits 22 (fieldNo fs 1) ≡ true
 parcel-code {rules = rules} w kind fs e g = go fs (rw e at g)
   where
-    go : (fs : List (List ℕ)) → LineOk rules Parcel fs → identcode (fieldNo fs 1) ≡ true
+    go : (fs : List (List ℕ)) → LineOk rules Parcel fs → digits 22 (fieldNo fs 1) ≡ true
     go [] g = let z : _≡_ {A = ℕ} 0 1 = cc in absurd (omega arith)
-    go (f ∷ fs) g = sym (w .digital (typeOf Parcel) f) ∙ g .fields .0 .formed (g .fields .0 .filled (w .coded))
+    go (f ∷ fs) g = w .digital (typeOf Parcel) f (g .fields .0 .formed (g .fields .0 .filled (w .coded)))

@@ -15,8 +15,8 @@ use Rattle.text.specs.Scan.{same}
 use Rattle.text.proofs.Choices.{true-or-false, and-right}
 use Rattle.text.proofs.Numbers.{eq-or-ne}
 use Rattle.text.proofs.Scans.{all-at, same-eq}
-use Rattle.forms.specs.Shape.{identcode, allDigits}
-use Rattle.forms.proofs.Shapes.{identcode-parts}
+use Rattle.forms.specs.Shape.{digits, allDigits}
+use Rattle.forms.proofs.Shapes.{digits-parts}
 use Rattle.identcodes.specs.Tree.{identcodeAt, fork, digitOf, pairOf, wordsOf, slotOf, unlikeAt, planted, parted, leafCode}
 use Rattle.identcodes.specs.Tree.{isThere, grown, hasRoom}
 use Rattle.identcodes.proofs.Forks.{fork-pair, fork-byte, fork-digit, fork-is}
@@ -28,17 +28,17 @@ use Rattle.identcodes.proofs.Parting.{planted-tree, meets, elsewhere, a
 -- a tree that has one code more: that of the parcel line that starts here
 pub record Grown (s tree : List ℕ) (parcels at : ℕ) (after : List ℕ) : Type 0 where
   pub whole : Tree s (parcels + 1) after
-  pub tells : (z : ℕ) → identcode (identcodeAt s z) ≡ true →
+  pub tells : (z : ℕ) → digits 22 (identcodeAt s z) ≡ true →
       isThere s after (parcels + 1) z ≡ (isThere s tree parcels z || same (identcodeAt s at) (identcodeAt s z))
 
-code-long : (code : List ℕ) → identcode code ≡ true → length code ≡ 22
-code-long code d = identcode-parts code d .0
+code-long : (code : List ℕ) → digits 22 code ≡ true → length code ≡ 22
+code-long code d = digits-parts 22 code d .0
 
-code-digit : (code : List ℕ) → identcode code ≡ true → (i : ℕ) → i < 22 → getD code i 0 ≤ 57
+code-digit : (code : List ℕ) → digits 22 code ≡ true → (i : ℕ) → i < 22 → getD code i 0 ≤ 57
 unfolding allDigits
 code-digit code d i h =
     let b = getD code i 0 in
-    let parts = identcode-parts code d in
+    let parts = digits-parts 22 code d in
     leb-true b 57 (and-right (leb 48 b) (leb b 57) (all-at digit code (parts .1) i (omega (arith, parts .0))))
 
 -- no parcel yet
@@ -50,7 +50,7 @@ unfolding isThere
 none-there s tree at = refl
 
 -- the first parcel
-module _ (s tree : List ℕ) (at : ℕ) (small : at < 65536) (room : 1 ≤ length tree) (d : identcode (identcodeAt s at) ≡ true) where
+module _ (s tree : List ℕ) (at : ℕ) (small : at < 65536) (room : 1 ≤ length tree) (d : digits 22 (identcodeAt s at) ≡ true) where
   here : getD (set tree 0 at) 0 0 ≡ at
   here = getD-set-same tree 0 at 0 (omega arith)
 
@@ -66,20 +66,20 @@ module _ (s tree : List ℕ) (at : ℕ) (small : at < 65536) (room : 1 ≤ lengt
       leaf-there : (code : List ℕ) → getD (set tree 0 at) (slotOf (set tree 0 at) 1 code) 0 ≡ at
       leaf-there code = rw (here, lt-leb 65536 at small) here
 
-      tell : (z : ℕ) → identcode (identcodeAt s z) ≡ true →
+      tell : (z : ℕ) → digits 22 (identcodeAt s z) ≡ true →
           isThere s (set tree 0 at) 1 z ≡ (isThere s tree 0 z || same (identcodeAt s at) (identcodeAt s z))
       tell z dz =
           ap (λ (k : ℕ). leb 22 (unlikeAt (identcodeAt s k) (identcodeAt s z))) (leaf-there (identcodeAt s z))
           ∙ unlike-same (identcodeAt s at) (identcodeAt s z) (code-long (identcodeAt s at) d) (code-long (identcodeAt s z) dz)
 
 -- the leaf to which a code comes is a parcel's
-pub leaf-code : (s : List ℕ) (n : ℕ) (tree : List ℕ) → Tree s n tree → 1 ≤ n → (code : List ℕ) → identcode (leafCode s tree n code) ≡ true
+pub leaf-code : (s : List ℕ) (n : ℕ) (tree : List ℕ) → Tree s n tree → 1 ≤ n → (code : List ℕ) → digits 22 (leafCode s tree n code) ≡ true
 leaf-code s n tree g some code =
     let b = comes-to s n tree g code (wordsOf n) 0 (omega arith) (omega arith) in
     g .sound (slotOf tree n code) (b .0) .leaf (b .1)
 
 -- what the tree tells of a code, as the codes themselves tell it
-there-same : (s : List ℕ) (n : ℕ) (tree : List ℕ) → Tree s n tree → 1 ≤ n → (z : ℕ) → identcode (identcodeAt s z) ≡ true →
+there-same : (s : List ℕ) (n : ℕ) (tree : List ℕ) → Tree s n tree → 1 ≤ n → (z : ℕ) → digits 22 (identcodeAt s z) ≡ true →
     isThere s tree n z ≡ same (leafCode s tree n (identcodeAt s z)) (identcodeAt s z)
 unfolding isThere
 there-same s n tree g some z dz =
@@ -97,8 +97,8 @@ module _ (s : List ℕ) (parcels : ℕ) (tree : List ℕ) (g : Tree s parcels tr
   ends : (slot < wordsOf parcels) × (getD tree slot 0 < 65536)
   ends = comes-to s parcels tree g (identcodeAt s at) (wordsOf parcels) 0 (omega arith) (omega arith)
 
-  module _ (x y byte asked : ℕ) (hx : x < 65536) (hy : y < 65536) (dx : identcode (identcodeAt s x) ≡ true)
-      (dy : identcode (identcodeAt s y) ≡ true) (b1 : 1 ≤ byte) (b2 : byte < 256)
+  module _ (x y byte asked : ℕ) (hx : x < 65536) (hy : y < 65536) (dx : digits 22 (identcodeAt s x) ≡ true)
+      (dy : digits 22 (identcodeAt s y) ≡ true) (b1 : 1 ≤ byte) (b2 : byte < 256)
       (two : (c : List ℕ) → (same (identcodeAt s x) c || same (identcodeAt s y) c) ≡
       (same (identcodeAt s (getD tree slot 0)) c || same (identcodeAt s at) c))
       (low : (c : List ℕ) → getD c asked 0 < byte → same (identcodeAt s y) c ≡ false)
@@ -144,7 +144,7 @@ module _ (s : List ℕ) (parcels : ℕ) (tree : List ℕ) (g : Tree s parcels tr
           ∙ or-false (same (leafCode s tree parcels c) c)
           ∙ ap (λ (k : ℕ). same (identcodeAt s k) c) (sym there)
 
-    tell : (z : ℕ) → identcode (identcodeAt s z) ≡ true →
+    tell : (z : ℕ) → digits 22 (identcodeAt s z) ≡ true →
         isThere s tree₂ (parcels + 1) z ≡ (isThere s tree parcels z || same (identcodeAt s at) (identcodeAt s z))
     tell z dz =
         let c = identcodeAt s z in
@@ -155,7 +155,7 @@ module _ (s : List ℕ) (parcels : ℕ) (tree : List ℕ) (g : Tree s parcels tr
     part-grown : Grown s tree parcels at tree₂
     part-grown = record { whole = now-tree; tells = tell }
 
-  module _ (at-small : at < 65536) (d : identcode (identcodeAt s at) ≡ true) where
+  module _ (at-small : at < 65536) (d : digits 22 (identcodeAt s at) ≡ true) where
     parted-grown :
         unlikeAt (leafCode s tree parcels (identcodeAt s at)) (identcodeAt s at) < 22 →
         let leaf = leafCode s tree parcels (identcodeAt s at) in
@@ -180,7 +180,7 @@ module _ (s : List ℕ) (parcels : ℕ) (tree : List ℕ) (g : Tree s parcels tr
         new : ℕ
         new = getD code asked 0
 
-        leaf-is : identcode leaf ≡ true
+        leaf-is : digits 22 leaf ≡ true
         leaf-is = leaf-code s parcels tree g some code
 
         differ : earlier ≡ new → ⊥
@@ -206,7 +206,7 @@ module _ (s : List ℕ) (parcels : ℕ) (tree : List ℕ) (g : Tree s parcels tr
 
 -- a parcel whose code the tree has not, put into it
 pub one-more : (s : List ℕ) (parcels : ℕ) (tree : List ℕ) (at : ℕ) → Tree s parcels tree → hasRoom tree parcels at ≡ true →
-    identcode (identcodeAt s at) ≡ true → isThere s tree parcels at ≡ false → Grown s tree parcels at (grown s tree parcels at)
+    digits 22 (identcodeAt s at) ≡ true → isThere s tree parcels at ≡ false → Grown s tree parcels at (grown s tree parcels at)
 unfolding grown isThere
 one-more s parcels tree at g room d e = ⊎-elim none some (eq-or-ne parcels 0)
   where

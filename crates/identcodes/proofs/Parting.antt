@@ -13,7 +13,7 @@ use Rattle.text.specs.Choice.{if_then_else_}
 use Rattle.text.specs.Scan.{same}
 use Rattle.text.proofs.Choices.{true-or-false}
 use Rattle.text.proofs.Numbers.{le-or-lt, eq-or-ne}
-use Rattle.forms.specs.Shape.{identcode}
+use Rattle.forms.specs.Shape.{digits}
 use Rattle.identcodes.specs.Tree.{identcodeAt, fork, digitOf, byteOf, pairOf, leadsTo, slotFrom, wordsOf, slotOf, planted, parted}
 use Rattle.identcodes.proofs.Slots.{Sound, Tree, lead-on, comes-to}
 
@@ -110,14 +110,14 @@ module _ (s : List ℕ) (parcels : ℕ) (tree : List ℕ) (g : Tree s parcels tr
                 let there = at-other tree slot (wordsOf parcels) x y word hs hp i h (eqb-false i slot q) in
                 rw q (stays i (suc (suc turns)) (omega (arith, there, leb-false 65536 (getD tree i 0) e)))
 
-  module _ (some : 1 ≤ parcels) (lx : identcode (identcodeAt s x) ≡ true) (ly : identcode (identcodeAt s y) ≡ true) where
+  module _ (some : 1 ≤ parcels) (lx : digits 22 (identcodeAt s x) ≡ true) (ly : digits 22 (identcodeAt s y) ≡ true) where
     more : wordsOf (parcels + 1) ≡ suc (suc (wordsOf parcels))
     more = omega arith
 
-    leaf-sound : (place w z : ℕ) → w ≡ z → z < 65536 → identcode (identcodeAt s z) ≡ true → Sound s (wordsOf (parcels + 1)) place w
+    leaf-sound : (place w z : ℕ) → w ≡ z → z < 65536 → digits 22 (identcodeAt s z) ≡ true → Sound s (wordsOf (parcels + 1)) place w
     leaf-sound place w z e h l =
         record {
-          leaf = λ f. ap (λ (k : ℕ). identcode (identcodeAt s k)) e ∙ l;
+          leaf = λ f. ap (λ (k : ℕ). digits 22 (identcodeAt s k)) e ∙ l;
           pair = λ f. absurd (omega arith);
           inside = λ f. absurd (omega arith);
         }

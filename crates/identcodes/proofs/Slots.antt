@@ -8,13 +8,13 @@ use lib.Dec.{leb}
 use lib.ListN.{getD}
 use borrow.Author.Tests.{le-leb, lt-leb, leb-true, leb-false}
 use Rattle.text.specs.Choice.{if_then_else_}
-use Rattle.forms.specs.Shape.{identcode}
+use Rattle.forms.specs.Shape.{digits}
 use Rattle.identcodes.specs.Tree.{identcodeAt, pairOf, leadsTo, slotFrom, wordsOf}
 use Rattle.identcodes.proofs.Forks.{lead-pair}
 
 -- a word that stands at this place among so many: a leaf is a parcel line with an identcode, a fork's pair lies behind it
 pub record Sound (s : List ℕ) (words place word : ℕ) : Type 0 where
-  pub leaf : word < 65536 → identcode (identcodeAt s word) ≡ true
+  pub leaf : word < 65536 → digits 22 (identcodeAt s word) ≡ true
   pub pair : 65536 ≤ word → place < pairOf word
   pub inside : 65536 ≤ word → pairOf word + 1 < words
 

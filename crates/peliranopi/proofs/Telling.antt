@@ -3,8 +3,8 @@ use Prim.Native.Nat.{ℕ}
 use mathlib.Core.Path.{_≡_, sym, ap, _∙_}
 use mathlib.Core.List.{List}
 use Rattle.refusal.specs.Table.{Verdict}
-use Rattle.check_characters.specs.Number.{issuedTo}
-use Rattle.check_characters.specs.declared.number.IssueAnswer.{IssueAnswer}
+use Rattle.check_characters.specs.Answer.{issuedTo}
+use Rattle.check_characters.specs.declared.answer.IssueAnswer.{IssueAnswer}
 use Rattle.fields.specs.declared.record.Named.{Named}
 use Rattle.writer.specs.Write.{writtenTo}
 use Rattle.writer.specs.declared.write.WriteAnswer.{WriteAnswer}
@@ -13,7 +13,7 @@ use Rattle.purpose.specs.declared.write.PurposeAnswer.{PurposeAnswer}
 use Rattle.peliranopi.specs.Told.{numberTold, placeTold}
 
 -- a value that is told of an answer is that of the answer's definition, where the answer's case is known
-pub told : {A : Type 0} (value : A → ℕ) (answer definition known : A) (n : ℕ) → answer ≡ definition → answer ≡ known → n ≡ value known →
+pub told : {A B : Type 0} (value : A → B) (answer definition known : A) (n : B) → answer ≡ definition → answer ≡ known → n ≡ value known →
     n ≡ value definition
 told value answer definition known n e k t = t ∙ ap value (sym k ∙ e)
 
@@ -43,6 +43,6 @@ pub purpose-left : (text out : List ℕ) (answer definition : PurposeAnswer) (af
     after ≡ outputAfter answer text out → after ≡ outputAfter definition text out
 purpose-left text out = left (λ (a : PurposeAnswer). outputAfter a text out)
 
-pub number-left : (body out : List ℕ) (answer definition : IssueAnswer) (after : List ℕ) → answer ≡ definition →
-    after ≡ issuedTo answer body out → after ≡ issuedTo definition body out
-number-left body out = left (λ (a : IssueAnswer). issuedTo a body out)
+pub number-left : (body : List ℕ) (check : ℕ) (out : List ℕ) (answer definition : IssueAnswer) (after : List ℕ) → answer ≡ definition →
+    after ≡ issuedTo answer body check out → after ≡ issuedTo definition body check out
+number-left body check out = left (λ (a : IssueAnswer). issuedTo a body check out)

@@ -4,8 +4,12 @@ use mathlib.Core.Path.{_≡_}
 use mathlib.Core.List.{List}
 use lib.ListN.{length}
 use Rattle.refusal.specs.Table.{Verdict}
-use Rattle.check_characters.specs.Number.{issueAnswer, issuedTo, checkVerdict, issueVerdict, checkedNumber}
-use Rattle.check_characters.specs.Iban.{ibanVerdict, checkedIban}
+use Rattle.check_characters.specs.Answer.{issuedTo, checkVerdict, issueVerdict}
+use Rattle.check_characters.specs.Mod37.{checkOf}
+use Rattle.check_characters.specs.Number.{issueAnswer, numberVerdict, checkedNumber}
+use Rattle.check_characters.specs.Iban.{checkedIban}
+use Rattle.check_characters.specs.Identcode.{checkDigitOf, checkedIdentcode, partsAnswer, identcodeAnswer, partsVerdict}
+use Rattle.check_characters.specs.declared.answer.IssueAnswer.{IssueAnswer}
 use Rattle.fields.specs.Profile.{profile}
 use Rattle.line.specs.Line.{lineAnswer, lineVerdict, alone}
 use Rattle.line.specs.Find.{fieldAnswer, fieldVerdict}
@@ -14,7 +18,7 @@ use Rattle.file.specs.File.{judged, listOf, fileVerdict}
 use Rattle.writer.specs.Write.{recordNumbered, between, writeAnswer, writtenTo, writeVerdict}
 use Rattle.purpose.specs.Purpose.{purposeAnswer, purposeOf, listAfter, outputAfter, purposeVerdict}
 use Rattle.peliranopi.specs.Told.{numberTold, placeTold, linesTold, parcelsTold, centsTold, recordTold, countTold, nextTold, startTold}
-use Rattle.peliranopi.specs.Told.{lengthTold, writtenTold, purposeTold, issuedTold, kindTold}
+use Rattle.peliranopi.specs.Told.{lengthTold, writtenTold, purposeTold, issuedTold, kindTold, partsTold}
 
 -- what every call tells: its number, and the place
 abbrev pub Tells : Verdict → ℕ → ℕ → Type 0
@@ -62,14 +66,32 @@ PurposeTells file line lent output number bytes place list after =
 abbrev pub NumberTells : List ℕ → ℕ → ℕ → ℕ → Type 0
 NumberTells symbols number kind place =
     let answer = checkedNumber symbols in
-    Tells (checkVerdict answer) number place × (kind ≡ kindTold answer)
+    Tells (numberVerdict answer) number place × (kind ≡ kindTold answer)
 
--- issuing one
+-- issuing a number with its check: what the answer tells, and the output then
+abbrev pub IssuedTells : IssueAnswer → List ℕ → ℕ → List ℕ → ℕ → ℕ → ℕ → List ℕ → Type 0
+IssuedTells answer body check output number bytes place after =
+    Tells (issueVerdict answer) number place × (bytes ≡ issuedTold answer) × (after ≡ issuedTo answer body check output)
+
 abbrev pub IssueTells : List ℕ → List ℕ → ℕ → ℕ → ℕ → List ℕ → Type 0
 IssueTells body output number bytes place after =
-    let answer = issueAnswer body (length output) in
-    Tells (issueVerdict answer) number place × (bytes ≡ issuedTold answer) × (after ≡ issuedTo answer body output)
+    IssuedTells (issueAnswer body (length output)) body (checkOf body) output number bytes place after
 
 -- checking an IBAN
 abbrev pub IbanTells : List ℕ → ℕ → ℕ → Type 0
-IbanTells symbols number place = Tells (ibanVerdict (checkedIban symbols)) number place
+IbanTells symbols number place = Tells (checkVerdict (checkedIban symbols)) number place
+
+-- checking an identcode
+abbrev pub IdentcodeTells : List ℕ → ℕ → ℕ → Type 0
+IdentcodeTells code number place = Tells (checkVerdict (checkedIdentcode code)) number place
+
+-- reading its parts
+abbrev pub PartsTells : List ℕ → ℕ → List ℕ → ℕ → Type 0
+PartsTells code number parts place =
+    let answer = partsAnswer code in
+    Tells (partsVerdict answer) number place × (parts ≡ partsTold answer)
+
+-- issuing one
+abbrev pub IssueIdentcodeTells : List ℕ → List ℕ → ℕ → ℕ → ℕ → List ℕ → Type 0
+IssueIdentcodeTells body output number bytes place after =
+    IssuedTells (identcodeAnswer body (length output)) body (checkDigitOf body) output number bytes place after

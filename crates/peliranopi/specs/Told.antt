@@ -1,13 +1,18 @@
 -- What a call tells a C caller of each answer: a number for it, and the values behind the pointers. A value that an answer does not
 -- have is 0.
 use Prim.Native.Nat.{ℕ}
+use mathlib.Core.List.{List, [], _∷_}
+use lib.ListN.{replicate}
 use Rattle.refusal.specs.Table.{Verdict}
 use Rattle.check_characters.specs.declared.number.Kind.{Kind}
 use Rattle.check_characters.specs.declared.number.Kind.the-variants.{Tracking, Label}
 use Rattle.check_characters.specs.declared.number.NumberAnswer.{NumberAnswer}
 use Rattle.check_characters.specs.declared.number.NumberAnswer.the-variants as checked
-use Rattle.check_characters.specs.declared.number.IssueAnswer.{IssueAnswer}
-use Rattle.check_characters.specs.declared.number.IssueAnswer.the-variants.{Issued, Refused}
+use Rattle.check_characters.specs.declared.answer.IssueAnswer.{IssueAnswer}
+use Rattle.check_characters.specs.declared.answer.IssueAnswer.the-variants.{Issued, Refused}
+use Rattle.check_characters.specs.declared.identcode.Parts.{Parts}
+use Rattle.check_characters.specs.declared.identcode.PartsAnswer.{PartsAnswer}
+use Rattle.check_characters.specs.declared.identcode.PartsAnswer.the-variants as divided
 use Rattle.fields.specs.declared.record.Record.{Record}
 use Rattle.fields.specs.declared.record.Record.the-variants.{Header, Sender, Shipment, Parcel, Product, Feature}
 use Rattle.line.specs.declared.read.LineAnswer.{LineAnswer}
@@ -96,3 +101,17 @@ kindNumber Label = 2
 abbrev pub kindTold : NumberAnswer → ℕ
 kindTold (checked.Accepted kind) = kindNumber kind
 kindTold (checked.Refused refusal) = 0
+
+-- of an identcode: where each of its six parts starts, and how many digits it has, twelve numbers in the parts' order
+abbrev pub inOrder : Parts → List ℕ
+inOrder parts =
+    parts .origin .start ∷ parts .origin .length ∷
+    parts .customer .start ∷ parts .customer .length ∷
+    parts .sequence .start ∷ parts .sequence .length ∷
+    parts .product .start ∷ parts .product .length ∷
+    parts .destination .start ∷ parts .destination .length ∷
+    parts .check .start ∷ parts .check .length ∷ []
+
+abbrev pub partsTold : PartsAnswer → List ℕ
+partsTold (divided.Read parts) = inOrder parts
+partsTold (divided.Refused refusal) = replicate 12 0

@@ -11,5 +11,8 @@ pub use lines::peliranopi_find_field;
 pub use lines::peliranopi_read_line;
 pub use lines::peliranopi_write_line;
 pub use numbers::peliranopi_check_iban;
+pub use numbers::peliranopi_check_identcode;
 pub use numbers::peliranopi_check_number;
+pub use numbers::peliranopi_issue_identcode;
 pub use numbers::peliranopi_issue_number;
+pub use numbers::peliranopi_read_identcode;

@@ -1,12 +1,15 @@
-// The calls on DPD numbers and IBANs.
+// The calls on DPD numbers, IBANs and identcodes.
 ghost use mathlib.Core.Path.{_≡_};
 ghost use Rattle.peliranopi.specs.Told.{kindNumber};
-ghost use Rattle.peliranopi.specs.Calls.{NumberTells, IssueTells, IbanTells};
+ghost use Rattle.peliranopi.specs.Calls.{NumberTells, IssueTells, IbanTells, IdentcodeTells, PartsTells, IssueIdentcodeTells};
+ghost use Rattle.peliranopi.specs.Told.{inOrder};
 use crate::tell;
-use check_characters::IbanAnswer;
+use check_characters::CheckAnswer;
 use check_characters::IssueAnswer;
 use check_characters::Kind;
 use check_characters::NumberAnswer;
+use check_characters::Parts;
+use check_characters::PartsAnswer;
 
 #[no_mangle]
 pub extern "C" fn peliranopi_check_number(symbols: &[u8], kind: &mut u32, place: &mut usize) -> u32
@@ -53,9 +56,85 @@ pub extern "C" fn peliranopi_check_iban(symbols: &[u8], place: &mut usize) -> u3
 {
     let answer = check_characters::check_iban(symbols);
     match answer {
-        IbanAnswer::Accepted => tell::accepted(place),
-        IbanAnswer::Refused(refusal) => tell::refused(refusal, place),
+        CheckAnswer::Accepted => tell::accepted(place),
+        CheckAnswer::Refused(refusal) => tell::refused(refusal, place),
     }
+}
+
+#[no_mangle]
+pub extern "C" fn peliranopi_check_identcode(code: &[u8], place: &mut usize) -> u32
+    ensures { λ r. ⌜ IdentcodeTells (now (code .entry)) r (now (place .exit)) ⌝ }
+{
+    let answer = check_characters::check_identcode(code);
+    match answer {
+        CheckAnswer::Accepted => tell::accepted(place),
+        CheckAnswer::Refused(refusal) => tell::refused(refusal, place),
+    }
+}
+
+// The header has the twelve numbers as a struct of six parts.
+#[no_mangle]
+pub extern "C" fn peliranopi_read_identcode(
+    code: &[u8],
+    parts: &mut [usize; 12],
+    place: &mut usize,
+) -> u32
+    ensures { λ r. ⌜ PartsTells (now (code .entry)) r (now (parts .exit)) (now (place .exit)) ⌝ }
+{
+    let answer = check_characters::read_identcode(code);
+    match answer {
+        PartsAnswer::Read(found) => {
+            *parts = in_order(found);
+            tell::accepted(place)
+        }
+        PartsAnswer::Refused(refusal) => {
+            *parts = [0; 12];
+            tell::refused(refusal, place)
+        }
+    }
+}
+
+#[no_mangle]
+pub extern "C" fn peliranopi_issue_identcode(
+    body: &[u8],
+    output: &mut [u8],
+    written: &mut usize,
+    place: &mut usize,
+) -> u32
+    ensures { λ r. ⌜ IssueIdentcodeTells (now (body .entry)) (now (output .entry)) r
+        (now (written .exit)) (now (place .exit)) (now (output .exit)) ⌝ }
+{
+    let answer = check_characters::issue_identcode(body, output);
+    match answer {
+        IssueAnswer::Issued(bytes) => {
+            *written = bytes;
+            tell::accepted(place)
+        }
+        IssueAnswer::Refused(refusal) => {
+            *written = 0;
+            tell::refused(refusal, place)
+        }
+    }
+}
+
+// Where each part starts and how many digits it has, part by part.
+fn in_order(parts: Parts) -> [usize; 12]
+    ensures { λ r. ⌜ r ≡ inOrder parts ⌝ }
+{
+    [
+        parts.origin.start,
+        parts.origin.length,
+        parts.customer.start,
+        parts.customer.length,
+        parts.sequence.start,
+        parts.sequence.length,
+        parts.product.start,
+        parts.product.length,
+        parts.destination.start,
+        parts.destination.length,
+        parts.check.start,
+        parts.check.length,
+    ]
 }
 
 // The number that stands for a kind.

@@ -5,13 +5,14 @@ use mathlib.Core.List.{List}
 use mathlib.Core.Logic.{_⊎_, inl, inr}
 use Rattle.refusal.specs.declared.Refusal.{Refusal}
 use Rattle.refusal.proofs.Verdicts.{no-pass}
-use Rattle.check_characters.specs.Number.{checkedNumber, checkVerdict}
-use Rattle.check_characters.specs.Iban.{checkedIban, ibanVerdict}
+use Rattle.check_characters.specs.Number.{checkedNumber, numberVerdict}
+use Rattle.check_characters.specs.Answer.{checkVerdict}
+use Rattle.check_characters.specs.Iban.{checkedIban}
 use Rattle.check_characters.specs.declared.number.Kind.{Kind}
 use Rattle.check_characters.specs.declared.number.NumberAnswer.{NumberAnswer}
 use Rattle.check_characters.specs.declared.number.NumberAnswer.the-variants.{Accepted as Sound, Refused as Unsound}
-use Rattle.check_characters.specs.declared.iban.IbanAnswer.{IbanAnswer}
-use Rattle.check_characters.specs.declared.iban.IbanAnswer.the-variants.{Accepted as SoundAsIban, Refused as UnsoundAsIban}
+use Rattle.check_characters.specs.declared.answer.CheckAnswer.{CheckAnswer}
+use Rattle.check_characters.specs.declared.answer.CheckAnswer.the-variants.{Accepted as SoundAsIban, Refused as UnsoundAsIban}
 use Rattle.slips.specs.Exactly.{SoundNumber, SoundIban}
 use Rattle.slips.proofs.Numbers as numbers
 use Rattle.slips.proofs.Ibans as ibans
@@ -94,14 +95,14 @@ module _ (s : List ℕ) where
 
   pub number-never-both : (kind : Kind) (refusal : Refusal) → SoundNumber kind s → RefusedNumber s refusal → ⊥
   number-never-both kind refusal g r =
-      no-pass checkVerdict refl refl (sym (number-refused-exactly s refusal .1 r) ∙ numbers.sound-accepted kind s g)
+      no-pass numberVerdict refl refl (sym (number-refused-exactly s refusal .1 r) ∙ numbers.sound-accepted kind s g)
 
   pub iban-always-one : SoundIban s ⊎ ((refusal : Refusal) × RefusedIban s refusal)
   iban-always-one = go (checkedIban s) refl
     where
-      go : (a : IbanAnswer) → checkedIban s ≡ a → SoundIban s ⊎ ((refusal : Refusal) × RefusedIban s refusal)
+      go : (a : CheckAnswer) → checkedIban s ≡ a → SoundIban s ⊎ ((refusal : Refusal) × RefusedIban s refusal)
       go SoundAsIban e = inl (ibans.accepted-sound s e)
       go (UnsoundAsIban refusal) e = inr (refusal, iban-refused-exactly s refusal .0 e)
 
   pub iban-never-both : (refusal : Refusal) → SoundIban s → RefusedIban s refusal → ⊥
-  iban-never-both refusal g r = no-pass ibanVerdict refl refl (sym (iban-refused-exactly s refusal .1 r) ∙ ibans.sound-accepted s g)
+  iban-never-both refusal g r = no-pass checkVerdict refl refl (sym (iban-refused-exactly s refusal .1 r) ∙ ibans.sound-accepted s g)

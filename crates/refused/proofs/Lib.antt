@@ -14,4 +14,6 @@ pub mod Writing
 pub mod Purposes
 pub mod Wrong
 pub mod Numbers
+pub mod Identcodes
+pub mod Parcels
 pub mod Either

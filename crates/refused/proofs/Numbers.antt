@@ -15,15 +15,16 @@ use Rattle.refusal.specs.declared.Reason.the-variants.{OutputTooShort, WrongLen
 use Rattle.refusal.proofs.Verdicts.{no-pass}
 use Rattle.check_characters.specs.Mod37.{passes}
 use Rattle.check_characters.specs.Number.{lengthOf, allowedInNumber, wrongInNumber, checkedAs, checkedNumber}
-use Rattle.check_characters.specs.Number.{issueAs, issueAnswer, issuedTo, Issues, checkVerdict, issueVerdict}
+use Rattle.check_characters.specs.Number.{issueAs, issueAnswer, Issues, numberVerdict}
+use Rattle.check_characters.specs.Answer.{roomFor, issuedTo, checkVerdict, issueVerdict}
 use Rattle.check_characters.specs.Iban.{ibanNumber, checkDigits, barred}
-use Rattle.check_characters.specs.Iban.{soundOf, allowedInIban, checkedIban, ibanVerdict}
+use Rattle.check_characters.specs.Iban.{soundOf, allowedInIban, checkedIban}
 use Rattle.check_characters.specs.Iban.{wrongInIban}
 use Rattle.check_characters.specs.declared.number.Kind.{Kind}
 use Rattle.check_characters.specs.declared.number.Kind.the-variants.{Tracking, Label}
 use Rattle.check_characters.specs.declared.number.NumberAnswer.the-variants.{Accepted, Refused}
-use Rattle.check_characters.specs.declared.number.IssueAnswer.the-variants.{Issued, Refused as NotIssued}
-use Rattle.check_characters.specs.declared.iban.IbanAnswer.the-variants.{Accepted as AcceptedIban, Refused as RefusedAsIban}
+use Rattle.check_characters.specs.declared.answer.IssueAnswer.the-variants.{Issued, Refused as NotIssued}
+use Rattle.check_characters.specs.declared.answer.CheckAnswer.the-variants.{Accepted as AcceptedIban, Refused as RefusedAsIban}
 use Rattle.check_characters.proofs.Checking.{checked-length}
 use Rattle.slips.proofs.Shaping.{shaped-all, all-shaped}
 use Rattle.slips.proofs.Numbers.{checked-kind}
@@ -43,7 +44,7 @@ module _ (s : List ℕ) where
         choice (ltb wrong (length s)) (Refused (because WrongSymbol wrong)) _ (Refused refusal)
         (λ t q. is (because WrongSymbol wrong) (RefusedNumber.wrong-symbol kind wrong n (wrong-there (allowedInNumber kind) s (ltb-true wrong (length s) t))) q)
         (λ t. choice (passes s) (Accepted kind) (Refused (because WrongCheck (length s - 1))) (Refused refusal)
-        (λ u q. absurd (no-pass checkVerdict refl refl (sym q)))
+        (λ u q. absurd (no-pass numberVerdict refl refl (sym q)))
         (λ u q. is (because WrongCheck (length s - 1))
         (RefusedNumber.wrong-check kind n (shaped-all (allowedInNumber kind) s (ltb-false wrong (length s) t)) u) q)) e
 
@@ -113,7 +114,7 @@ module _ (s : List ℕ) where
       (λ u q. tell (because WrongSymbol wrong) (RefusedIban.wrong-symbol wrong (least (not-false inLength t)) (most (not-false inLength t))
       (wrong-there allowedInIban s (ltb-true wrong (length s) u))) q)
       (λ u. choice (soundOf s) AcceptedIban (RefusedAsIban (because WrongCheck 2)) (RefusedAsIban refusal)
-      (λ v q. absurd (no-pass ibanVerdict refl refl (sym q)))
+      (λ v q. absurd (no-pass checkVerdict refl refl (sym q)))
       (λ v q. tell (because WrongCheck 2) (RefusedIban.wrong-check (least (not-false inLength t)) (most (not-false inLength t))
       (shaped-all allowedInIban s (ltb-false wrong (length s) u)) (unsound v)) q))) e
     where
@@ -139,7 +140,7 @@ module _ (body : List ℕ) (room : ℕ) where
 
     as-issued : (kind : Kind) → length body + 1 ≡ lengthOf kind → issueAs kind body room ≡ NotIssued refusal →
         RefusedIssue body room refusal
-    unfolding issueAs
+    unfolding issueAs roomFor
     as-issued kind n e =
         let wrong = wrongInNumber kind body in
         choice (ltb wrong (length body)) (NotIssued (because WrongSymbol wrong)) _ (NotIssued refusal)
@@ -164,7 +165,7 @@ module _ (body : List ℕ) (room : ℕ) where
         neither a b Label h = b (omega arith)
 
   refused-issue : (refusal : Refusal) → RefusedIssue body room refusal → issueAnswer body room ≡ NotIssued refusal
-  unfolding issueAnswer issueAs
+  unfolding issueAnswer issueAs roomFor
   refused-issue refusal (RefusedIssue.wrong-length n) =
       rw (ne-eqb (length body) 14 (λ e. n Tracking (omega arith)), ne-eqb (length body) 27 (λ e. n Label (omega arith)))
   refused-issue refusal (RefusedIssue.wrong-symbol kind i n g) =

@@ -3,3 +3,4 @@ pub mod File
 pub mod Write
 pub mod Purpose
 pub mod Number
+pub mod Identcode

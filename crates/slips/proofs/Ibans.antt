@@ -20,9 +20,10 @@ use Rattle.text.proofs.Choices.{and-left, and-right, or-cases, came-then, came-
 use Rattle.text.proofs.Bytes.{digit-range, capital-range, capital-low}
 use Rattle.text.proofs.Finite.{every-at, tells, told-apart}
 use Rattle.check_characters.specs.Symbol.{valueOf}
-use Rattle.check_characters.specs.Iban.{allowedInIban, wrongInIban, digitsOf, spread, decimalFrom, moved, ibanNumber, ibanVerdict}
+use Rattle.check_characters.specs.Iban.{allowedInIban, wrongInIban, digitsOf, spread, decimalFrom, moved, ibanNumber}
+use Rattle.check_characters.specs.Answer.{checkVerdict}
 use Rattle.check_characters.specs.Iban.{checkDigits, barred, soundOf, checkedIban}
-use Rattle.check_characters.specs.declared.iban.IbanAnswer.the-variants.{Accepted, Refused}
+use Rattle.check_characters.specs.declared.answer.CheckAnswer.the-variants.{Accepted, Refused}
 use Rattle.check_characters.proofs.Symbols.{value-le, value-digit, value-capital}
 use Rattle.check_characters.proofs.Digits.{mod-scale, spread-append}
 use Rattle.slips.specs.Slips.{AgreeBut, OneClass, swapped}
@@ -39,9 +40,9 @@ accepted-sound s e =
     let wrong = ltb (wrongInIban s) (length s) in
     let tail = if soundOf s then Accepted else Refused (because WrongCheck 2) in
     let a = came-else (not inside) (Refused (because WrongLength 0)) (if wrong then Refused (because WrongSymbol (wrongInIban s)) else tail)
-    Accepted (no-pass ibanVerdict refl refl) e in
-    let b = came-else wrong (Refused (because WrongSymbol (wrongInIban s))) tail Accepted (no-pass ibanVerdict refl refl) (a .1) in
-    let c = came-then (soundOf s) Accepted (Refused (because WrongCheck 2)) Accepted (no-pass ibanVerdict refl refl) (b .1) in
+    Accepted (no-pass checkVerdict refl refl) e in
+    let b = came-else wrong (Refused (because WrongSymbol (wrongInIban s))) tail Accepted (no-pass checkVerdict refl refl) (a .1) in
+    let c = came-then (soundOf s) Accepted (Refused (because WrongCheck 2)) Accepted (no-pass checkVerdict refl refl) (b .1) in
     let long = not-false inside (a .0) in
     record {
       long = leb-true 15 (length s) (and-left (leb 15 (length s)) (leb (length s) 34) long);

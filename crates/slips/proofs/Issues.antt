@@ -7,9 +7,9 @@ use mathlib.Core.Logic.{⊎-elim}
 use native.Mathlib.Omega.{arith}
 use lib.Dec.{eqb, ltb}
 use lib.ListN.{length, getD, take, drop, length-append, length-take, List·getD-append}
-use lib.Seq.{take-at, getD-take, getD-at, append-snoc}
+use lib.Seq.{getD-at}
 use borrow.Author.Tests.{eqb-true, ltb-false}
-use Rattle.refusal.specs.declared.Reason.the-variants.{OutputTooShort, WrongLength, WrongSymbol}
+use Rattle.refusal.specs.declared.Reason.the-variants.{WrongLength, WrongSymbol}
 use Rattle.refusal.specs.Table.{because}
 use Rattle.refusal.proofs.Verdicts.{no-pass}
 use Rattle.text.specs.Byte.{symbol}
@@ -19,17 +19,19 @@ use Rattle.text.proofs.Numbers.{le-or-lt}
 use Rattle.text.proofs.Finite.{every-at}
 use Rattle.check_characters.specs.Symbol.{valueOf, symbolOf}
 use Rattle.check_characters.specs.Mod37.{carry, checkOf}
-use Rattle.check_characters.specs.Number.{lengthOf, allowedInNumber, wrongInNumber, issueAs, issueAnswer, issuedTo, Issues, issueVerdict}
+use Rattle.check_characters.specs.Answer.{roomFor, issueVerdict}
+use Rattle.check_characters.specs.Number.{lengthOf, allowedInNumber, wrongInNumber, issueAs, issueAnswer, Issues}
 use Rattle.check_characters.specs.declared.number.Kind.{Kind}
 use Rattle.check_characters.specs.declared.number.Kind.the-variants.{Tracking, Label}
-use Rattle.check_characters.specs.declared.number.IssueAnswer.{IssueAnswer}
-use Rattle.check_characters.specs.declared.number.IssueAnswer.the-variants.{Issued, Refused}
+use Rattle.check_characters.specs.declared.answer.IssueAnswer.{IssueAnswer}
+use Rattle.check_characters.specs.declared.answer.IssueAnswer.the-variants.{Issued, Refused}
 use Rattle.check_characters.proofs.Carries.{carry-of, check-value}
 use Rattle.check_characters.proofs.Shapes.{has-last, tracking-check, label-check}
-use Rattle.check_characters.proofs.Issuing.{issue-fits, issue-tracking, issue-label}
+use Rattle.check_characters.proofs.Issuing.{room-enough, room-whole, issue-right, issue-tracking, issue-label}
 use Rattle.slips.specs.Exactly.{Shaped, SoundNumber, bodyOf}
 use Rattle.slips.proofs.Shaping.{shaped-all, all-shaped}
-use Rattle.slips.proofs.Numbers.{all-and-last, two-passes, carry-append, two-of-one, one-symbol}
+use Rattle.slips.proofs.Written.{written-start, front-shaped, all-and-last, written-again}
+use Rattle.slips.proofs.Numbers.{two-passes, carry-append, two-of-one, one-symbol}
 
 -- what an issued answer tells of the body
 pub record Body (k : Kind) (body : List ℕ) (n : ℕ) : Type 0 where
@@ -41,9 +43,12 @@ body-as : (k : Kind) (body : List ℕ) (room n : ℕ) → length body + 1 ≡ le
 unfolding issueAs
 body-as k body room n long e =
     let w = came-else (ltb (wrongInNumber k body) (length body)) (Refused (because WrongSymbol (wrongInNumber k body)))
-    (if ltb room (lengthOf k) then Refused (because OutputTooShort 0) else Issued (lengthOf k)) (Issued n) (no-pass issueVerdict refl refl) e in
-    let r = came-else (ltb room (lengthOf k)) (Refused (because OutputTooShort 0)) (Issued (lengthOf k)) (Issued n) (no-pass issueVerdict refl refl) (w .1) in
-    record { long = long; shaped = shaped-all (allowedInNumber k) body (ltb-false (wrongInNumber k body) (length body) (w .0)); whole = cc }
+    (roomFor (lengthOf k) room) (Issued n) (no-pass issueVerdict refl refl) e in
+    record {
+      long = long;
+      shaped = shaped-all (allowedInNumber k) body (ltb-false (wrongInNumber k body) (length body) (w .0));
+      whole = room-whole (lengthOf k) room n (w .1);
+    }
 
 body-of : (body : List ℕ) (room n : ℕ) → issueAnswer body room ≡ Issued n → (k : Kind) × Body k body n
 unfolding issueAnswer
@@ -103,21 +108,12 @@ with-check k body long shaped =
 
 -- what is issued is sound
 pub issued-sound : (body out after : List ℕ) (n : ℕ) → Issues body out (Issued n) after → (k : Kind) × SoundNumber k (take n after)
-unfolding issuedTo
 issued-sound body out after n h =
     let b = body-of body (length out) n (sym (h .0)) in
     let w = with-check (b .0) body (b .1 .long) (b .1 .shaped) in
-    let front : take n after ≡ body ++ (checkOf body ∷ []) =
-    ap (take n) (h .1 ∙ sym (append-snoc body (checkOf body) (drop n out)))
-    ∙ take-at (body ++ (checkOf body ∷ [])) (drop n out) n (w .long ∙ sym (b .1 .whole)) in
-    (b .0, rw front w)
+    (b .0, rw (written-start body out after (checkOf body) n (b .1 .long ∙ sym (b .1 .whole)) (h .1)) w)
 
 -- a sound number is what its body issues
-front-shaped : (k : Kind) (s : List ℕ) (m : ℕ) → Shaped (allowedInNumber k) s → Shaped (allowedInNumber k) (take m s)
-front-shaped k s m shaped i l =
-    let r = length-take m s in
-    rw (getD-take m s i 0 (omega arith)) (shaped i (omega arith))
-
 pub issues-as : (k : Kind) (body : List ℕ) (room : ℕ) → length body + 1 ≡ lengthOf k → issueAnswer body room ≡ issueAs k body room
 issues-as Tracking body room e = issue-tracking body room (omega arith)
 issues-as Label body room e = issue-label body room (λ q. omega arith) (omega arith)
@@ -125,8 +121,7 @@ issues-as Label body room e = issue-label body room (λ q. omega arith) (omega a
 pub sound-issued : (k : Kind) (s out after : List ℕ) (answer : IssueAnswer) → SoundNumber k s → length s ≤ length out →
     Issues (bodyOf s) out answer after
     → (answer ≡ Issued (length s)) × (after ≡ s ++ drop (length s) out)
-unfolding issuedTo
-sound-issued k s out after answer g room h = (answered, rw answered at (h .1) ∙ same)
+sound-issued k s out after answer g room h = (answered, rw answered at (h .1) ∙ written-again s some out (checkOf (bodyOf s)) last)
   where
     some : 1 ≤ length s
     some = has-last k (length s) (g .long)
@@ -135,23 +130,18 @@ sound-issued k s out after answer g room h = (answered, rw answered at (h .1) �
     whole = omega (arith, length-take (length s - 1) s, some)
 
     shaped : Shaped (allowedInNumber k) (bodyOf s)
-    shaped = front-shaped k s (length s - 1) (g .shaped)
+    shaped = front-shaped (allowedInNumber k) s (length s - 1) (g .shaped)
 
     answered : answer ≡ Issued (length s)
     answered =
         h .0
         ∙ issues-as k (bodyOf s) (length out) (whole ∙ g .long)
-        ∙ sym (issue-fits k (bodyOf s) (length out) (wrongInNumber k (bodyOf s)) refl (all-shaped (allowedInNumber k) (bodyOf s) shaped) (whole
-        ∙ g .long) (omega (arith, whole)))
+        ∙ sym (issue-right k (bodyOf s) (length out) (wrongInNumber k (bodyOf s)) refl (Issued (length (bodyOf s) + 1))
+        (all-shaped (allowedInNumber k) (bodyOf s) shaped) (whole ∙ g .long)
+        (room-enough (length (bodyOf s) + 1) (length out) (omega (arith, whole))))
         ∙ ap Issued whole
 
     last : checkOf (bodyOf s) ≡ getD s (length s - 1) 0
     last =
         one-symbol k (bodyOf s) (checkOf (bodyOf s)) (getD s (length s - 1) 0) [] (with-check k (bodyOf s) (whole ∙ g .long) shaped)
         (rw (all-and-last s some) at g)
-
-    same : issuedTo (Issued (length s)) (bodyOf s) out ≡ s ++ drop (length s) out
-    same =
-        ap (λ (x : ℕ). (bodyOf s) ++ x ∷ drop (length s) out) last
-        ∙ sym (append-snoc (bodyOf s) (getD s (length s - 1) 0) (drop (length s) out))
-        ∙ ap (λ (x : List ℕ). x ++ drop (length s) out) (sym (all-and-last s some))

@@ -1,7 +1,11 @@
 pub mod Shaping
 pub mod Places
+pub mod Written
 pub mod Steps
 pub mod Numbers
 pub mod Issues
 pub mod Remainders
 pub mod Ibans
+pub mod Identcodes
+pub mod Parts
+pub mod IdentcodeIssues

@@ -7,7 +7,7 @@ use mathlib.Core.Logic.{_↔_, _⊎_, inl, inr, ⊎-elim}
 use native.Mathlib.Omega.{arith}
 use lib.Dec.{eqb, ltb}
 use lib.ListN.{length, getD, take, drop, length-append}
-use lib.Seq.{split-at, take-suc, take-all, getD-at}
+use lib.Seq.{split-at, getD-at}
 use borrow.Author.Tests.{eqb-true, eq-eqb, ltb-false, le-ltb}
 use Rattle.refusal.specs.declared.Reason.the-variants.{WrongLength, WrongSymbol, WrongCheck}
 use Rattle.refusal.specs.Table.{because}
@@ -19,7 +19,7 @@ use Rattle.text.proofs.Numbers.{le-or-lt}
 use Rattle.text.proofs.Bytes.{digit-range, capital-range}
 use Rattle.check_characters.specs.Symbol.{valueOf}
 use Rattle.check_characters.specs.Mod37.{step, carryFrom, carry, passes}
-use Rattle.check_characters.specs.Number.{lengthOf, allowedInNumber, wrongInNumber, checkedAs, checkedNumber, checkVerdict}
+use Rattle.check_characters.specs.Number.{lengthOf, allowedInNumber, wrongInNumber, checkedAs, checkedNumber, numberVerdict}
 use Rattle.check_characters.specs.declared.number.Kind.{Kind}
 use Rattle.check_characters.specs.declared.number.Kind.the-variants.{Tracking, Label}
 use Rattle.check_characters.specs.declared.number.NumberAnswer.the-variants.{Accepted, Refused}
@@ -31,6 +31,7 @@ use Rattle.slips.specs.Slips.{AgreeBut, swapped, OneFollows}
 use Rattle.slips.specs.Exactly.{Shaped, SoundNumber}
 use Rattle.slips.proofs.Shaping.{shaped-all, all-shaped}
 use Rattle.slips.proofs.Places.{in-pieces, agree-there, pair-at}
+use Rattle.slips.proofs.Written.{all-and-last}
 use Rattle.slips.proofs.Steps.{step-sum, step-value, step-back, swap-follows, follows-swap}
 
 pub two-of-one : (c v : ℕ) → (c + v) % 36 ≡ 1 → step c v ≡ 2
@@ -44,8 +45,8 @@ sound-as : (j k : Kind) (s : List ℕ) → length s ≡ lengthOf j → checkedAs
 unfolding checkedAs
 sound-as j k s n e =
     let w = came-else (ltb (wrongInNumber j s) (length s)) (Refused (because WrongSymbol (wrongInNumber j s)))
-    (if passes s then Accepted j else Refused (because WrongCheck (length s - 1))) (Accepted k) (no-pass checkVerdict refl refl) e in
-    let p = came-then (passes s) (Accepted j) (Refused (because WrongCheck (length s - 1))) (Accepted k) (no-pass checkVerdict refl refl) (w .1) in
+    (if passes s then Accepted j else Refused (because WrongCheck (length s - 1))) (Accepted k) (no-pass numberVerdict refl refl) e in
+    let p = came-then (passes s) (Accepted j) (Refused (because WrongCheck (length s - 1))) (Accepted k) (no-pass numberVerdict refl refl) (w .1) in
     let q : j ≡ k = cc in
     let g : SoundNumber j s = record { long = n; shaped = shaped-all (allowedInNumber j) s (ltb-false (wrongInNumber j s) (length s) (w .0)); closed = p .0 } in
     rw q at g
@@ -55,7 +56,7 @@ unfolding checkedNumber
 accepted-sound k s e =
     ⊎-elim (λ (t : eqb (length s) 15 ≡ true). sound-as Tracking k s (eqb-true (length s) 15 t) (simp t at e))
     (λ (n : eqb (length s) 15 ≡ false).
-    let w = came-then (eqb (length s) 28) (checkedAs Label s) (Refused (because WrongLength 0)) (Accepted k) (no-pass checkVerdict refl refl) (simp n at e) in
+    let w = came-then (eqb (length s) 28) (checkedAs Label s) (Refused (because WrongLength 0)) (Accepted k) (no-pass numberVerdict refl refl) (simp n at e) in
     sound-as Label k s (eqb-true (length s) 28 (w .0)) (w .1))
     (true-or-false (eqb (length s) 15))
 
@@ -76,13 +77,8 @@ carry-append c [] q = refl
 carry-append c (b ∷ p) q = carry-append (step c (valueOf b)) p q
 
 module _ (s : List ℕ) (h : 1 ≤ length s) where
-  pub all-and-last : s ≡ take (length s - 1) s ++ (getD s (length s - 1) 0 ∷ [])
-  all-and-last =
-      let e : suc (length s - 1) ≡ length s = omega arith in
-      sym (take-all (suc (length s - 1)) s (omega arith)) ∙ take-suc s (length s - 1) 0 (omega arith)
-
   last-step : carry s ≡ step (carry (take (length s - 1) s)) (valueOf (getD s (length s - 1) 0))
-  last-step = ap carry all-and-last ∙ carry-append 36 (take (length s - 1) s) (getD s (length s - 1) 0 ∷ [])
+  last-step = ap carry (all-and-last s h) ∙ carry-append 36 (take (length s - 1) s) (getD s (length s - 1) 0 ∷ [])
 
   pub passes-two : passes s ≡ true → carry s ≡ 2
   unfolding passes

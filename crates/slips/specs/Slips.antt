@@ -1,4 +1,4 @@
--- Demand 3: the slips that it names.
+-- Demand 3: the slips that it names, and those of an identcode (document 02, request 2).
 use Prim.Native.Nat.{ℕ, _+_, _%_}
 use mathlib.Core.Path.{_≡_}
 use mathlib.Core.Bool.{true}
@@ -28,3 +28,7 @@ Follows carry x y = (y ≡ (x + 1) % 36) × ((carry + x) % 36 ≡ 18)
 -- "one value follows the other"
 abbrev pub OneFollows : ℕ → ℕ → ℕ → Type 0
 OneFollows carry x y = Follows carry x y ⊎ Follows carry y x
+
+-- two digits that differ by 5
+abbrev pub FiveApart : ℕ → ℕ → Type 0
+FiveApart x y = (y ≡ x + 5) ⊎ (x ≡ y + 5)

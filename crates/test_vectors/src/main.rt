@@ -1,9 +1,13 @@
 // Runs vectors: each line of the input is a letter, a space and a text, and each gives a line with the text and its answer.
-// N: a DPD number is checked. B: one is issued from this body. C: the check character is given. I: an IBAN is checked.
-use check_characters::IbanAnswer;
+// N: a DPD number is checked. B: one is issued from this body. C: the check character is given. I: an IBAN is checked. D: an identcode
+// is checked. P: its parts are read. J: one is issued from these digits.
+use check_characters::CheckAnswer;
 use check_characters::IssueAnswer;
 use check_characters::Kind;
 use check_characters::NumberAnswer;
+use check_characters::Part;
+use check_characters::Parts;
+use check_characters::PartsAnswer;
 use refusal::Refusal;
 use streams::Input;
 
@@ -41,6 +45,9 @@ fn say(line: &[u8]) {
         b'B' => say_issued(text),
         b'C' => say_check(text),
         b'I' => say_iban(text),
+        b'D' => say_identcode(text),
+        b'P' => say_parts(text),
+        b'J' => say_issued_identcode(text),
         _ => say_unknown(),
     }
 }
@@ -80,10 +87,20 @@ fn say_kind(kind: Kind) {
 fn say_issued(body: &[u8]) {
     let mut out = [b'.'; 30];
     let answer = check_characters::issue_number(body, &mut out);
+    say_output(answer, &out);
+}
+
+fn say_issued_identcode(body: &[u8]) {
+    let mut out = [b'.'; 30];
+    let answer = check_characters::issue_identcode(body, &mut out);
+    say_output(answer, &out);
+}
+
+fn say_output(answer: IssueAnswer, out: &[u8]) {
     match answer {
         IssueAnswer::Issued(_) => {
             streams::say(b" ");
-            streams::say(&out);
+            streams::say(out);
             streams::say(b"\n");
         }
         IssueAnswer::Refused(refusal) => say_no(refusal),
@@ -98,11 +115,41 @@ fn say_check(s: &[u8]) {
 }
 
 fn say_iban(s: &[u8]) {
-    let answer = check_characters::check_iban(s);
+    say_checked(check_characters::check_iban(s), b" IBAN\n");
+}
+
+fn say_identcode(s: &[u8]) {
+    say_checked(check_characters::check_identcode(s), b" identcode\n");
+}
+
+fn say_checked(answer: CheckAnswer, name: &[u8]) {
     match answer {
-        IbanAnswer::Accepted => {
-            streams::say(b" IBAN\n");
+        CheckAnswer::Accepted => {
+            streams::say(name);
         }
-        IbanAnswer::Refused(refusal) => say_no(refusal),
+        CheckAnswer::Refused(refusal) => say_no(refusal),
     }
+}
+
+fn say_parts(s: &[u8]) {
+    let answer = check_characters::read_identcode(s);
+    match answer {
+        PartsAnswer::Read(parts) => say_each(s, parts),
+        PartsAnswer::Refused(refusal) => say_no(refusal),
+    }
+}
+
+fn say_each(s: &[u8], parts: Parts) {
+    say_part(s, parts.origin);
+    say_part(s, parts.customer);
+    say_part(s, parts.sequence);
+    say_part(s, parts.product);
+    say_part(s, parts.destination);
+    say_part(s, parts.check);
+    streams::say(b"\n");
+}
+
+fn say_part(s: &[u8], part: Part) {
+    streams::say(b" ");
+    streams::say(text::clip(s, part.start, part.length));
 }

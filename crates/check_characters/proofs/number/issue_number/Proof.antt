@@ -1,5 +1,5 @@
 -- `number::issue_number` meets its contract.
-use Rattle.check_characters.specs.Number.{issuedTo}
+use Rattle.check_characters.specs.Answer.{issuedTo}
 use Rattle.check_characters.proofs.Issuing.{issue-tracking, issue-label, issue-length}
 use borrow.Author.Needs.{needs}
 use Rattle.check_characters.proofs.number.issue_number.Statement.{statement}

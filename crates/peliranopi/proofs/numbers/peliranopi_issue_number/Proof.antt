@@ -1,5 +1,5 @@
 -- `numbers::peliranopi_issue_number` meets its contract.
-use Rattle.check_characters.specs.Number.{issueVerdict}
+use Rattle.check_characters.specs.Answer.{issueVerdict}
 use Rattle.peliranopi.specs.Told.{issuedTold}
 use Rattle.peliranopi.proofs.Telling.{told-number, told-place, told, number-left}
 use borrow.Author.Needs.{needs}

@@ -1,0 +1,20 @@
+-- `numbers::peliranopi_issue_identcode` meets its contract.
+use Rattle.check_characters.specs.Answer.{issueVerdict}
+use Rattle.peliranopi.specs.Told.{issuedTold}
+use Rattle.peliranopi.proofs.Telling.{told-number, told-place, told, number-left}
+use borrow.Author.Needs.{needs}
+use Rattle.peliranopi.proofs.numbers.peliranopi_issue_identcode.Statement.{statement}
+use Rattle.peliranopi.proofs.numbers.peliranopi_issue_identcode.Tie as tie
+
+returns : tie.Need-returns
+returns c = search (needs, told-number issueVerdict, told-place issueVerdict, told issuedTold, number-left)
+
+returns-2 : tie.Need-returns-2
+returns-2 c = search (needs, told-number issueVerdict, told-place issueVerdict, told issuedTold, number-left)
+
+pub peliranopi-issue-identcode-spec : {M : Type 1} → statement M
+peliranopi-issue-identcode-spec =
+    tie.close
+    (tie.spec
+    (λ c κs. search needs) (λ c. search needs) (λ c κs. search needs) (λ c. search needs) (λ c κs. search needs) (λ c. search needs) returns
+    (λ c. search needs) returns-2)

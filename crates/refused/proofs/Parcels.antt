@@ -1,0 +1,61 @@
+-- The identcode of a 040 line: on an allowed line it passes, and one that fails is refused by 8 where it stands.
+use Prim.Native.Nat.{ℕ, _+_, _≤_}
+use mathlib.Core.Path.{_≡_, refl, sym, _∙_}
+use mathlib.Core.Bool.{true, false}
+use mathlib.Core.List.{List, [], _∷_}
+use native.Mathlib.Omega.{arith}
+use lib.ListN.{length, drop}
+use Rattle.refusal.specs.Table.{because}
+use Rattle.refusal.specs.declared.Reason.the-variants.{FieldForm}
+use Rattle.check_characters.specs.Identcode.{checkedIdentcode}
+use Rattle.check_characters.specs.declared.answer.CheckAnswer.the-variants.{Accepted}
+use Rattle.fields.specs.Record.{typeOf}
+use Rattle.fields.specs.Form.{isIdentcode}
+use Rattle.fields.specs.Profile.{profile, widthInTable, widthOf, isRequired, hasForm}
+use Rattle.fields.specs.declared.record.Due.{Due}
+use Rattle.fields.specs.declared.record.Record.{Record}
+use Rattle.fields.specs.declared.record.Record.the-variants.{Parcel}
+use Rattle.fields.proofs.Forms.{accepted-is, not-accepted}
+use Rattle.line.specs.Parts.{fieldNo}
+use Rattle.line.specs.Told.{Told}
+use Rattle.line.specs.Line.{lineAnswer, fileLimit}
+use Rattle.line.specs.declared.read.LineAnswer.the-variants.{Refused}
+use Rattle.grammar.specs.Grammar.{Filled, LineOk}
+use Rattle.refused.specs.Line.{Counted, FirstBad, RefusedField, RefusedLine, RefusedAt}
+use Rattle.refused.proofs.Lines.{line-refused-exactly}
+
+-- the row of 040.1: its form is the check, it must be filled, and it is 22 bytes wide
+parcel-form : (beside f : List ℕ) → hasForm (profile Parcel) 1 beside f ≡ isIdentcode f
+unfolding profile hasForm
+parcel-form beside f = refl
+
+parcel-filled : isRequired (profile Parcel) 1 ≡ true
+unfolding profile isRequired
+parcel-filled = refl
+
+parcel-width : (beside : List ℕ) → widthOf (profile Parcel) 1 beside ≡ 22
+unfolding profile widthOf widthInTable
+parcel-width beside = refl
+
+pub parcel-passes : (fs : List (List ℕ)) → LineOk profile Parcel fs → checkedIdentcode (fieldNo fs 1) ≡ Accepted
+parcel-passes [] g = let z : _≡_ {A = ℕ} 0 1 = cc in absurd (omega arith)
+parcel-passes (f ∷ fs) g =
+    accepted-is (checkedIdentcode f)
+    (sym (parcel-form (typeOf Parcel) f) ∙ g .fields .0 .formed (g .fields .0 .filled parcel-filled))
+
+module _ (due : Due) (s : List ℕ) (at : ℕ) where
+  abbrev told : Told
+  told = record { rules = profile; due = due }
+
+  pub failing-code : (code : List ℕ) (more : List (List ℕ)) → length s ≤ fileLimit → at ≤ length s →
+      Counted told (drop at s) Parcel (code ∷ more) → Filled code → length code ≤ 22 → (checkedIdentcode code ≡ Accepted → ⊥) →
+      lineAnswer told s at ≡ Refused (because FieldForm (at + 4))
+  failing-code code more short inside counted filled narrow fails =
+      line-refused-exactly told s at (because FieldForm (at + 4)) .1
+      (RefusedAt.line-refused (because FieldForm (at + 4)) short inside
+      (RefusedLine.bad-field Parcel [] code more FieldForm counted
+      (record {
+        before = tt;
+        here = RefusedField.formless (rw (parcel-width (typeOf Parcel)) narrow) filled
+            (parcel-form (typeOf Parcel) code ∙ not-accepted (checkedIdentcode code) fails);
+      })))
