@@ -182,7 +182,7 @@ static void find_field_cases(void)
     open_case("find_field", "an empty field");
     find_field(216, 2, PELIRANOPI_ACCEPTED, 224, "", 0);
     open_case("find_field", "the identcode");
-    find_field(178, 1, PELIRANOPI_ACCEPTED, 182, "1000000000000000000001", 0);
+    find_field(178, 1, PELIRANOPI_ACCEPTED, 182, "1000000000000000000007", 0);
     open_case("find_field", "field 0");
     find_field(216, 0, PELIRANOPI_NOT_THERE, 0, "", 0);
     open_case("find_field", "field 11 of 10");
@@ -253,7 +253,7 @@ static void write_purpose(const uint8_t *file, const char *countries, size_t lin
 
 static void write_purpose_cases(void)
 {
-    const char *purpose = "1000000000000000000001/B";
+    const char *purpose = "1000000000000000000007/B";
     open_case("write_purpose", "the cash line");
     write_purpose(example, "", 5, 64, PELIRANOPI_ACCEPTED, purpose, 0);
     open_case("write_purpose", "an output of 35 bytes");

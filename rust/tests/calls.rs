@@ -113,7 +113,7 @@ fn the_purpose_of_the_cash_line_is_written() {
     let (mut list, mut output) = ([7; 8], [b'.'; 40]);
     let written = write_purpose(EXAMPLE, b"", 5, &mut list, &mut output);
     assert_eq!(written, Ok(24));
-    assert_eq!(&output, b"1000000000000000000001/B................");
+    assert_eq!(&output, b"1000000000000000000007/B................");
     assert_eq!(list, [0, 74, 116, 178, 208, 216, 0, 0]);
 
     let (mut list, mut output) = ([7; 8], [b'.'; 40]);
@@ -277,7 +277,7 @@ fn short_lines() -> [Vec<u8>; 6] {
         line("010", 10, &header),
         line("020", 16, &sender),
         line("030", 40, &shipment),
-        line("040", 3, &[(1, "1000000000000000000001")]),
+        line("040", 3, &[(1, "1000000000000000000007")]),
         line("050", 1, &[(1, "x")]),
         line("060", 10, &[(1, "004")]),
     ]

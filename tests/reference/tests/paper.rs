@@ -11,7 +11,7 @@ const EXAMPLE: &str = "\
 010;0012345678;Muster;2021-02-23T13:37:50;2021-02-24T14:20:55;1005;5;;;;\r\n\
 020;A;;;;AT;1010;Wien;;Gasse;;1;1;a@b;;;\r\n\
 030;;;;;;;;;;;;;;;;B;;;;AT;1020;Wien;;Gasse;;2;;;;;;;;;;;;;;\r\n\
-040;1000000000000000000001;;\r\n\
+040;1000000000000000000007;;\r\n\
 050;10\r\n\
 060;006;;12.50;EUR;Muster;AT611904300234573201;ABCDATWW;;;\r\n";
 
@@ -72,7 +72,7 @@ fn the_example_has_its_purpose() {
     let (mut list, mut out) = ([7; 7], [9; 40]);
     let answer = purpose(EXAMPLE.as_bytes(), b"", 5, &mut list, &mut out);
     assert_eq!(answer, Ok(24));
-    assert_eq!(&out[..24], b"1000000000000000000001/B");
+    assert_eq!(&out[..24], b"1000000000000000000007/B");
     assert_eq!(out[24..], [9; 16]);
     assert_eq!(list[..6], STARTS);
     assert_eq!(list[6], 0);
@@ -297,7 +297,7 @@ fn refusals_of_files() {
         judged(with("050;10", &format!("050;10{}", ";".repeat(23)))),
         totals(6, 1, 1250)
     );
-    assert_eq!(judged(with("01;;\r", "01;\r")), no(5, 178));
+    assert_eq!(judged(with("07;;\r", "07;\r")), no(5, 178));
     assert_eq!(judged(with("WW;;;", "WW;;")), no(5, 216));
     assert_eq!(judged(with("WW;;;", "WW;;;;")), no(5, 216));
     // 6
@@ -318,9 +318,9 @@ fn refusals_of_files() {
     assert_eq!(judged(with("ABCDATWW", "")), no(9, 216));
     assert_eq!(judged(with("060;006;;12.50", "060;054;;12.50")), no(9, 216));
     // 10
-    let parcel = "040;1000000000000000000001;;\r\n";
+    let parcel = "040;1000000000000000000007;;\r\n";
     assert_eq!(judged(with(parcel, &parcel.repeat(2))), no(10, 212));
-    let far = EXAMPLE.to_string() + &EXAMPLE[116..].replace("0001;;", "0002;;") + &EXAMPLE[116..];
+    let far = EXAMPLE.to_string() + &EXAMPLE[116..].replace("0007;;", "0014;;") + &EXAMPLE[116..];
     assert_eq!(judged(&far), no(10, 276 + 160 + 66));
     // 11
     for (words, start) in STARTS.into_iter().enumerate() {
@@ -356,7 +356,7 @@ fn the_order_of_refusals() {
         judge(with("12.50", "").as_bytes(), b"", &mut [7; 5]),
         no(9, 216)
     );
-    let parcel = "040;1000000000000000000001;;\r\n";
+    let parcel = "040;1000000000000000000007;;\r\n";
     let twice = with(parcel, &parcel.repeat(2));
     assert_eq!(judge(twice.as_bytes(), b"", &mut [7; 4]), no(10, 212));
     // 11 before 12.
@@ -407,14 +407,14 @@ fn contacts_are_needed_for_the_lent_countries() {
 fn another_shipment(country: &str, identcode: &str) -> String {
     EXAMPLE[116..216]
         .replace(";;;;AT;1020", &format!(";;;;{country};1020"))
-        .replace("1000000000000000000001", identcode)
+        .replace("1000000000000000000007", identcode)
 }
 
 #[test]
 fn each_sender_answers_for_its_own_shipments() {
     let [_, _, file] = without_contacts();
     let sender = |contacts: &str| format!("020;C;;;;AT;1010;Wien;;Gasse;;1;{contacts};;;\r\n");
-    let german = another_shipment("DE", "1000000000000000000002");
+    let german = another_shipment("DE", "1000000000000000000014");
     // "place the start of the first 030 line that needs it": not the sender's first.
     let later = file.clone() + &german;
     assert_eq!(judged_under(b"DE", &later), no(19, file.len()));
@@ -544,9 +544,9 @@ fn every_source_of_the_purpose() {
     // Each source is set while those before it stay empty.
     let name = "N".repeat(40);
     let mut file = with(";;;;B;;;;AT", &format!(";;;;{name};;;;AT"));
-    let joined = format!("1000000000000000000001/{name}");
+    let joined = format!("1000000000000000000007/{name}");
     assert_eq!(of(&file, 5), text(&joined[..35]));
-    file = file.replace("0001;;\r\n", &format!("0001;;{}\r\n", "p".repeat(64)));
+    file = file.replace("0007;;\r\n", &format!("0007;;{}\r\n", "p".repeat(64)));
     assert_eq!(of(&file, 5), text(&"p".repeat(35)));
     file = file.replace(";;2;;;;;;;;;;;;;;\r", ";;2;;;;;;;;;;alt;;;;\r");
     assert_eq!(of(&file, 5), text("alt"));
@@ -557,15 +557,15 @@ fn every_source_of_the_purpose() {
     file = file.replace("ABCDATWW;;", "ABCDATWW; ;");
     assert_eq!(of(&file, 5), text(" "));
     // The shipment's first parcel, not its last; the nearest shipment, not the first.
-    let second = "040;1000000000000000000002;;second\r\n";
+    let second = "040;1000000000000000000014;;second\r\n";
     let two = with("050;10", &format!("{second}050;10"));
-    assert_eq!(of(&two, 6), text("1000000000000000000001/B"));
+    assert_eq!(of(&two, 6), text("1000000000000000000007/B"));
     let next = EXAMPLE[116..]
-        .replace("0001;;", "0003;;")
+        .replace("0007;;", "0021;;")
         .replace(";B;", ";C;");
     let both = EXAMPLE.to_string() + &next;
-    assert_eq!(of(&both, 9), text("1000000000000000000003/C"));
-    assert_eq!(of(&both, 5), text("1000000000000000000001/B"));
+    assert_eq!(of(&both, 9), text("1000000000000000000021/C"));
+    assert_eq!(of(&both, 5), text("1000000000000000000007/B"));
 }
 
 #[test]
@@ -634,7 +634,7 @@ fn refusals_of_the_writer() {
     assert_eq!(write(50, "1;", &[2], 0, 0), no(8, 1));
     assert_eq!(write(50, "1x\r", &[1, 3], 0, 0), no(8, 2));
     assert_eq!(write(50, "1x\u{7F}", &[1, 2, 3], 0, 0), no(8, 3));
-    let identcode = "1000000000000000000001";
+    let identcode = "1000000000000000000007";
     assert_eq!(write(40, identcode, &[22; 3], 0, 0), no(13, 0));
     assert_eq!(write(40, &identcode[1..], &[21; 3], 0, 0), no(8, 1));
     // A sender without phone and mail is written.
