@@ -19,9 +19,9 @@ extern "C" {
 
 /* The version of this interface. CONTRIBUTING.md says how it is counted. */
 #define PELIRANOPI_VERSION_MAJOR 0
-#define PELIRANOPI_VERSION_MINOR 2
+#define PELIRANOPI_VERSION_MINOR 3
 #define PELIRANOPI_VERSION_PATCH 0
-#define PELIRANOPI_VERSION "0.2.0"
+#define PELIRANOPI_VERSION "0.3.0"
 
 /* The refusals. README.md has the table with their places. Later versions may have more: an answer that is not 0 is a refusal, also
  * where its number is not among these. */
@@ -74,7 +74,8 @@ enum {
     PELIRANOPI_TRACKING_LEN = 15,    /* a tracking number */
     PELIRANOPI_LABEL_LEN = 28,       /* a label code */
     PELIRANOPI_IBAN_LEN_MIN = 15,    /* an IBAN at least */
-    PELIRANOPI_IBAN_LEN_MAX = 34     /* an IBAN at most */
+    PELIRANOPI_IBAN_LEN_MAX = 34,    /* an IBAN at most */
+    PELIRANOPI_IDENTCODE_LEN = 22    /* an identcode */
 };
 
 /* Judges a whole file: its lines, its 040 lines (parcels), and the cash to collect in cents.
@@ -131,6 +132,39 @@ uint32_t peliranopi_issue_number(const uint8_t *body, size_t body_len,
 
 /* Checks an IBAN. */
 uint32_t peliranopi_check_iban(const uint8_t *symbols, size_t symbols_len, size_t *place);
+
+/* Checks an identcode (22 digits): its length, its digits and its check digit. A 040 line needs one that passes in its field 1. */
+uint32_t peliranopi_check_identcode(const uint8_t *code, size_t code_len, size_t *place);
+
+/* One part of an identcode: where it starts in the code, and how many digits it has. */
+typedef struct {
+    size_t start;
+    size_t length;
+} peliranopi_part;
+
+/* The six parts of an identcode, in their order. */
+typedef struct {
+    peliranopi_part origin;      /* the country it comes from, or the partner: 2 digits */
+    peliranopi_part customer;    /* the customer's number: 5 digits */
+    peliranopi_part sequence;    /* the sequential number: 8 digits */
+    peliranopi_part product;     /* the code of product and process: 2 digits */
+    peliranopi_part destination; /* the post code it goes to, or 0 and the country's number: 4 digits */
+    peliranopi_part check;       /* the check digit */
+} peliranopi_identcode_parts;
+
+/* Checks an identcode as peliranopi_check_identcode does, and tells its parts.
+ * parts: accepted, where each part stands in the code; refused, every number is 0. */
+uint32_t peliranopi_read_identcode(const uint8_t *code, size_t code_len,
+                                   peliranopi_identcode_parts *parts, size_t *place);
+
+/* Issues the identcode that has this body: its parts without the check, joined (21 digits). The output has PELIRANOPI_IDENTCODE_LEN
+ * bytes or more, or it is refused.
+ * written: how many bytes, 22.
+ * output: accepted, the body and its check digit stand at its start, and every other byte is as it was; refused, all bytes are as they
+ * were. */
+uint32_t peliranopi_issue_identcode(const uint8_t *body, size_t body_len,
+                                    uint8_t *output, size_t output_len,
+                                    size_t *written, size_t *place);
 
 #ifdef __cplusplus
 }

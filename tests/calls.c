@@ -10,9 +10,9 @@
 
 #define NONSENSE 0x5A5A5A5Au
 
-/* The example has 276 bytes and these line starts, and so has the same without the sender's phone. */
+/* The example has 276 bytes and these line starts, and so has the same without the sender's phone, and with a wrong identcode. */
 static const uint32_t starts[6] = {0, 74, 116, 178, 208, 216};
-static uint8_t example[276], silent[276];
+static uint8_t example[276], silent[276], miskeyed[276];
 
 static const char *called, *with;
 static int cases;
@@ -134,12 +134,13 @@ static void judge_cases(const char *folder)
     fclose(rows);
 }
 
-/* Reads the example's line at an offset; a refused one has neither record, fields nor next. */
-static void read_line(size_t offset, uint32_t refusal, uint32_t record, size_t fields, size_t next, size_t place)
+/* Reads the line at an offset of the example, or of a file like it; a refused one has neither record, fields nor next. */
+static void read_line(const uint8_t *file, size_t offset,
+                      uint32_t refusal, uint32_t record, size_t fields, size_t next, size_t place)
 {
     uint32_t named = NONSENSE;
     size_t count = NONSENSE, following = NONSENSE, at = NONSENSE;
-    is("the answer", peliranopi_read_line(example, sizeof example, offset, &named, &count, &following, &at), refusal);
+    is("the answer", peliranopi_read_line(file, sizeof example, offset, &named, &count, &following, &at), refusal);
     is("the record", named, record);
     is("the fields", count, fields);
     is("the next line", following, next);
@@ -153,42 +154,48 @@ static void read_line_cases(void)
     static const size_t fields[6] = {10, 16, 40, 3, 1, 10};
     for (int line = 0; line < 6; line++) {
         open_case("read_line", "a line of the example");
-        read_line(starts[line], PELIRANOPI_ACCEPTED, records[line], fields[line], line < 5 ? starts[line + 1] : sizeof example, 0);
+        size_t next = line < 5 ? starts[line + 1] : sizeof example;
+        read_line(example, starts[line], PELIRANOPI_ACCEPTED, records[line], fields[line], next, 0);
     }
     open_case("read_line", "inside a line");
-    read_line(4, PELIRANOPI_UNKNOWN_RECORD, 0, 0, 0, 4);
+    read_line(example, 4, PELIRANOPI_UNKNOWN_RECORD, 0, 0, 0, 4);
     open_case("read_line", "the file's end");
-    read_line(sizeof example, PELIRANOPI_NO_LINE_END, 0, 0, 0, sizeof example);
+    read_line(example, sizeof example, PELIRANOPI_NO_LINE_END, 0, 0, 0, sizeof example);
     open_case("read_line", "past the file");
-    read_line(SIZE_MAX, PELIRANOPI_NO_LINE_END, 0, 0, 0, sizeof example);
+    read_line(example, SIZE_MAX, PELIRANOPI_NO_LINE_END, 0, 0, 0, sizeof example);
+    open_case("read_line", "an identcode with a wrong check digit");
+    read_line(miskeyed, 178, PELIRANOPI_FIELD_FORM, 0, 0, 0, 182);
 }
 
-/* Finds a field of the example. */
-static void find_field(size_t offset, size_t number, uint32_t refusal, size_t start, const char *field, size_t place)
+/* Finds a field of the example, or of a file like it. */
+static void find_field(const uint8_t *file, size_t offset, size_t number,
+                       uint32_t refusal, size_t start, const char *field, size_t place)
 {
     size_t found = NONSENSE, length = NONSENSE, at = NONSENSE;
-    is("the answer", peliranopi_find_field(example, sizeof example, offset, number, &found, &length, &at), refusal);
+    is("the answer", peliranopi_find_field(file, sizeof example, offset, number, &found, &length, &at), refusal);
     is("the start", found, start);
     is("the length", length, strlen(field));
     is("the place", at, place);
-    if (memcmp(example + found, field, length) != 0)
+    if (memcmp(file + found, field, length) != 0)
         fail("the field has other bytes");
 }
 
 static void find_field_cases(void)
 {
     open_case("find_field", "the cash amount");
-    find_field(216, 3, PELIRANOPI_ACCEPTED, 225, "12.50", 0);
+    find_field(example, 216, 3, PELIRANOPI_ACCEPTED, 225, "12.50", 0);
     open_case("find_field", "an empty field");
-    find_field(216, 2, PELIRANOPI_ACCEPTED, 224, "", 0);
+    find_field(example, 216, 2, PELIRANOPI_ACCEPTED, 224, "", 0);
     open_case("find_field", "the identcode");
-    find_field(178, 1, PELIRANOPI_ACCEPTED, 182, "1000000000000000000001", 0);
+    find_field(example, 178, 1, PELIRANOPI_ACCEPTED, 182, "1000000000000000000007", 0);
     open_case("find_field", "field 0");
-    find_field(216, 0, PELIRANOPI_NOT_THERE, 0, "", 0);
+    find_field(example, 216, 0, PELIRANOPI_NOT_THERE, 0, "", 0);
     open_case("find_field", "field 11 of 10");
-    find_field(216, 11, PELIRANOPI_NOT_THERE, 0, "", 0);
+    find_field(example, 216, 11, PELIRANOPI_NOT_THERE, 0, "", 0);
     open_case("find_field", "inside a line");
-    find_field(75, 1, PELIRANOPI_UNKNOWN_RECORD, 0, "", 75);
+    find_field(example, 75, 1, PELIRANOPI_UNKNOWN_RECORD, 0, "", 75);
+    open_case("find_field", "behind an identcode with a wrong check digit");
+    find_field(miskeyed, 178, 2, PELIRANOPI_FIELD_FORM, 0, "", 182);
 }
 
 /* Writes a line into an output of so many bytes, 128 at most. */
@@ -230,9 +237,15 @@ static void write_line_cases(void)
     write_line(PELIRANOPI_FEATURE, "10", product, 1, 128, 0, PELIRANOPI_FIELD_COUNT, "", 0);
     open_case("write_line", "a semicolon in field 1");
     write_line(PELIRANOPI_PRODUCT, "1;", product, 1, 128, 0, PELIRANOPI_FIELD_FORM, "", 1);
+    static const size_t parcel[3] = {22, 22, 22};
+    open_case("write_line", "an identcode");
+    write_line(PELIRANOPI_PARCEL, "8546379003275981863426", parcel, 3, 128, 7, PELIRANOPI_ACCEPTED,
+               "040;8546379003275981863426;;\r\n", 0);
+    open_case("write_line", "an identcode with a wrong check digit");
+    write_line(PELIRANOPI_PARCEL, "8546379003275981863427", parcel, 3, 128, 7, PELIRANOPI_FIELD_FORM, "", 1);
 }
 
-/* Writes the purpose of a line of the example, or of that without the sender's phone, into an output of so many bytes, 64 at most. */
+/* Writes the purpose of a line of the example, or of a file like it, into an output of so many bytes, 64 at most. */
 static void write_purpose(const uint8_t *file, const char *countries, size_t line, size_t length,
                           uint32_t refusal, const char *purpose, size_t place)
 {
@@ -253,7 +266,7 @@ static void write_purpose(const uint8_t *file, const char *countries, size_t lin
 
 static void write_purpose_cases(void)
 {
-    const char *purpose = "1000000000000000000001/B";
+    const char *purpose = "1000000000000000000007/B";
     open_case("write_purpose", "the cash line");
     write_purpose(example, "", 5, 64, PELIRANOPI_ACCEPTED, purpose, 0);
     open_case("write_purpose", "an output of 35 bytes");
@@ -272,6 +285,8 @@ static void write_purpose_cases(void)
     write_purpose(silent, "CHAT", 5, 64, PELIRANOPI_CONTACT_MISSING, "", 116);
     open_case("write_purpose", "half a country");
     write_purpose(silent, "CHA", 5, 64, PELIRANOPI_COUNTRIES_ODD, "", 0);
+    open_case("write_purpose", "an identcode with a wrong check digit");
+    write_purpose(miskeyed, "", 5, 64, PELIRANOPI_FIELD_FORM, "", 182);
 }
 
 static void check_number(const char *symbols, uint32_t refusal, uint32_t kind, size_t place)
@@ -305,6 +320,50 @@ static void check_iban(const char *symbols, uint32_t refusal, size_t place)
     is("the place", at, place);
 }
 
+static void check_identcode(const char *code, uint32_t refusal, size_t place)
+{
+    open_case("check_identcode", code);
+    size_t at = NONSENSE;
+    is("the answer", peliranopi_check_identcode((const uint8_t *)code, strlen(code), &at), refusal);
+    is("the place", at, place);
+}
+
+/* Reads an identcode, whose parts have a space between them where it is accepted; a refused one has none. */
+static void read_identcode(const char *code, uint32_t refusal, const char *due, size_t place)
+{
+    open_case("read_identcode", code);
+    peliranopi_identcode_parts parts;
+    memset(&parts, NONSENSE & 0xFF, sizeof parts);
+    size_t at = NONSENSE;
+    is("the answer", peliranopi_read_identcode((const uint8_t *)code, strlen(code), &parts, &at), refusal);
+    is("the place", at, place);
+    const peliranopi_part each[6] = {parts.origin, parts.customer, parts.sequence, parts.product, parts.destination, parts.check};
+    for (int part = 0; part < 6; part++) {
+        size_t length = strcspn(due, " "), start = 0;
+        for (int before = 0; before < part; before++)
+            start += each[before].length;
+        is("the start of a part", each[part].start, start);
+        is("the length of a part", each[part].length, length);
+        if (memcmp(code + start, due, length) != 0)
+            fail("a part has other digits");
+        due += due[length] == ' ' ? length + 1 : length;
+    }
+    is("what is left of the parts", strlen(due), 0);
+}
+
+/* Issues an identcode into an output of so many bytes, 32 at most. */
+static void issue_identcode(const char *body, size_t length, uint32_t refusal, const char *code, size_t place)
+{
+    open_case("issue_identcode", body);
+    uint8_t output[32];
+    memset(output, '.', sizeof output);
+    size_t written = NONSENSE, at = NONSENSE;
+    is("the answer", peliranopi_issue_identcode((const uint8_t *)body, strlen(body), output, length, &written, &at), refusal);
+    is("the bytes written", written, strlen(code));
+    is("the place", at, place);
+    output_is(output, sizeof output, code, 0);
+}
+
 /* One stored vector: what is asked, the symbols, and the answer in words. The answer of `C` comes from no call. */
 static void vector(char asked, const char *symbols, const char *due)
 {
@@ -312,7 +371,7 @@ static void vector(char asked, const char *symbols, const char *due)
     size_t place = 0;
     char number[64] = "";
     sscanf(due, "no %" SCNu32 " %zu", &refusal, &place);
-    if (asked == 'B' && refusal == PELIRANOPI_ACCEPTED)
+    if ((asked == 'B' || asked == 'J') && refusal == PELIRANOPI_ACCEPTED)
         snprintf(number, sizeof number, "%.*s", (int)strcspn(due, "."), due);
     uint32_t kind = strcmp(due, "tracking number") == 0 ? PELIRANOPI_TRACKING : strcmp(due, "label code") == 0 ? PELIRANOPI_LABEL : 0;
     if (asked == 'N')
@@ -321,6 +380,12 @@ static void vector(char asked, const char *symbols, const char *due)
         issue_number(symbols, 30, refusal, number, place);
     else if (asked == 'I')
         check_iban(symbols, refusal, place);
+    else if (asked == 'D')
+        check_identcode(symbols, refusal, place);
+    else if (asked == 'P')
+        read_identcode(symbols, refusal, refusal ? "" : due, place);
+    else if (asked == 'J')
+        issue_identcode(symbols, 30, refusal, number, place);
     else if (asked != 'C')
         fail("no such vector");
 }
@@ -342,6 +407,12 @@ static void vector_cases(const char *folder)
     issue_number("09980000020041", PELIRANOPI_TRACKING_LEN, PELIRANOPI_ACCEPTED, "09980000020041F", 0);
     issue_number("09980000020041", PELIRANOPI_TRACKING_LEN - 1, PELIRANOPI_OUTPUT_TOO_SHORT, "", 0);
     issue_number("000280009980000020037155056", PELIRANOPI_LABEL_LEN, PELIRANOPI_ACCEPTED, "0002800099800000200371550566", 0);
+    issue_identcode("100000000000000000000", PELIRANOPI_IDENTCODE_LEN, PELIRANOPI_ACCEPTED, "1000000000000000000007", 0);
+    issue_identcode("100000000000000000000", PELIRANOPI_IDENTCODE_LEN - 1, PELIRANOPI_OUTPUT_TOO_SHORT, "", 0);
+    issue_identcode("100000000000000000000", 0, PELIRANOPI_OUTPUT_TOO_SHORT, "", 0);
+    /* 16, then 17, then 13. */
+    issue_identcode("10000000000000000000", 0, PELIRANOPI_WRONG_LENGTH, "", 0);
+    issue_identcode("10000000000000000000O", 0, PELIRANOPI_WRONG_SYMBOL, "", 20);
     /* Of the lengths at the limits: the first symbol is a digit, which is told where the length holds. */
     const char *digits = "00000000000000000000000000000000000";
     const char *end = digits + strlen(digits);
@@ -363,6 +434,9 @@ int main(int argc, char **argv)
     /* House 11 and no phone, in place of house 1 and phone 1. */
     memcpy(silent, example, sizeof example);
     memcpy(silent + 104, "11;;a@b", 7);
+    /* The check digit 1 in place of 7. */
+    memcpy(miskeyed, example, sizeof example);
+    miskeyed[203] = '1';
     judge_cases(argv[1]);
     read_line_cases();
     find_field_cases();

@@ -1,6 +1,6 @@
 #!/usr/bin/env python3
-"""Writes the stored files of crates/test_cases with the answers that document 01 and request 1 of document 02 give them, worked out from
-how each file is made: python3 tests/cases.py [FOLDER] (default crates/test_cases)"""
+"""Writes the stored files of crates/test_cases with the answers that document 01 and the requests 1 and 2 of document 02 give them, worked
+out from how each file is made: python3 tests/cases.py [FOLDER] (default crates/test_cases)"""
 import os
 import sys
 
@@ -23,8 +23,19 @@ def shipment(**put):
     return filled("030", 40, {16: "B", 20: "AT", 21: "1020", 22: "Wien", 24: "Gasse", 26: "2"}, put)
 
 
-def parcel(code, **put):
-    return filled("040", 3, {1: f"{code:022d}"}, put)
+def check_digit(body, weights=(3, 1)):
+    """What makes the sum of the weighted digits a multiple of 10 (000, 4.1.6)."""
+    return str(-sum(int(digit) * weights[place % 2] for place, digit in enumerate(body)) % 10)
+
+
+def identcode(number):
+    """The number as 21 digits, and their check digit."""
+    body = f"{number:021d}"
+    return body + check_digit(body)
+
+
+def parcel(number, **put):
+    return filled("040", 3, {1: identcode(number)}, put)
 
 
 def product(**put):
@@ -67,7 +78,7 @@ def place(lines, i, n=None):
     return at + sum(len(p) + 1 for p in [lines[i][0].encode()] + lines[i][1:n])
 
 
-EXAMPLE = [header(), sender(), shipment(), parcel(10**21 + 1), product(), feature()]
+EXAMPLE = [header(), sender(), shipment(), parcel(10**20), product(), feature()]
 NO_CONTACTS = sender(f12="", f13="")
 
 
@@ -211,6 +222,120 @@ def odd_cases():
     yield "odd_over_limit", refused(b" " * 65536, 1, 65535, countries="A")
 
 
+def swapped(code, one, other):
+    """The code with the digits at two places, counted from 1, exchanged."""
+    symbols = list(code)
+    symbols[one - 1], symbols[other - 1] = symbols[other - 1], symbols[one - 1]
+    return "".join(symbols)
+
+
+MANUAL = "8546379003275981863426"
+CLEAR_TEXT = "10 12345 12345678 12 1234 9".replace(" ", "")
+
+
+def identcode_cases():
+    """040.1 must pass: 8 at the field where it does not."""
+
+    def holds(code):
+        return accepted(with_line(3, parcel(0, f1=code)), 4096, 1250)
+
+    def fails(code, number=8):
+        return field_case(3, parcel(0, f1=code), number, 1)
+
+    right = identcode(10**20)
+    for digit in "0123456789":
+        if digit != right[-1]:
+            yield f"code_check_{digit}", fails(right[:-1] + digit)
+    yield "code_of_manual", holds(MANUAL)
+    yield "code_of_clear_text", holds(CLEAR_TEXT)
+    yield "code_of_manual_check_off", fails(MANUAL[:-1] + "7")
+    yield "code_of_clear_text_check_off", fails(CLEAR_TEXT[:-1] + "0")
+    # Methods that are not the manual's: weights 1, 3; the remainder itself.
+    yield "code_weights_1_3", fails(CLEAR_TEXT[:-1] + check_digit(CLEAR_TEXT[:-1], (1, 3)))
+    yield "code_remainder_itself", fails(MANUAL[:-1] + "4")
+    # The products 3 and 7 leave the remainder 0: the check digit is 0, and neither 1 nor 10.
+    body = "17" + "0" * 19
+    yield "code_remainder_0", holds(body + "0")
+    yield "code_remainder_0_check_1", fails(body + "1")
+    yield "code_remainder_0_check_10", fails(body + "10", 6)
+    # No rule on a leading zero, nor on the parts.
+    yield "code_zeros", holds("0" * 22)
+    yield "code_nines", holds("9" * 21 + "3")
+    # Lengths and symbols.
+    yield "code_without_check", fails(right[:-1])
+    yield "code_without_first", fails(MANUAL[1:])
+    yield "code_of_one_digit", fails("0")
+    yield "code_empty", fails("", 7)
+    yield "code_of_spaces", fails(" " * 22)
+    yield "code_in_groups", fails("10 12345 12345678 12 1234 9", 6)
+    for name, symbol in (("letter", "O"), ("slash", "/"), ("colon", ":"), ("space", " "), ("upper", bytes([176]).decode("latin-1"))):
+        for where, place in (("first", 0), ("middle", 11), ("last", 21)):
+            yield f"code_{name}_{where}", fails(right[:place] + symbol + right[place + 1 :])
+    # One digit keyed wrongly, at a place of weight 3 and at one of weight 1.
+    yield "code_slip_at_1", fails("2" + MANUAL[1:])
+    yield "code_slip_at_2", fails(MANUAL[:1] + "0" + MANUAL[2:])
+    # Neighbours exchanged pass where they differ by 5; with one digit between them they always do.
+    five = identcode(10**20 + 16 * 10**10)
+    four = identcode(10**20 + 15 * 10**10)
+    yield "code_16", holds(five)
+    yield "code_16_swapped", holds(swapped(five, 10, 11))
+    yield "code_15", holds(four)
+    yield "code_15_swapped", fails(swapped(four, 10, 11))
+    yield "code_jump", holds(swapped(MANUAL, 3, 5))
+    # The same of the last digit of the body and the check digit: 3 and 8, then 0 and 7.
+    yield "code_38_at_end", holds(identcode(10**20 + 3))
+    yield "code_83_at_end", holds(swapped(identcode(10**20 + 3), 21, 22))
+    yield "code_70_at_end", fails(swapped(right, 21, 22))
+
+
+def identcode_order_cases():
+    """8 of 040.1 among the others, and on which line."""
+    e, wrong = EXAMPLE, parcel(0, f1="1" + "0" * 21)
+    shipments = [shipment(), parcel(1), parcel(2), product(), feature("004")]
+    shipments += [shipment(), parcel(3), parcel(4), parcel(5), product()] + [shipment(), parcel(6), parcel(7), product()]
+    lines = e[:2] + shipments
+    parcels = [i for i, l in enumerate(lines) if l[0] == "040"]
+    yield "codes_of_three_shipments", accepted(lines, 4096, 0)
+    for name, i in (("first", parcels[0]), ("middle", parcels[3]), ("last", parcels[-1])):
+        off = lines[:i] + [wrong] + lines[i + 1 :]
+        yield f"code_wrong_on_{name}_line", refused(off, 8, place(off, i, 1))
+    off = lines[: parcels[1]] + [wrong] + lines[parcels[1] + 1 : parcels[-1]] + [wrong] + lines[parcels[-1] + 1 :]
+    yield "code_wrong_on_two_lines", refused(off, 8, place(off, parcels[1], 1))
+    # On its line: behind 2, 4, 5, 6 and 7; in front of the next field, of 10 and of 11.
+    cut = render(e[:3] + [wrong])[:-2]
+    yield "code_wrong_no_line_end", refused(cut, 2, len(cut))
+    off = e[:5] + [wrong]
+    yield "code_wrong_out_of_order", refused(off, 4, place(off, 5))
+    off = with_line(3, wrong[:-1])
+    yield "code_wrong_field_less", refused(off, 5, place(off, 3))
+    off = with_line(3, wrong + [b""] * 22)
+    yield "code_wrong_field_more", refused(off, 5, place(off, 3))
+    yield "code_wrong_and_wide", field_case(3, parcel(0, f1="1" + "0" * 22), 6, 1)
+    yield "code_wrong_next_wide", field_case(3, parcel(0, f1="1" + "0" * 21, f2="x" * 65), 8, 1)
+    yield "code_right_next_wide", field_case(3, parcel(0, f2="x" * 65), 6, 2)
+    off = e[:3] + [wrong, wrong] + e[4:]
+    yield "code_wrong_twice", refused(off, 8, place(off, 3, 1))
+    off = e[:4] + [wrong] + e[4:]
+    yield "code_right_then_wrong", refused(off, 8, place(off, 4, 1))
+    off = e[:3] + [parcel(1), parcel(1), wrong] + e[4:]
+    yield "code_wrong_behind_repeat", refused(off, 10, place(off, 4, 1))
+    off = with_line(3, wrong)
+    yield "code_wrong_list_full", refused(off, 8, place(off, 3, 1), 3)
+    yield "code_wrong_list_full_before", refused(off, 11, place(off, 2), 2)
+    yield "code_wrong_file_ends", refused(off[:4], 8, place(off, 3, 1))
+    # Lines in file order, beside the lent countries.
+    late = e[:1] + [NO_CONTACTS, shipment(f20="DE"), wrong, product()] + shipped("AT", 2)
+    yield "code_wrong_before_no_contacts", refused(late, 8, place(late, 3, 1), countries="AT")
+    early = e[:1] + [NO_CONTACTS, shipment(), wrong, product()]
+    yield "code_wrong_behind_no_contacts", refused(early, 19, place(early, 2), countries="AT")
+    yield "code_wrong_odd", refused(off, 20, 0, countries="ATD")
+    long = render(off) + b" " * (65536 - len(render(off)))
+    yield "code_wrong_over_limit", refused(long, 1, 65535)
+    early = [header(f6="4")] + off[1:]
+    yield "code_wrong_earlier_fault", refused(early, 8, place(early, 0, 6))
+    yield "code_wrong_later_fault", refused(off[:5] + [feature("005")], 8, place(off, 3, 1))
+
+
 def cases():
     e = EXAMPLE
     yield "example", accepted(e, 4096, 1250)
@@ -325,6 +450,9 @@ def cases():
     # slips: a refused line is not skipped
     lines = e[:2] + [shipment(f16="x" * 41)] + e[3:]
     yield "overlong_shipment", refused(lines, 6, place(lines, 2, 16))
+    # the identcode's own check
+    yield from identcode_cases()
+    yield from identcode_order_cases()
     # 19, 20
     yield from contact_cases()
     yield from contact_order_cases()

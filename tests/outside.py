@@ -1,4 +1,4 @@
-"""Holds numbers and IBANs against stdnum: /usr/bin/python3 tests/outside.py COUNT SEED PROGRAM..., where the program answers
+"""Holds numbers, IBANs and identcodes against stdnum: /usr/bin/python3 tests/outside.py COUNT SEED PROGRAM..., where the program answers
 requests as tests/compare/src/bin/numbers.rs does. COUNT requests of each kind are made, whole and damaged.
 
 stdnum knows the check characters, not our profile of them (document 01). So:
@@ -8,7 +8,9 @@ stdnum knows the check characters, not our profile of them (document 01). So:
 - stdnum.iban knows countries and their lengths, which the profile leaves out. It is compared on IBANs in their country's structure;
   out of it only MOD 97-10 is compared.
 - stdnum takes check digits 00, 01 and 99 where the remainder is 1. The profile bars them: the library must answer 18.
-- stdnum.iban takes spaces and small letters. The library must refuse what stdnum takes there, by 17 or by 16."""
+- stdnum.iban takes spaces and small letters. The library must refuse what stdnum takes there, by 17 or by 16.
+- stdnum knows no identcodes, but the check digit of EAN numbers: stdnum.ean weighs with 3, 1, 3, 1 from the right. Over 21 digits that
+  is the same as from the left (document 000, 4.1.6), since 21 is odd; so it is the same check digit, by an implementation of others."""
 import collections
 import random
 import re
@@ -16,11 +18,12 @@ import string
 import subprocess
 import sys
 
+from stdnum import ean
 from stdnum import iban as outside_iban
 from stdnum import numdb
 from stdnum.iso7064 import mod_37_36, mod_97_10
 
-from vectors import SYMBOLS, first_wrong, number_classes
+from vectors import SYMBOLS, first_wrong, not_digits, number_classes
 
 LETTERS = string.ascii_uppercase
 DIGITS = string.digits
@@ -55,6 +58,17 @@ def expected_iban(text):
         return f"no 17 {wrong}"
     holds = mod_97_10.checksum(text[4:] + text[:4]) == 1
     return "iban" if holds and text[2:4] not in BARRED else "no 18 2"
+
+
+def expected_identcode(code):
+    refused = not_digits(code, 22)
+    if refused:
+        return refused
+    return "identcode" if ean.calc_check_digit(code[:21]) == code[21] else "no 18 21"
+
+
+def expected_identcode_issue(body):
+    return not_digits(body, 21) or body + ean.calc_check_digit(body)
 
 
 def expected_national(text):
@@ -119,6 +133,17 @@ def number(rng, label):
 
 def body(rng):
     whole = number_body(rng, rng.random() < 0.5)
+    return whole if rng.random() < 0.8 else misshaped(rng, whole)
+
+
+def identcode(rng):
+    whole = drawn(rng, DIGITS, 21)
+    whole += ean.calc_check_digit(whole)
+    return damaged(rng, whole, lambda text: text[:-1] + rng.choice(DIGITS))
+
+
+def identcode_body(rng):
+    whole = drawn(rng, DIGITS, 21)
     return whole if rng.random() < 0.8 else misshaped(rng, whole)
 
 
@@ -191,6 +216,8 @@ def kinds(count, rng, known):
         ("numbers to issue", "issue", lambda: body(rng), expected_issue),
         ("IBANs by MOD 97-10", "iban", lambda: random_iban(rng), expected_iban),
         ("IBANs by stdnum.iban", "iban", lambda: national_iban(rng, known), expected_national),
+        ("identcodes by stdnum.ean", "identcode", lambda: identcode(rng), expected_identcode),
+        ("identcodes to issue", "issue-identcode", lambda: identcode_body(rng), expected_identcode_issue),
     )
     for name, call, draw, expected in plan:
         texts = [draw() for _ in range(count)]

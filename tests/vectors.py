@@ -1,6 +1,6 @@
 #!/usr/bin/env python3
-"""Answers the vectors of crates/test_vectors/stdin by an implementation of its own, written from ISO/IEC 7064 and document 01, for
-comparison with what the proved program prints: python3 tests/vectors.py < crates/test_vectors/stdin"""
+"""Answers the vectors of crates/test_vectors/stdin by an implementation of its own, written from ISO/IEC 7064, document 01 and section 4.1
+of document 000, for comparison with what the proved program prints: python3 tests/vectors.py < crates/test_vectors/stdin"""
 import string
 import sys
 
@@ -66,7 +66,43 @@ def iban(text):
     return "IBAN"
 
 
-ANSWERS = {"N": number, "B": issued, "C": check_character, "I": iban}
+# The widths of an identcode's parts: origin, customer, sequence, product, destination, check.
+WIDTHS = (2, 5, 8, 2, 4, 1)
+
+
+def check_digit(body):
+    """Each digit at an odd place, counted from 1, counts three times; 10 minus the remainder by 10, and 0 where that is 0."""
+    weighted = 3 * sum(map(int, body[0::2])) + sum(map(int, body[1::2]))
+    return str((10 - weighted % 10) % 10)
+
+
+def not_digits(text, length):
+    """What refuses a text that is not so many digits; none where it is."""
+    if len(text) != length:
+        return "no 16 0"
+    wrong = first_wrong(text, [string.digits] * length)
+    return None if wrong is None else f"no 17 {wrong}"
+
+
+def identcode(text):
+    refused = not_digits(text, 22)
+    if refused:
+        return refused
+    return "identcode" if text[21] == check_digit(text[:21]) else "no 18 21"
+
+
+def parts(text):
+    answer = identcode(text)
+    if answer != "identcode":
+        return answer
+    return " ".join(text[sum(WIDTHS[:part]) : sum(WIDTHS[: part + 1])] for part in range(6))
+
+
+def issued_identcode(body):
+    return not_digits(body, 21) or (body + check_digit(body)).ljust(30, ".")
+
+
+ANSWERS = {"N": number, "B": issued, "C": check_character, "I": iban, "D": identcode, "P": parts, "J": issued_identcode}
 
 if __name__ == "__main__":
     for line in sys.stdin.read().splitlines():

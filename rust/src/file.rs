@@ -187,7 +187,7 @@ pub fn read_line(file: &[u8], offset: usize) -> Result<Line, Refusal> {
 /// ```
 /// let file = include_bytes!("../../examples/preadvice.csv");
 /// let identcode = peliranopi::find_field(file, 178, 1)?;
-/// assert_eq!(&file[identcode], b"1000000000000000000001");
+/// assert_eq!(&file[identcode], b"1000000000000000000007");
 /// # Ok::<(), peliranopi::Refusal>(())
 /// ```
 pub fn find_field(file: &[u8], offset: usize, number: usize) -> Result<Range<usize>, Refusal> {
@@ -263,7 +263,7 @@ pub fn write_line(
 /// let file = include_bytes!("../../examples/preadvice.csv");
 /// let (mut list, mut output) = ([0; 8], [0; 35]);
 /// let written = peliranopi::write_purpose(file, b"", 5, &mut list, &mut output)?;
-/// assert_eq!(&output[..written], b"1000000000000000000001/B");
+/// assert_eq!(&output[..written], b"1000000000000000000007/B");
 /// # Ok::<(), peliranopi::Refusal>(())
 /// ```
 pub fn write_purpose(

@@ -1,6 +1,6 @@
 //! The dispatch core of a carrier desk: judges, reads and writes Austrian Post pre-advice flat
-//! files (version 5), works out payment purposes, checks and issues DPD parcel numbers and checks
-//! IBANs.
+//! files (version 5), works out payment purposes, checks and issues identcodes and DPD parcel
+//! numbers, and checks IBANs.
 //!
 //! These are safe functions over the static library of Peliranopi, which is for x86-64 and whose
 //! code is proved. Each takes every input, ends, and answers or refuses; a refusal has its number in
@@ -38,6 +38,7 @@
 
 mod fields;
 mod file;
+mod identcode;
 mod limits;
 mod named;
 mod numbers;
@@ -45,8 +46,10 @@ mod refusal;
 
 pub use fields::{find_fields, Fields};
 pub use file::{find_field, judge, read_line, write_line, write_purpose, Line, Record, Totals};
+pub use identcode::{check_identcode, issue_identcode, read_identcode, IdentcodeParts};
 pub use limits::{
-    FILE_LEN_MAX, IBAN_LEN_MAX, IBAN_LEN_MIN, LABEL_LEN, LINES_MAX, PURPOSE_LEN_MAX, TRACKING_LEN,
+    FILE_LEN_MAX, IBAN_LEN_MAX, IBAN_LEN_MIN, IDENTCODE_LEN, LABEL_LEN, LINES_MAX, PURPOSE_LEN_MAX,
+    TRACKING_LEN,
 };
 pub use named::UnknownNumber;
 pub use numbers::{check_iban, check_number, issue_number, Kind};

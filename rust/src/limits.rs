@@ -24,3 +24,6 @@ pub const IBAN_LEN_MIN: usize = 15;
 
 /// The most symbols that an IBAN has.
 pub const IBAN_LEN_MAX: usize = 34;
+
+/// The digits of an identcode: a body of 21, and the check digit.
+pub const IDENTCODE_LEN: usize = 22;

@@ -121,7 +121,8 @@ impl TryFrom<u32> for Reason {
 pub struct Refusal {
     /// Why the call refuses.
     pub why: Reason,
-    /// Where: a byte of the file, of the number or of the IBAN; when writing, the field's number.
+    /// Where: a byte of the file, of the number, of the IBAN or of the identcode; when writing, the
+    /// field's number.
     pub place: usize,
 }
 

@@ -113,7 +113,7 @@ fn the_purpose_of_the_cash_line_is_written() {
     let (mut list, mut output) = ([7; 8], [b'.'; 40]);
     let written = write_purpose(EXAMPLE, b"", 5, &mut list, &mut output);
     assert_eq!(written, Ok(24));
-    assert_eq!(&output, b"1000000000000000000001/B................");
+    assert_eq!(&output, b"1000000000000000000007/B................");
     assert_eq!(list, [0, 74, 116, 178, 208, 216, 0, 0]);
 
     let (mut list, mut output) = ([7; 8], [b'.'; 40]);
@@ -165,6 +165,64 @@ fn contacts_are_needed_for_the_lent_countries() {
         assert_eq!(list == [0; 8], due.is_some());
     }
     assert_eq!(judge(EXAMPLE, b"AT", &mut [0; 6]), judged(EXAMPLE));
+}
+
+#[test]
+fn an_identcode_with_a_wrong_check_digit_is_refused_wherever_it_stands() {
+    let code = b"1000000000000000000001";
+    assert_eq!(refusal(check_identcode(code)), (18, 21));
+    assert_eq!(refusal(read_identcode(code)), (18, 21));
+
+    let file = with("1000000000000000000007", "1000000000000000000001");
+    let (mut list, mut output) = ([7; 8], [b'.'; 40]);
+    assert_eq!(refusal(judge(&file, b"", &mut list)), (8, 182));
+    assert_eq!(list, [0; 8]);
+    list = [7; 8];
+    let written = write_purpose(&file, b"", 5, &mut list, &mut output);
+    assert_eq!(refusal(written), (8, 182));
+    assert_eq!((list, output), ([0; 8], [b'.'; 40]));
+    assert_eq!(refusal(read_line(&file, 178)), (8, 182));
+    assert_eq!(refusal(find_field(&file, 178, 1)), (8, 182));
+    let written = write_line(40, code, &[22; 3], &mut output, 0);
+    assert_eq!(refusal(written), (8, 1));
+    assert_eq!(output, [b'.'; 40]);
+}
+
+#[test]
+fn the_identcode_of_the_manual_has_its_parts() {
+    let code = b"1012345123456781212349";
+    assert_eq!(check_identcode(code), Ok(()));
+    let parts = IdentcodeParts {
+        origin: 0..2,
+        customer: 2..7,
+        sequence: 7..15,
+        product: 15..17,
+        destination: 17..21,
+        check: 21..22,
+    };
+    assert_eq!(read_identcode(code), Ok(parts));
+    assert_eq!(refusal(read_identcode(&code[1..])), (16, 0));
+    assert_eq!(refusal(read_identcode(b"1012345123456781212E49")), (17, 19));
+}
+
+#[test]
+fn an_identcode_is_issued_and_nothing_else_is_written() {
+    let body = b"854637900327598186342";
+    let mut output = [b'.'; 30];
+    assert_eq!(issue_identcode(body, &mut output), Ok(22));
+    assert_eq!(&output, b"8546379003275981863426........");
+    assert_eq!(check_identcode(&output[..22]), Ok(()));
+
+    output = [b'.'; 30];
+    let answer = issue_identcode(&body[1..], &mut output);
+    assert_eq!(refusal(answer), (16, 0));
+    let answer = issue_identcode(b"85463790032759818634 ", &mut output);
+    assert_eq!(refusal(answer), (17, 20));
+    for room in 0..IDENTCODE_LEN {
+        let answer = issue_identcode(body, &mut output[..room]);
+        assert_eq!(refusal(answer), (13, 0));
+    }
+    assert_eq!(output, [b'.'; 30]);
 }
 
 /// A refusal of each number, with its place.
@@ -254,6 +312,12 @@ fn the_calls_have_these_limits() {
         let fits = (IBAN_LEN_MIN..=IBAN_LEN_MAX).contains(&length);
         let due = if fits { (17, 0) } else { (16, 0) };
         assert_eq!(refusal(check_iban(&vec![b'?'; length])), due);
+        let due = if length == IDENTCODE_LEN {
+            (17, 0)
+        } else {
+            (16, 0)
+        };
+        assert_eq!(refusal(check_identcode(&vec![b'?'; length])), due);
     }
 }
 
@@ -277,7 +341,7 @@ fn short_lines() -> [Vec<u8>; 6] {
         line("010", 10, &header),
         line("020", 16, &sender),
         line("030", 40, &shipment),
-        line("040", 3, &[(1, "1000000000000000000001")]),
+        line("040", 3, &[(1, "1000000000000000000007")]),
         line("050", 1, &[(1, "x")]),
         line("060", 10, &[(1, "004")]),
     ]

@@ -53,6 +53,24 @@ fn answer(request: &str) -> String {
             said(written, |_| String::from_utf8_lossy(&output).into_owned())
         }
         "I" => said(check_iban(symbols), |()| "IBAN".to_string()),
+        "D" => said(check_identcode(symbols), |()| "identcode".to_string()),
+        "P" => said(read_identcode(symbols), |parts| {
+            let parts = [
+                parts.origin,
+                parts.customer,
+                parts.sequence,
+                parts.product,
+                parts.destination,
+                parts.check,
+            ];
+            let text = String::from_utf8_lossy(symbols);
+            parts.map(|part| &text[part]).join(" ")
+        }),
+        "J" => {
+            let mut output = *b"..............................";
+            let written = issue_identcode(symbols, &mut output);
+            said(written, |_| String::from_utf8_lossy(&output).into_owned())
+        }
         asked => panic!("no call answers {asked}"),
     }
 }

@@ -1,5 +1,6 @@
 //! What stands in more than one place, held together: the refusals, the other constants of the C
-//! header, its functions and the version. A test fails with the name of the place that lacks a row.
+//! header, its functions and structs, and the version. A test fails with the name of the place that
+//! lacks a row.
 
 use std::fmt::Debug;
 
@@ -10,6 +11,7 @@ const CHANGELOG: &str = include_str!("../../CHANGELOG.md");
 const HEADER: &str = include_str!("../../c/peliranopi.h");
 const PROVED: &str = include_str!("../../crates/refusal/src/lib.rt");
 const CRATE: &str = include_str!("../src/refusal.rs");
+const IDENTCODE: &str = include_str!("../src/identcode.rs");
 const SYS: &str = include_str!("../sys/src/lib.rs");
 const SYS_MANIFEST: &str = include_str!("../sys/Cargo.toml");
 
@@ -196,6 +198,7 @@ fn the_c_header_has_the_records_the_kinds_and_the_limits() {
         ("LABEL_LEN", LABEL_LEN),
         ("IBAN_LEN_MIN", IBAN_LEN_MIN),
         ("IBAN_LEN_MAX", IBAN_LEN_MAX),
+        ("IDENTCODE_LEN", IDENTCODE_LEN),
     ];
     let limits = limits.map(|(name, limit)| (name.to_string(), limit));
     hold("c/peliranopi.h", &numbers(3), &limits);
@@ -237,7 +240,10 @@ fn rust_type(kind: &str) -> String {
             None => format!("*mut {}", rust_type(kind)),
         },
         None if kind == "size_t" => "usize".to_string(),
-        None => kind.replace("uint", "u").replace("_t", ""),
+        None => match kind.strip_prefix("uint") {
+            Some(bits) => format!("u{}", bits.trim_end_matches("_t")),
+            None => kind.to_string(), // a struct of the header, under its own name
+        },
     }
 }
 
@@ -261,6 +267,73 @@ fn the_declarations_for_rust_are_those_of_the_c_header() {
     let header = functions_of_header();
     assert!(!header.is_empty(), "the header has functions");
     hold("rust/sys/src/lib.rs", &functions_of_sys(), &header);
+}
+
+/// A struct, and its fields with their types as Rust has them.
+type Struct = (String, Vec<(String, String)>);
+
+/// The structs of the header.
+fn structs_of_header() -> Vec<Struct> {
+    let parts = HEADER.split("typedef struct {").skip(1);
+    let structs = parts.map(|part| {
+        let (fields, rest) = part.split_once("} ").unwrap();
+        let fields = fields.lines().filter_map(|line| {
+            let (kind, name) = line.split(';').next()?.trim().split_once(' ')?;
+            Some((name.to_string(), rust_type(kind)))
+        });
+        let name = rest.split(';').next().unwrap();
+        (name.to_string(), fields.collect())
+    });
+    structs.collect()
+}
+
+/// The fields of a struct of Rust: what stands between its braces.
+fn fields_of(text: &str) -> Vec<(String, String)> {
+    let fields = text.lines().filter_map(|line| {
+        let field = line.trim().strip_prefix("pub ")?.strip_suffix(',')?;
+        let (name, kind) = field.split_once(": ")?;
+        Some((name.to_string(), kind.to_string()))
+    });
+    fields.collect()
+}
+
+/// The structs that peliranopi-sys declares, each laid out as C does.
+fn structs_of_sys() -> Vec<Struct> {
+    let parts = SYS.split("#[repr(C)]\n").skip(1);
+    let structs = parts.map(|part| {
+        let (_, part) = part.split_once("pub struct ").unwrap();
+        let (name, rest) = part.split_once(" {").unwrap();
+        (name.to_string(), fields_of(rest.split('}').next().unwrap()))
+    });
+    structs.collect()
+}
+
+#[test]
+fn the_structs_for_rust_are_those_of_the_c_header() {
+    let header = structs_of_header();
+    let names: Vec<&str> = header.iter().map(|(name, _)| name.as_str()).collect();
+    assert_eq!(names, ["peliranopi_part", "peliranopi_identcode_parts"]);
+    hold("rust/sys/src/lib.rs", &structs_of_sys(), &header);
+    assert_eq!(
+        SYS.matches("pub struct ").count(),
+        names.len(),
+        "a struct of peliranopi-sys that is not laid out as C does"
+    );
+}
+
+/// Start and length of one part of an identcode are a range for Rust.
+#[test]
+fn the_parts_of_an_identcode_are_those_of_the_c_header() {
+    let parts = between(IDENTCODE, "pub struct IdentcodeParts {", "\n}");
+    let due: Vec<(String, String)> = structs_of_header()
+        .swap_remove(1)
+        .1
+        .into_iter()
+        .map(|(name, kind)| (name, kind.replace("peliranopi_part", "Range<usize>")))
+        .collect();
+    hold("rust/src/identcode.rs", &fields_of(parts), &due);
+    let numbers = size_of::<sys::peliranopi_identcode_parts>() / size_of::<usize>();
+    assert_eq!(numbers, 12, "two numbers for each of six parts");
 }
 
 #[test]

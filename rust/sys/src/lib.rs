@@ -1,5 +1,5 @@
-//! The calls of Peliranopi's static library as they are: the functions of c/peliranopi.h, with its
-//! names and in its order. The crate `peliranopi` has safe functions over them, and names for the
+//! The calls of Peliranopi's static library as they are: the functions and structs of c/peliranopi.h,
+//! with its names and in its order. The crate `peliranopi` has safe functions over them, and names for the
 //! numbers.
 //!
 //! Each answers 0 where it accepts, else a refusal's number, and sets every number behind a pointer.
@@ -22,6 +22,36 @@
 
 #![no_std]
 #![deny(missing_docs)]
+// The names are those of the header.
+#![allow(non_camel_case_types)]
+
+/// One part of an identcode: where it starts in the code, and how many digits it has.
+#[repr(C)]
+#[derive(Clone, Copy, Debug, Default, PartialEq, Eq, Hash)]
+pub struct peliranopi_part {
+    /// Where it starts.
+    pub start: usize,
+    /// How many digits it has.
+    pub length: usize,
+}
+
+/// The six parts of an identcode, in their order.
+#[repr(C)]
+#[derive(Clone, Copy, Debug, Default, PartialEq, Eq, Hash)]
+pub struct peliranopi_identcode_parts {
+    /// The country it comes from, or the partner: 2 digits.
+    pub origin: peliranopi_part,
+    /// The customer's number: 5 digits.
+    pub customer: peliranopi_part,
+    /// The sequential number: 8 digits.
+    pub sequence: peliranopi_part,
+    /// The code of product and process: 2 digits.
+    pub product: peliranopi_part,
+    /// The post code it goes to, or 0 and the country's number: 4 digits.
+    pub destination: peliranopi_part,
+    /// The check digit.
+    pub check: peliranopi_part,
+}
 
 extern "C" {
     /// Judges a whole file.
@@ -109,4 +139,25 @@ extern "C" {
 
     /// Checks an IBAN.
     pub fn peliranopi_check_iban(symbols: *const u8, symbols_len: usize, place: *mut usize) -> u32;
+
+    /// Checks an identcode.
+    pub fn peliranopi_check_identcode(code: *const u8, code_len: usize, place: *mut usize) -> u32;
+
+    /// Checks an identcode and tells its parts.
+    pub fn peliranopi_read_identcode(
+        code: *const u8,
+        code_len: usize,
+        parts: *mut peliranopi_identcode_parts,
+        place: *mut usize,
+    ) -> u32;
+
+    /// Issues the identcode that has this body.
+    pub fn peliranopi_issue_identcode(
+        body: *const u8,
+        body_len: usize,
+        output: *mut u8,
+        output_len: usize,
+        written: *mut usize,
+        place: *mut usize,
+    ) -> u32;
 }

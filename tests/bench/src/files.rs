@@ -1,6 +1,6 @@
 //! The files to measure on, each exactly as long as asked.
 
-use reference::generate::{valid_iban, Rng};
+use reference::generate::{identcode_of, valid_iban, valid_identcode, Rng};
 
 /// What is drawn comes from here.
 pub const SEED: u64 = 7;
@@ -42,7 +42,7 @@ pub enum Kind {
     Parcels(Codes),
 }
 
-/// How the identcodes of a file of parcels follow each other.
+/// How the identcodes of a file of parcels follow each other. What is said of digits is said of those in front of the check digit.
 #[derive(Clone, Copy)]
 pub enum Codes {
     Drawn,
@@ -76,7 +76,7 @@ fn typical(size: usize, sender: fn(&mut Rng) -> Vec<u8>) -> Vec<u8> {
         }
         block.extend(shipment(&mut rng));
         for _ in 0..rng.between(1, 2) {
-            block.extend(parcel(&rng.digits(22)));
+            block.extend(parcel(&valid_identcode(&mut rng)));
         }
         block.extend(product());
         for _ in 0..rng.between(0, 2) {
@@ -117,12 +117,12 @@ fn parcels(codes: Codes, size: usize) -> Vec<u8> {
     file
 }
 
-/// The identcode of one of so many parcels.
+/// The identcode of one of so many parcels, which passes.
 fn identcode(codes: Codes, rng: &mut Rng, index: u128, count: u128) -> Vec<u8> {
-    const FIRST: u128 = 10_u128.pow(21);
-    const IN_FRONT: u128 = 10_u128.pow(18);
-    let code = match codes {
-        Codes::Drawn => return rng.digits(22),
+    const FIRST: u128 = 10_u128.pow(20);
+    const IN_FRONT: u128 = 10_u128.pow(17);
+    let body = match codes {
+        Codes::Drawn => return valid_identcode(rng),
         Codes::LastDigitsRise => FIRST + index,
         Codes::LastDigitsFall => FIRST + count - index,
         Codes::FirstDigitsRise => (1000 + index) * IN_FRONT,
@@ -130,11 +130,11 @@ fn identcode(codes: Codes, rng: &mut Rng, index: u128, count: u128) -> Vec<u8> {
         Codes::LastTwoAlike => FIRST + index.min(count - 2),
         Codes::DeepTree => deep(index),
     };
-    format!("{code:022}").into_bytes()
+    identcode_of(format!("{body:021}").into_bytes())
 }
 
 /// Behind a code of zeros, nine codes for each of the last eleven digits, from the right, with nines behind it; then codes that end in
-/// eleven nines.
+/// eleven nines. The check digit follows these digits, and no fork asks it.
 fn deep(index: u128) -> u128 {
     if index == 0 {
         return 0;

@@ -6,7 +6,8 @@ mod splitting;
 mod timing;
 
 use files::{file, Codes, Kind, SEED};
-use reference::generate::{valid_iban, valid_number, Rng};
+use peliranopi::IDENTCODE_LEN;
+use reference::generate::{valid_iban, valid_identcode, valid_number, Rng};
 use splitting::Splitter;
 use std::hint::black_box;
 use std::ops::Range;
@@ -338,10 +339,10 @@ fn with_other_count(record: &[u8]) -> [u8; 3] {
     }
 }
 
-/// A million numbers of each kind, each checked by its own call.
+/// A million numbers of each kind, each checked or issued by its own call.
 fn measure_numbers() {
     println!();
-    println!("A million numbers that pass, each checked by its own call. Best of {ROUNDS_OF_A_MILLION} runs or more.");
+    println!("A million numbers that pass, each checked by its own call, or issued. Best of {ROUNDS_OF_A_MILLION} runs or more.");
     head(&[
         "Numbers",
         "Library ns each",
@@ -365,6 +366,20 @@ fn measure_numbers() {
     let passes = |iban: &[u8]| peliranopi::check_iban(iban).is_ok();
     let passes_there = |iban: &[u8]| reference::numbers::check_iban(iban).is_ok();
     print_numbers("IBANs", valid_iban, passes, passes_there);
+    let passes = |code: &[u8]| peliranopi::check_identcode(code).is_ok();
+    let passes_there = |code: &[u8]| reference::identcode::check_identcode(code).is_ok();
+    print_numbers("identcodes", valid_identcode, passes, passes_there);
+    let issues =
+        |body: &[u8]| peliranopi::issue_identcode(body, black_box(&mut [0; IDENTCODE_LEN])).is_ok();
+    let issues_there = |body: &[u8]| {
+        reference::identcode::issue_identcode(body, black_box(&mut [0; IDENTCODE_LEN])).is_ok()
+    };
+    print_numbers(
+        "identcodes, issued",
+        |rng| rng.digits(IDENTCODE_LEN - 1),
+        issues,
+        issues_there,
+    );
 }
 
 /// A number that passes, of this length.

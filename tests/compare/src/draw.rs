@@ -2,8 +2,9 @@
 
 use crate::Call;
 use reference::generate::{
-    countries, damaged_iban, damaged_number, file_case, issue_call, line_call, purpose_call,
-    valid_iban, valid_number, writer_call, Rng,
+    countries, damaged_iban, damaged_identcode, damaged_number, file_case, identcode_issue_call,
+    issue_call, line_call, purpose_call, valid_iban, valid_identcode, valid_number, writer_call,
+    Rng,
 };
 
 /// The calls of the library.
@@ -17,6 +18,9 @@ pub enum Kind {
     Check,
     Issue,
     Iban,
+    CheckIdentcode,
+    ReadIdentcode,
+    IssueIdentcode,
 }
 
 /// A call of this kind.
@@ -36,6 +40,13 @@ pub fn call(kind: Kind, rng: &mut Rng) -> Call {
         Kind::Check => Call::Check(symbols(rng, valid_number, damaged_number)),
         Kind::Issue => Call::Issue(issue_call(rng)),
         Kind::Iban => Call::Iban(symbols(rng, valid_iban, damaged_iban)),
+        Kind::CheckIdentcode => {
+            Call::CheckIdentcode(symbols(rng, valid_identcode, damaged_identcode))
+        }
+        Kind::ReadIdentcode => {
+            Call::ReadIdentcode(symbols(rng, valid_identcode, damaged_identcode))
+        }
+        Kind::IssueIdentcode => Call::IssueIdentcode(identcode_issue_call(rng)),
     }
 }
 

@@ -25,6 +25,9 @@ pub enum Call {
     Check(Vec<u8>),
     Issue(IssueCall),
     Iban(Vec<u8>),
+    CheckIdentcode(Vec<u8>),
+    ReadIdentcode(Vec<u8>),
+    IssueIdentcode(IssueCall),
 }
 
 impl Call {
@@ -36,7 +39,8 @@ impl Call {
             Call::Write(call) => &call.text,
             Call::Purpose(call) => &call.file,
             Call::Check(symbols) | Call::Iban(symbols) => symbols,
-            Call::Issue(call) => &call.body,
+            Call::CheckIdentcode(code) | Call::ReadIdentcode(code) => code,
+            Call::Issue(call) | Call::IssueIdentcode(call) => &call.body,
         }
     }
 
@@ -71,7 +75,7 @@ impl Call {
         match self {
             Call::Write(call) => call.output,
             Call::Purpose(call) => call.output,
-            Call::Issue(call) => call.output,
+            Call::Issue(call) | Call::IssueIdentcode(call) => call.output,
             _ => 0,
         }
     }
@@ -98,8 +102,10 @@ impl Call {
                 call.words,
                 call.output
             ),
-            Call::Issue(call) => format!("output of {}", call.output),
-            Call::Check(_) | Call::Iban(_) => "nothing else".to_string(),
+            Call::Issue(call) | Call::IssueIdentcode(call) => format!("output of {}", call.output),
+            Call::Check(_) | Call::Iban(_) | Call::CheckIdentcode(_) | Call::ReadIdentcode(_) => {
+                "nothing else".to_string()
+            }
         }
     }
 }

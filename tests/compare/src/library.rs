@@ -15,6 +15,9 @@ pub fn left(call: &Call, mut left: Left) -> Left {
         Call::Check(_) => check_number(&mut left),
         Call::Issue(_) => issue_number(&mut left),
         Call::Iban(_) => check_iban(&mut left),
+        Call::CheckIdentcode(_) => check_identcode(&mut left),
+        Call::ReadIdentcode(_) => read_identcode(&mut left),
+        Call::IssueIdentcode(_) => issue_identcode(&mut left),
     }
     left
 }
@@ -157,4 +160,62 @@ fn check_iban(left: &mut Left) {
     left.answer = unsafe {
         sys::peliranopi_check_iban(left.input.as_ptr(), left.input.len(), &mut left.place)
     };
+}
+
+fn check_identcode(left: &mut Left) {
+    // SAFETY: as said above.
+    left.answer = unsafe {
+        sys::peliranopi_check_identcode(left.input.as_ptr(), left.input.len(), &mut left.place)
+    };
+}
+
+fn read_identcode(left: &mut Left) {
+    let nonsense = sys::peliranopi_part {
+        start: NONSENSE,
+        length: NONSENSE,
+    };
+    let mut parts = sys::peliranopi_identcode_parts {
+        origin: nonsense,
+        customer: nonsense,
+        sequence: nonsense,
+        product: nonsense,
+        destination: nonsense,
+        check: nonsense,
+    };
+    // SAFETY: as said above.
+    left.answer = unsafe {
+        sys::peliranopi_read_identcode(
+            left.input.as_ptr(),
+            left.input.len(),
+            &mut parts,
+            &mut left.place,
+        )
+    };
+    let each = [
+        parts.origin,
+        parts.customer,
+        parts.sequence,
+        parts.product,
+        parts.destination,
+        parts.check,
+    ];
+    let numbers = each.iter().flat_map(|part| [part.start, part.length]);
+    left.values = numbers.map(|number| number as u64).collect();
+}
+
+fn issue_identcode(left: &mut Left) {
+    let mut written = NONSENSE;
+    let output = lent(&mut left.output);
+    // SAFETY: as said above.
+    left.answer = unsafe {
+        sys::peliranopi_issue_identcode(
+            left.input.as_ptr(),
+            left.input.len(),
+            output.as_mut_ptr(),
+            output.len(),
+            &mut written,
+            &mut left.place,
+        )
+    };
+    left.values = vec![written as u64];
 }

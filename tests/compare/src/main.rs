@@ -21,7 +21,7 @@ struct Share {
     refusals: &'static [u32],
 }
 
-const SHARES: [Share; 8] = [
+const SHARES: [Share; 11] = [
     Share {
         kind: Kind::File,
         name: "files",
@@ -55,13 +55,13 @@ const SHARES: [Share; 8] = [
     Share {
         kind: Kind::Check,
         name: "checked numbers",
-        share: 230,
+        share: 110,
         refusals: &[16, 17, 18],
     },
     Share {
         kind: Kind::Issue,
         name: "issued numbers",
-        share: 225,
+        share: 150,
         refusals: &[13, 16, 17],
     },
     Share {
@@ -69,6 +69,24 @@ const SHARES: [Share; 8] = [
         name: "IBANs",
         share: 230,
         refusals: &[16, 17, 18],
+    },
+    Share {
+        kind: Kind::CheckIdentcode,
+        name: "checked identcodes",
+        share: 80,
+        refusals: &[16, 17, 18],
+    },
+    Share {
+        kind: Kind::ReadIdentcode,
+        name: "read identcodes",
+        share: 40,
+        refusals: &[16, 17, 18],
+    },
+    Share {
+        kind: Kind::IssueIdentcode,
+        name: "issued identcodes",
+        share: 75,
+        refusals: &[13, 16, 17],
     },
 ];
 

@@ -2,6 +2,7 @@
 
 use crate::{lent, Call, Left};
 use reference::file::judge;
+use reference::identcode::{check_identcode, issue_identcode, read_identcode};
 use reference::line::{find_field, read_line};
 use reference::numbers::{check_iban, check_number, issue_number, Kind};
 use reference::purpose::purpose;
@@ -30,8 +31,10 @@ fn count(call: &Call) -> usize {
     match call {
         Call::File { .. } | Call::Line { .. } => 3,
         Call::Field(_) => 2,
-        Call::Write(_) | Call::Purpose(_) | Call::Check(_) | Call::Issue(_) => 1,
-        Call::Iban(_) => 0,
+        Call::Write(_) | Call::Purpose(_) | Call::Check(_) => 1,
+        Call::Issue(_) | Call::IssueIdentcode(_) => 1,
+        Call::Iban(_) | Call::CheckIdentcode(_) => 0,
+        Call::ReadIdentcode(_) => 12,
     }
 }
 
@@ -76,5 +79,20 @@ fn values(call: &Call, left: &mut Left) -> Result<Vec<u64>, Refusal> {
         },
         Call::Issue(call) => Ok(vec![issue_number(&call.body, output)? as u64]),
         Call::Iban(symbols) => check_iban(symbols).map(|()| Vec::new()),
+        Call::CheckIdentcode(code) => check_identcode(code).map(|()| Vec::new()),
+        Call::ReadIdentcode(code) => {
+            let parts = read_identcode(code)?;
+            let each = [
+                parts.origin,
+                parts.customer,
+                parts.sequence,
+                parts.product,
+                parts.destination,
+                parts.check,
+            ];
+            let numbers = each.iter().flat_map(|part| [part.start, part.len()]);
+            Ok(numbers.map(|number| number as u64).collect())
+        }
+        Call::IssueIdentcode(call) => Ok(vec![issue_identcode(&call.body, output)? as u64]),
     }
 }

@@ -24,6 +24,13 @@ pub enum Call {
     CheckIban {
         symbols: Vec<u8>,
     },
+    CheckIdentcode {
+        code: Vec<u8>,
+    },
+    ReadIdentcode {
+        code: Vec<u8>,
+    },
+    IssueIdentcode(IssueCall),
 }
 
 impl Call {

@@ -18,6 +18,7 @@ pub fn all(rng: &mut Rng) -> Vec<Call> {
     let mut calls = Vec::new();
     numbers(rng, &mut calls);
     issues(rng, &mut calls);
+    identcodes(rng, &mut calls);
     cut_files(rng, &mut calls);
     lists(rng, &mut calls);
     lent_countries(rng, &mut calls);
@@ -66,6 +67,33 @@ fn issues(rng: &mut Rng, calls: &mut Vec<Call>) {
     }
     for _ in 0..500 {
         calls.push(Call::IssueNumber(issue_call(rng)));
+    }
+}
+
+/// Every length of a code, and of a body with every length of the output.
+fn identcodes(rng: &mut Rng, calls: &mut Vec<Call>) {
+    let mut both = |code: Vec<u8>| {
+        let same = code.clone();
+        calls.push(Call::CheckIdentcode { code });
+        calls.push(Call::ReadIdentcode { code: same });
+    };
+    for length in 0..=BYTES {
+        both(repeated(&valid_identcode(rng), length));
+        both(rng.digits(length));
+        both((0..length).map(|_| rng.byte()).collect());
+    }
+    for _ in 0..300 {
+        both(valid_identcode(rng));
+        both(damaged_identcode(rng));
+    }
+    for length in 0..=BYTES {
+        for output in 0..=BYTES {
+            let body = rng.digits(length);
+            calls.push(Call::IssueIdentcode(IssueCall { body, output }));
+        }
+    }
+    for _ in 0..500 {
+        calls.push(Call::IssueIdentcode(identcode_issue_call(rng)));
     }
 }
 

@@ -39,6 +39,9 @@ impl Desk {
             Call::CheckNumber { symbols } => self.check_number(symbols),
             Call::IssueNumber(call) => self.issue_number(call),
             Call::CheckIban { symbols } => self.check_iban(symbols),
+            Call::CheckIdentcode { code } => self.check_identcode(code),
+            Call::ReadIdentcode { code } => self.read_identcode(code),
+            Call::IssueIdentcode(call) => self.issue_identcode(call),
         }
     }
 
@@ -214,6 +217,48 @@ impl Desk {
             unsafe { sys::peliranopi_check_iban(symbols.start, symbols.length, place.start) };
         stayed(&symbols, bytes);
         answer("check_iban", refusal, place, Vec::new())
+    }
+
+    fn check_identcode(&mut self, bytes: &[u8]) -> Answer {
+        let code = self.lay(bytes);
+        let place = self.number();
+        // SAFETY: as in `judge`.
+        let refusal =
+            unsafe { sys::peliranopi_check_identcode(code.start, code.length, place.start) };
+        stayed(&code, bytes);
+        answer("check_identcode", refusal, place, Vec::new())
+    }
+
+    fn read_identcode(&mut self, bytes: &[u8]) -> Answer {
+        let code = self.lay(bytes);
+        let parts = self.lay(&[WORD as usize; 12]);
+        let place = self.number();
+        // SAFETY: as in `judge`; the parts are twelve numbers.
+        let refusal = unsafe {
+            sys::peliranopi_read_identcode(code.start, code.length, parts.start.cast(), place.start)
+        };
+        stayed(&code, bytes);
+        let numbers = parts.content().iter().map(|number| *number as u64);
+        answer("read_identcode", refusal, place, numbers.collect())
+    }
+
+    fn issue_identcode(&mut self, call: &IssueCall) -> Answer {
+        let body = self.lay(&call.body);
+        let output = self.lay(&vec![BYTE; call.output]);
+        let (written, place) = (self.number(), self.number());
+        // SAFETY: as in `judge`.
+        let refusal = unsafe {
+            sys::peliranopi_issue_identcode(
+                body.start,
+                body.length,
+                output.start,
+                output.length,
+                written.start,
+                place.start,
+            )
+        };
+        stayed(&body, &call.body);
+        answer("issue_identcode", refusal, place, vec![value(written)]).with_output(output)
     }
 }
 

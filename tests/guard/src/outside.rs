@@ -7,75 +7,104 @@ use crate::pages::{Lent, Room, Side};
 use crate::process::{be_silent, in_child, End, SEGMENTATION_FAULT};
 use peliranopi::sys;
 
-/// What is tried on a buffer of 14 digits.
+/// What is tried, on which side a page lies, and the buffer's content.
+type Row = (&'static str, Side, &'static [u8], Try);
 type Try = fn(Lent<u8>);
 
-const BODY: &[u8; 14] = b"09980000020041";
+const BODY: &[u8] = b"09980000020041";
+const IDENTCODE: &[u8] = b"1000000000000000000007";
+/// Room for the parts of an identcode, which are twelve numbers, and for eleven.
+const PARTS: &[u8] = &[0; 12 * size_of::<usize>()];
+const FEWER_PARTS: &[u8] = PARTS.split_at(11 * size_of::<usize>()).0;
 
-const INSIDE: [(&str, Side, Try); 5] = [
-    ("reads the last byte", Side::Behind, |lent| {
+const INSIDE: [Row; 8] = [
+    ("reads the last byte", Side::Behind, BODY, |lent| {
         read(lent.start.wrapping_add(13))
     }),
-    ("reads the first byte", Side::Before, |lent| {
+    ("reads the first byte", Side::Before, BODY, |lent| {
         read(lent.start)
     }),
-    ("writes the last byte", Side::Behind, |lent| {
+    ("writes the last byte", Side::Behind, BODY, |lent| {
         write(lent.start.wrapping_add(13))
     }),
-    ("checks 14 symbols", Side::Behind, |lent| {
+    ("checks 14 symbols", Side::Behind, BODY, |lent| {
         check(lent.start, 14)
     }),
-    ("lends 7 countries", Side::Behind, |lent| {
+    ("lends 7 countries", Side::Behind, BODY, |lent| {
         lend_countries(lent.start, 14)
+    }),
+    ("checks an identcode", Side::Behind, IDENTCODE, |lent| {
+        check_identcode(lent.start, 22)
+    }),
+    ("reads an identcode", Side::Behind, PARTS, |lent| {
+        read_identcode(lent.start)
+    }),
+    ("issues an identcode", Side::Behind, IDENTCODE, |lent| {
+        issue_identcode(lent.start, 22)
     }),
 ];
 
-const OUTSIDE: [(&str, Side, Try); 9] = [
-    ("reads one byte past", Side::Behind, |lent| {
+const OUTSIDE: [Row; 14] = [
+    ("reads one byte past", Side::Behind, BODY, |lent| {
         read(lent.start.wrapping_add(14))
     }),
-    ("reads one byte before", Side::Before, |lent| {
+    ("reads one byte before", Side::Before, BODY, |lent| {
         read(lent.start.wrapping_sub(1))
     }),
-    ("writes one byte past", Side::Behind, |lent| {
+    ("writes one byte past", Side::Behind, BODY, |lent| {
         write(lent.start.wrapping_add(14))
     }),
-    ("writes one byte before", Side::Before, |lent| {
+    ("writes one byte before", Side::Before, BODY, |lent| {
         write(lent.start.wrapping_sub(1))
     }),
-    ("checks one symbol past", Side::Behind, |lent| {
+    ("checks one symbol past", Side::Behind, BODY, |lent| {
         check(lent.start, 15)
     }),
-    ("checks one symbol before", Side::Before, |lent| {
+    ("checks one symbol before", Side::Before, BODY, |lent| {
         check(lent.start.wrapping_sub(1), 15)
     }),
-    ("issues one byte past", Side::Behind, |lent| {
+    ("issues one byte past", Side::Behind, BODY, |lent| {
         issue(lent.start, 15)
     }),
-    ("lends one country past", Side::Behind, |lent| {
+    ("lends one country past", Side::Behind, BODY, |lent| {
         lend_countries(lent.start, 16)
     }),
-    ("lends one country before", Side::Before, |lent| {
+    ("lends one country before", Side::Before, BODY, |lent| {
         lend_countries(lent.start.wrapping_sub(2), 16)
+    }),
+    ("checks one digit past", Side::Behind, IDENTCODE, |lent| {
+        check_identcode(lent.start.wrapping_add(1), 22)
+    }),
+    ("checks one digit before", Side::Before, IDENTCODE, |lent| {
+        check_identcode(lent.start.wrapping_sub(1), 22)
+    }),
+    ("tells a part past", Side::Behind, FEWER_PARTS, |lent| {
+        read_identcode(lent.start)
+    }),
+    ("tells a part before", Side::Before, PARTS, |lent| {
+        read_identcode(lent.start.wrapping_sub(size_of::<usize>()))
+    }),
+    ("issues one digit past", Side::Behind, IDENTCODE, |lent| {
+        issue_identcode(lent.start.wrapping_add(1), 22)
     }),
 ];
 
 /// Tries all of them, each in its own child, and answers how many were killed, as they must be.
 pub fn all_killed() -> usize {
-    for (what, side, attempt) in INSIDE {
-        assert_eq!(end_of(side, attempt), End::Exited(0), "a child {what}");
+    for row in INSIDE {
+        assert_eq!(end_of(row), End::Exited(0), "a child {}", row.0);
     }
-    for (what, side, attempt) in OUTSIDE {
+    for row in OUTSIDE {
         let killed = End::Killed(SEGMENTATION_FAULT);
-        assert_eq!(end_of(side, attempt), killed, "a child {what}");
+        assert_eq!(end_of(row), killed, "a child {}", row.0);
     }
     OUTSIDE.len()
 }
 
-fn end_of(side: Side, attempt: Try) -> End {
+fn end_of((_, side, content, attempt): Row) -> End {
     in_child(|| {
         be_silent();
-        attempt(Room::new().lay(BODY, side));
+        attempt(Room::new().lay(content, side));
     })
 }
 
@@ -103,6 +132,41 @@ fn issue(output: *mut u8, length: usize) {
         sys::peliranopi_issue_number(
             BODY.as_ptr(),
             BODY.len(),
+            output,
+            length,
+            &mut written,
+            &mut place,
+        )
+    };
+}
+
+fn check_identcode(code: *const u8, length: usize) {
+    let mut place = 0;
+    // SAFETY: as for `read`, where the code is not in the buffer.
+    unsafe { sys::peliranopi_check_identcode(code, length, &mut place) };
+}
+
+/// Twelve numbers are written here.
+fn read_identcode(parts: *mut u8) {
+    let mut place = 0;
+    // SAFETY: as for `read`, where the parts do not fit in the buffer.
+    unsafe {
+        sys::peliranopi_read_identcode(
+            IDENTCODE.as_ptr(),
+            IDENTCODE.len(),
+            parts.cast(),
+            &mut place,
+        )
+    };
+}
+
+fn issue_identcode(output: *mut u8, length: usize) {
+    let (mut written, mut place) = (0, 0);
+    // SAFETY: as for `read`, where the output is not in the buffer.
+    unsafe {
+        sys::peliranopi_issue_identcode(
+            IDENTCODE.as_ptr(),
+            IDENTCODE.len() - 1,
             output,
             length,
             &mut written,

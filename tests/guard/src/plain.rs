@@ -1,7 +1,7 @@
 //! Answers a call by the safe functions, on plain buffers.
 
 use crate::call::{Answer, Call, BYTE, WORD};
-use peliranopi::Refusal;
+use peliranopi::{IdentcodeParts, Refusal};
 
 /// The answer, with the numbers as the C header has them: 0 where the call refuses.
 pub fn answer(call: &Call) -> Answer {
@@ -27,7 +27,7 @@ fn lent(call: &Call) -> (Vec<u32>, Vec<u8>) {
         Call::Judge { words, .. } => (*words, 0),
         Call::WriteLine(call) => (0, call.output),
         Call::WritePurpose(call) => (call.words, call.output),
-        Call::IssueNumber(call) => (0, call.output),
+        Call::IssueNumber(call) | Call::IssueIdentcode(call) => (0, call.output),
         _ => (0, 0),
     };
     (vec![WORD; words], vec![BYTE; bytes])
@@ -79,10 +79,38 @@ fn result(call: &Call, list: &mut [u32], output: &mut [u8]) -> Named {
             let passed = peliranopi::check_iban(symbols);
             named("check_iban", passed.map(|()| []))
         }
+        Call::CheckIdentcode { code } => {
+            let passed = peliranopi::check_identcode(code);
+            named("check_identcode", passed.map(|()| []))
+        }
+        Call::ReadIdentcode { code } => {
+            let parts = peliranopi::read_identcode(code);
+            named("read_identcode", parts.map(numbers))
+        }
+        Call::IssueIdentcode(call) => {
+            let written = peliranopi::issue_identcode(&call.body, output);
+            named("issue_identcode", written.map(|count| [count as u64]))
+        }
     }
 }
 
 fn named<const N: usize>(function: &'static str, numbers: Result<[u64; N], Refusal>) -> Named {
     let numbers = numbers.map(Vec::from).map_err(|refused| (refused, N));
     (function, numbers)
+}
+
+/// Start and length of each part.
+fn numbers(parts: IdentcodeParts) -> [u64; 12] {
+    let each = [
+        parts.origin,
+        parts.customer,
+        parts.sequence,
+        parts.product,
+        parts.destination,
+        parts.check,
+    ];
+    std::array::from_fn(|number| match number % 2 {
+        0 => each[number / 2].start as u64,
+        _ => each[number / 2].len() as u64,
+    })
 }

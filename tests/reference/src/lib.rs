@@ -1,5 +1,5 @@
-//! A second, independent implementation of document 01 and of request 1 of document 02, for tests
-//! only.
+//! A second, independent implementation of document 01 and of the requests 1 and 2 of document 02,
+//! for tests only.
 //!
 //! It is written from the paper alone, in ways that are easy to believe. Nothing here is proved: it
 //! is a partner to compare with. `generate` draws the inputs for such comparisons.
@@ -13,6 +13,7 @@
 
 pub mod file;
 pub mod generate;
+pub mod identcode;
 pub mod line;
 pub mod numbers;
 pub mod profile;

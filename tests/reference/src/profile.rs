@@ -1,6 +1,7 @@
 //! Our profile of the pre-advice manual: records, widths, duties and forms (document 01, 'The
 //! file'). The reader and the writer test their fields here, each over its own bytes.
 
+use crate::identcode::check_identcode;
 use crate::numbers::check_iban;
 
 /// "At most 65,535 bytes."
@@ -248,8 +249,9 @@ fn form_holds<'a>(record: Record, number: usize, field: &impl Fn(usize) -> &'a [
         (R030, 1 | 2) => all_digits(part),
         // "Field 39 is the carrier's own and must be empty: a filled one is 8"
         (R030, 39) => false,
-        // "1 R 22 digits (width 22)"
-        (R040, 1) => part.len() == 22 && all_digits(part),
+        // "1 R 22 digits (width 22)"; "040.1 must pass from now on", and "a failing code in a file
+        // is 8" (document 02, request 2).
+        (R040, 1) => check_identcode(part).is_ok(),
         // "1 R width 3, a feature code"
         (R060, 1) => FEATURES.iter().any(|code| part == *code),
         // "Field 8, and 2 under 006 and 022, hold only a-z A-Z 0-9 . , : ' + - / ( ) ? and space."

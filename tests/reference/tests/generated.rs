@@ -4,6 +4,7 @@ use std::collections::{BTreeMap, HashSet};
 
 use reference::file::{judge, Totals};
 use reference::generate::*;
+use reference::identcode::{check_identcode, issue_identcode, read_identcode};
 use reference::line::{find_field, read_line};
 use reference::numbers::{check_iban, check_number, issue_number, Kind};
 use reference::purpose::purpose;
@@ -187,6 +188,39 @@ fn lists_of_all_countries_and_of_none() {
         refused += usize::from(!all_have);
     }
     assert!(accepted > 300 && refused > 300, "{accepted} {refused}");
+}
+
+/// Half of the codes of a file follow the one before, and a file can repeat one.
+#[test]
+fn identcodes_of_files() {
+    let mut rng = Rng::new(21);
+    let (mut codes, mut near, mut zeros) = (0, 0, 0);
+    let mut damaged = Counts::new();
+    for _ in 0..2_000 {
+        let mut file = valid_file(&mut rng);
+        let parcels = take_apart(&file)
+            .into_iter()
+            .filter(|line| line[0] == b"040");
+        let parcels: Vec<Vec<u8>> = parcels.map(|mut line| line.swap_remove(1)).collect();
+        for code in &parcels {
+            assert_eq!(check_identcode(code), Ok(()));
+            zeros += usize::from(code.starts_with(b"0"));
+        }
+        codes += parcels.len();
+        let alike = |pair: &&[Vec<u8>]| pair[0][..18] == pair[1][..18];
+        near += parcels.windows(2).filter(alike).count();
+        let outcome = damage(Damage::Identcode, &mut rng, &mut file);
+        let answer = judge(&file, b"", &mut [0; 4096]);
+        assert!(outcome.allows(&answer), "{outcome:?} {answer:?}");
+        count(&mut damaged, &answer);
+    }
+    assert!(
+        4 * near > codes && 20 * zeros > codes,
+        "{near} {zeros} {codes}"
+    );
+    // A swap that is not noticed is accepted.
+    assert_each(&damaged, &[0, 8]);
+    println!("{codes} codes, {near} near the one before, {zeros} from 0 on; damaged {damaged:?}");
 }
 
 #[test]
@@ -500,6 +534,99 @@ fn issuing() {
     }
     assert_each(&counts, &[0, 13, 16, 17]);
     println!("{counts:?}");
+}
+
+/// The sum of all 22 digits, each first of a pair taken three times: a code passes where 10 divides
+/// it.
+fn weighted(code: &[u8]) -> u32 {
+    let value = |digit: u8| (digit as char).to_digit(10).unwrap();
+    code.chunks(2)
+        .map(|pair| 3 * value(pair[0]) + value(pair[1]))
+        .sum()
+}
+
+#[test]
+fn identcodes() {
+    let mut rng = Rng::new(18);
+    let (mut counts, mut zeros) = (Counts::new(), 0);
+    for _ in 0..20_000 {
+        let code = valid_identcode(&mut rng);
+        assert_eq!(check_identcode(&code), Ok(()));
+        assert_eq!(weighted(&code) % 10, 0);
+        zeros += usize::from(code[21] == b'0');
+        let parts = read_identcode(&code).unwrap();
+        let joined = [
+            &code[parts.origin],
+            &code[parts.customer],
+            &code[parts.sequence],
+            &code[parts.product],
+            &code[parts.destination],
+            &code[parts.check],
+        ];
+        assert_eq!(joined.concat(), code);
+        let damaged = damaged_identcode(&mut rng);
+        let answer = check_identcode(&damaged);
+        if damaged.len() == 22 && damaged.iter().all(u8::is_ascii_digit) {
+            assert_eq!(answer.is_ok(), weighted(&damaged) % 10 == 0);
+        }
+        assert_eq!(read_identcode(&damaged).map(|_| ()), answer);
+        count(&mut counts, &answer);
+    }
+    assert_each(&counts, &[0, 16, 17, 18]);
+    assert!(counts.values().all(|count| *count >= 1_000), "{counts:?}");
+    assert!(zeros > 1_000, "{zeros}");
+    println!("{counts:?}, {zeros} with the check digit 0");
+}
+
+#[test]
+fn issuing_identcodes() {
+    let mut rng = Rng::new(19);
+    let mut counts = Counts::new();
+    for _ in 0..20_000 {
+        let call = identcode_issue_call(&mut rng);
+        let mut out = vec![9; call.output];
+        let answer = issue_identcode(&call.body, &mut out);
+        let length = answer.unwrap_or(0);
+        if answer.is_ok() {
+            assert_eq!(length, 22);
+            assert_eq!(out[..21], call.body);
+            assert_eq!(weighted(&out[..22]) % 10, 0);
+        }
+        assert!(out[length..].iter().all(|byte| *byte == 9));
+        count(&mut counts, &answer);
+    }
+    assert_each(&counts, &[0, 13, 16, 17]);
+    println!("{counts:?}");
+}
+
+/// No single digit can be another. Two neighbours that are swapped pass exactly where they differ by
+/// 5, or not at all; two digits with one between them always.
+#[test]
+fn slips_in_identcodes() {
+    let mut rng = Rng::new(20);
+    let (mut passed, mut stopped) = (0, 0);
+    for _ in 0..5_000 {
+        let code = valid_identcode(&mut rng);
+        for place in 0..22 {
+            let mut slipped = code.clone();
+            slipped[place] = b'0' + (code[place] - b'0' + rng.between(1, 9) as u8) % 10;
+            assert!(check_identcode(&slipped).is_err());
+        }
+        for place in 0..21 {
+            let mut swapped = code.clone();
+            swapped.swap(place, place + 1);
+            let differ = code[place].abs_diff(code[place + 1]);
+            assert_eq!(check_identcode(&swapped).is_ok(), [0, 5].contains(&differ));
+            passed += usize::from(differ == 5);
+            stopped += usize::from(![0, 5].contains(&differ));
+        }
+        for place in 0..20 {
+            let mut jumped = code.clone();
+            jumped.swap(place, place + 2);
+            assert_eq!(check_identcode(&jumped), Ok(()));
+        }
+    }
+    assert!(passed > 5_000 && stopped > 50_000, "{passed} {stopped}");
 }
 
 /// The C function that 001 prints, in its own steps.

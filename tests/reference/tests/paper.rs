@@ -1,6 +1,8 @@
-//! The cases that document 01 names, the numbers that 001 prints, and every refusal with its place.
+//! The cases that document 01 names, the numbers that 001 prints, the identcodes that 000 prints, and
+//! every refusal with its place.
 
 use reference::file::{judge, Totals};
+use reference::identcode::{check_identcode, issue_identcode, read_identcode};
 use reference::line::{find_field, read_line, Line};
 use reference::numbers::{check_iban, check_number, issue_number, Kind};
 use reference::purpose::purpose;
@@ -11,7 +13,7 @@ const EXAMPLE: &str = "\
 010;0012345678;Muster;2021-02-23T13:37:50;2021-02-24T14:20:55;1005;5;;;;\r\n\
 020;A;;;;AT;1010;Wien;;Gasse;;1;1;a@b;;;\r\n\
 030;;;;;;;;;;;;;;;;B;;;;AT;1020;Wien;;Gasse;;2;;;;;;;;;;;;;;\r\n\
-040;1000000000000000000001;;\r\n\
+040;1000000000000000000007;;\r\n\
 050;10\r\n\
 060;006;;12.50;EUR;Muster;AT611904300234573201;ABCDATWW;;;\r\n";
 
@@ -72,7 +74,7 @@ fn the_example_has_its_purpose() {
     let (mut list, mut out) = ([7; 7], [9; 40]);
     let answer = purpose(EXAMPLE.as_bytes(), b"", 5, &mut list, &mut out);
     assert_eq!(answer, Ok(24));
-    assert_eq!(&out[..24], b"1000000000000000000001/B");
+    assert_eq!(&out[..24], b"1000000000000000000007/B");
     assert_eq!(out[24..], [9; 16]);
     assert_eq!(list[..6], STARTS);
     assert_eq!(list[6], 0);
@@ -256,6 +258,175 @@ fn refusals_of_ibans() {
     }
 }
 
+/// 000, section 4.1.6, "Beispiel": the digits, their weights, the products, their sum 204 and the
+/// check digit 6. 4.2: the clear text below a barcode.
+#[test]
+fn the_identcodes_of_the_manual() {
+    let digits = "8 5 4 6 3 7 9 0 0 3 2 7 5 9 8 1 8 6 3 4 2".replace(' ', "");
+    let products = [
+        24, 5, 12, 6, 9, 7, 27, 0, 0, 3, 6, 7, 15, 9, 24, 1, 24, 6, 9, 4, 6,
+    ];
+    for (place, digit) in digits.bytes().enumerate() {
+        let weight = [3, 1][place % 2];
+        assert_eq!(usize::from(digit - b'0') * weight, products[place]);
+    }
+    assert_eq!(products.iter().sum::<usize>(), 204);
+    let mut out = [9; 30];
+    assert_eq!(issue_identcode(digits.as_bytes(), &mut out), Ok(22));
+    assert_eq!(out[..22], *format!("{digits}6").as_bytes());
+    assert_eq!(out[22..], [9; 8]);
+    assert_eq!(check_identcode(&out[..22]), Ok(()));
+
+    let clear_text = "10 12345 12345678 12 1234 9";
+    let code = clear_text.replace(' ', "");
+    assert_eq!(check_identcode(code.as_bytes()), Ok(()));
+    let parts = read_identcode(code.as_bytes()).unwrap();
+    let parts = [
+        parts.origin,
+        parts.customer,
+        parts.sequence,
+        parts.product,
+        parts.destination,
+        parts.check,
+    ];
+    assert_eq!(parts.clone().map(|part| &code[part]).join(" "), clear_text);
+    // "2 - 5 - 8 - 2 - 4 - 1", one behind the other.
+    assert_eq!(parts.clone().map(|part| part.len()), [2, 5, 8, 2, 4, 1]);
+    assert_eq!(parts[0].start, 0);
+    assert!(parts.windows(2).all(|pair| pair[0].end == pair[1].start));
+}
+
+/// "Sollte der Rest 0 ergeben, ist die Prüfziffer 0": for every remainder, one of the ten digits
+/// passes.
+#[test]
+fn one_check_digit_of_ten_passes() {
+    for first in 0..10 {
+        let body = format!("{first}{}", "0".repeat(20));
+        let passing: Vec<u32> = (0..10)
+            .filter(|check| check_identcode(format!("{body}{check}").as_bytes()).is_ok())
+            .collect();
+        let remainder = 3 * first % 10;
+        assert_eq!(passing, [if remainder == 0 { 0 } else { 10 - remainder }]);
+        for check in (0..10).filter(|check| !passing.contains(check)) {
+            let code = format!("{body}{check}");
+            assert_eq!(check_identcode(code.as_bytes()), no(18, 21));
+            assert_eq!(read_identcode(code.as_bytes()), no(18, 21));
+        }
+    }
+}
+
+#[test]
+fn refusals_of_identcodes() {
+    for length in (0..40).filter(|length| *length != 22) {
+        for symbol in [b'0', b'?'] {
+            assert_eq!(check_identcode(&vec![symbol; length]), no(16, 0));
+            assert_eq!(read_identcode(&vec![symbol; length]), no(16, 0));
+        }
+    }
+    for length in (0..40).filter(|length| *length != 21) {
+        for symbol in [b'0', b'?'] {
+            assert_eq!(issue_identcode(&vec![symbol; length], &mut []), no(16, 0));
+        }
+    }
+    // Every symbol at every place; the first wrong one is told, before the check.
+    let code = b"1000000000000000000007";
+    for place in 0..22 {
+        for symbol in 0..=255 {
+            let mut symbols = *code;
+            symbols[place] = symbol;
+            let answer = check_identcode(&symbols);
+            match symbol {
+                b'0'..=b'9' if symbols == *code => assert_eq!(answer, Ok(())),
+                b'0'..=b'9' => assert_eq!(answer, no(18, 21)),
+                _ => assert_eq!(answer, no(17, place)),
+            }
+            assert_eq!(read_identcode(&symbols).map(|_| ()), answer);
+            if place < 21 {
+                let issued = issue_identcode(&symbols[..21], &mut [0; 22]);
+                match symbol {
+                    b'0'..=b'9' => assert_eq!(issued, Ok(22)),
+                    _ => assert_eq!(issued, no(17, place)),
+                }
+            }
+        }
+    }
+    assert_eq!(check_identcode(b"10000x000000000000000y"), no(17, 5));
+    // 16, 17, 13: "with nothing written".
+    let mut out = [9; 30];
+    let body = b"100000000000000000000";
+    assert_eq!(issue_identcode(&body[1..], &mut out[..21]), no(16, 0));
+    assert_eq!(
+        issue_identcode(b"10000000000000000000O", &mut out[..21]),
+        no(17, 20)
+    );
+    for length in 0..22 {
+        assert_eq!(issue_identcode(body, &mut out[..length]), no(13, 0));
+    }
+    assert_eq!(out, [9; 30]);
+    assert_eq!(issue_identcode(body, &mut out[..22]), Ok(22));
+    assert_eq!(&out[..22], b"1000000000000000000007");
+    assert_eq!(out[22..], [9; 8]);
+}
+
+/// "040.1 must pass from now on"; "a failing code in a file is 8".
+#[test]
+fn identcodes_in_files_lines_and_purposes() {
+    let place = at("1000000000000000000007");
+    let with_code = |code: &str| with("1000000000000000000007", code);
+    for code in [
+        "8546379003275981863426",
+        "1012345123456781212349",
+        "0000000000000000000000",
+    ] {
+        assert_eq!(judged(with_code(code)), totals(6, 1, 1250));
+    }
+    for code in [
+        "1000000000000000000001", // the check digit
+        "8546379003275981863420",
+        "100000000000000000000x", // a symbol
+        "x000000000000000000007",
+        "100000000000000000000", // the length
+        "1",
+    ] {
+        let file = with_code(code);
+        assert_eq!(judged(&file), no(8, place), "{code}");
+        assert_eq!(read_line(file.as_bytes(), 178), no(8, place));
+        assert_eq!(find_field(file.as_bytes(), 178, 2), no(8, place));
+        let (mut list, mut out) = ([7; 6], [9; 35]);
+        let answer = purpose(file.as_bytes(), b"", 5, &mut list, &mut out);
+        assert_eq!(answer, no(8, place));
+        assert_eq!((list, out), ([0; 6], [9; 35]));
+        let ends = [code.len(); 3];
+        let mut out = [9; 40];
+        assert_eq!(
+            write_line(40, code.as_bytes(), &ends, &mut out, 0),
+            no(8, 1)
+        );
+        assert_eq!(out, [9; 40]);
+    }
+    assert_eq!(judged(with_code("10000000000000000000007")), no(6, place));
+    assert_eq!(judged(with_code("")), no(7, place));
+    // A wrong code that stands there twice is 8 at its first line; a right one is 10 at its second.
+    let parcels = |one: &str, two: &str| {
+        let lines = format!("040;{one};;\r\n040;{two};;\r\n");
+        with("040;1000000000000000000007;;\r\n", &lines)
+    };
+    let (right, wrong) = ("1000000000000000000007", "1000000000000000000008");
+    assert_eq!(judged(parcels(wrong, wrong)), no(8, place));
+    assert_eq!(judged(parcels(right, right)), no(10, place + 30));
+    assert_eq!(judged(parcels(right, wrong)), no(8, place + 30));
+    // 8 before 6 of the next field, before 11 on its line, and before 12.
+    let wide = format!("{wrong};{};", "x".repeat(65));
+    assert_eq!(
+        judged(with("1000000000000000000007;;", &wide)),
+        no(8, place)
+    );
+    let file = with_code(wrong);
+    assert_eq!(judge(file.as_bytes(), b"", &mut [7; 3]), no(8, place));
+    assert_eq!(judge(file.as_bytes(), b"", &mut [7; 2]), no(11, 116));
+    assert_eq!(judged(&file[..208]), no(8, place));
+}
+
 #[test]
 fn refusals_of_files() {
     // 1
@@ -297,7 +468,7 @@ fn refusals_of_files() {
         judged(with("050;10", &format!("050;10{}", ";".repeat(23)))),
         totals(6, 1, 1250)
     );
-    assert_eq!(judged(with("01;;\r", "01;\r")), no(5, 178));
+    assert_eq!(judged(with("07;;\r", "07;\r")), no(5, 178));
     assert_eq!(judged(with("WW;;;", "WW;;")), no(5, 216));
     assert_eq!(judged(with("WW;;;", "WW;;;;")), no(5, 216));
     // 6
@@ -318,9 +489,9 @@ fn refusals_of_files() {
     assert_eq!(judged(with("ABCDATWW", "")), no(9, 216));
     assert_eq!(judged(with("060;006;;12.50", "060;054;;12.50")), no(9, 216));
     // 10
-    let parcel = "040;1000000000000000000001;;\r\n";
+    let parcel = "040;1000000000000000000007;;\r\n";
     assert_eq!(judged(with(parcel, &parcel.repeat(2))), no(10, 212));
-    let far = EXAMPLE.to_string() + &EXAMPLE[116..].replace("0001;;", "0002;;") + &EXAMPLE[116..];
+    let far = EXAMPLE.to_string() + &EXAMPLE[116..].replace("0007;;", "0014;;") + &EXAMPLE[116..];
     assert_eq!(judged(&far), no(10, 276 + 160 + 66));
     // 11
     for (words, start) in STARTS.into_iter().enumerate() {
@@ -356,7 +527,7 @@ fn the_order_of_refusals() {
         judge(with("12.50", "").as_bytes(), b"", &mut [7; 5]),
         no(9, 216)
     );
-    let parcel = "040;1000000000000000000001;;\r\n";
+    let parcel = "040;1000000000000000000007;;\r\n";
     let twice = with(parcel, &parcel.repeat(2));
     assert_eq!(judge(twice.as_bytes(), b"", &mut [7; 4]), no(10, 212));
     // 11 before 12.
@@ -407,14 +578,14 @@ fn contacts_are_needed_for_the_lent_countries() {
 fn another_shipment(country: &str, identcode: &str) -> String {
     EXAMPLE[116..216]
         .replace(";;;;AT;1020", &format!(";;;;{country};1020"))
-        .replace("1000000000000000000001", identcode)
+        .replace("1000000000000000000007", identcode)
 }
 
 #[test]
 fn each_sender_answers_for_its_own_shipments() {
     let [_, _, file] = without_contacts();
     let sender = |contacts: &str| format!("020;C;;;;AT;1010;Wien;;Gasse;;1;{contacts};;;\r\n");
-    let german = another_shipment("DE", "1000000000000000000002");
+    let german = another_shipment("DE", "1000000000000000000014");
     // "place the start of the first 030 line that needs it": not the sender's first.
     let later = file.clone() + &german;
     assert_eq!(judged_under(b"DE", &later), no(19, file.len()));
@@ -544,9 +715,9 @@ fn every_source_of_the_purpose() {
     // Each source is set while those before it stay empty.
     let name = "N".repeat(40);
     let mut file = with(";;;;B;;;;AT", &format!(";;;;{name};;;;AT"));
-    let joined = format!("1000000000000000000001/{name}");
+    let joined = format!("1000000000000000000007/{name}");
     assert_eq!(of(&file, 5), text(&joined[..35]));
-    file = file.replace("0001;;\r\n", &format!("0001;;{}\r\n", "p".repeat(64)));
+    file = file.replace("0007;;\r\n", &format!("0007;;{}\r\n", "p".repeat(64)));
     assert_eq!(of(&file, 5), text(&"p".repeat(35)));
     file = file.replace(";;2;;;;;;;;;;;;;;\r", ";;2;;;;;;;;;;alt;;;;\r");
     assert_eq!(of(&file, 5), text("alt"));
@@ -557,15 +728,15 @@ fn every_source_of_the_purpose() {
     file = file.replace("ABCDATWW;;", "ABCDATWW; ;");
     assert_eq!(of(&file, 5), text(" "));
     // The shipment's first parcel, not its last; the nearest shipment, not the first.
-    let second = "040;1000000000000000000002;;second\r\n";
+    let second = "040;1000000000000000000014;;second\r\n";
     let two = with("050;10", &format!("{second}050;10"));
-    assert_eq!(of(&two, 6), text("1000000000000000000001/B"));
+    assert_eq!(of(&two, 6), text("1000000000000000000007/B"));
     let next = EXAMPLE[116..]
-        .replace("0001;;", "0003;;")
+        .replace("0007;;", "0021;;")
         .replace(";B;", ";C;");
     let both = EXAMPLE.to_string() + &next;
-    assert_eq!(of(&both, 9), text("1000000000000000000003/C"));
-    assert_eq!(of(&both, 5), text("1000000000000000000001/B"));
+    assert_eq!(of(&both, 9), text("1000000000000000000021/C"));
+    assert_eq!(of(&both, 5), text("1000000000000000000007/B"));
 }
 
 #[test]
@@ -634,7 +805,7 @@ fn refusals_of_the_writer() {
     assert_eq!(write(50, "1;", &[2], 0, 0), no(8, 1));
     assert_eq!(write(50, "1x\r", &[1, 3], 0, 0), no(8, 2));
     assert_eq!(write(50, "1x\u{7F}", &[1, 2, 3], 0, 0), no(8, 3));
-    let identcode = "1000000000000000000001";
+    let identcode = "1000000000000000000007";
     assert_eq!(write(40, identcode, &[22; 3], 0, 0), no(13, 0));
     assert_eq!(write(40, &identcode[1..], &[21; 3], 0, 0), no(8, 1));
     // A sender without phone and mail is written.

@@ -1,5 +1,6 @@
-//! Answers requests on standard input by the static library, one a line: `number SYMBOLS`, `issue BODY` or `iban SYMBOLS`. Prints
-//! for each `tracking`, `label`, the number issued or `iban`; refused, `no NUMBER PLACE`. tests/outside.py asks.
+//! Answers requests on standard input by the static library, one a line: `number SYMBOLS`, `issue BODY`, `iban SYMBOLS`,
+//! `identcode CODE` or `issue-identcode BODY`. Prints for each `tracking`, `label`, the number issued, `iban` or `identcode`; refused,
+//! `no NUMBER PLACE`. tests/outside.py asks.
 
 use compare::{lent, library, Call, Left};
 use reference::generate::{IssueCall, Rng};
@@ -31,6 +32,11 @@ fn request(line: &[u8]) -> Option<Call> {
             body: symbols,
         })),
         b"iban" => Some(Call::Iban(symbols)),
+        b"identcode" => Some(Call::CheckIdentcode(symbols)),
+        b"issue-identcode" => Some(Call::IssueIdentcode(IssueCall {
+            output: symbols.len() + 1,
+            body: symbols,
+        })),
         _ => None,
     }
 }
@@ -43,11 +49,12 @@ fn answer(call: &Call, mut left: Left) -> String {
     match (call, &left.values[..]) {
         (Call::Check(_), [1]) => "tracking".to_string(),
         (Call::Check(_), [2]) => "label".to_string(),
-        (Call::Issue(_), [written]) => {
+        (Call::Issue(_) | Call::IssueIdentcode(_), [written]) => {
             let number = &lent(&mut left.output)[..*written as usize];
             String::from_utf8_lossy(number).into_owned()
         }
         (Call::Iban(_), []) => "iban".to_string(),
+        (Call::CheckIdentcode(_), []) => "identcode".to_string(),
         _ => format!("unknown {:?}", left.values),
     }
 }

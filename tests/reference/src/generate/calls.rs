@@ -87,6 +87,7 @@ fn damage_line(rng: &mut Rng, line: &mut Vec<u8>, times: usize) {
         Damage::Amount,
         Damage::DateTime,
         Damage::Iban,
+        Damage::Identcode,
         Damage::Feature,
         Damage::RecordType,
         Damage::Form,
@@ -310,9 +311,20 @@ pub struct IssueCall {
     pub output: usize,
 }
 
-/// Mostly a body in shape, sometimes damaged or with too short an output.
+/// A call that issues a tracking number or a label code.
 pub fn issue_call(rng: &mut Rng) -> IssueCall {
-    let mut body = number_body(rng);
+    let body = number_body(rng);
+    issue_call_of(rng, body)
+}
+
+/// A call that issues an identcode.
+pub fn identcode_issue_call(rng: &mut Rng) -> IssueCall {
+    let body = rng.digits(21);
+    issue_call_of(rng, body)
+}
+
+/// Mostly the body as it is, sometimes damaged or with too short an output.
+fn issue_call_of(rng: &mut Rng, mut body: Vec<u8>) -> IssueCall {
     if rng.percent(30) {
         let place = rng.below(body.len());
         match rng.below(4) {

@@ -48,6 +48,8 @@ pub enum Damage {
     DateTime,
     /// Puts a boundary value or a damaged one for an IBAN.
     Iban,
+    /// Damages an identcode in one way: its check digit, two neighbours, or a symbol.
+    Identcode,
     /// Changes a feature code.
     Feature,
     /// Changes a record type.
@@ -59,7 +61,7 @@ pub enum Damage {
 use Damage::*;
 
 impl Damage {
-    pub const ALL: [Damage; 29] = [
+    pub const ALL: [Damage; 30] = [
         FlipByte,
         InsertByte,
         DeleteByte,
@@ -86,6 +88,7 @@ impl Damage {
         Amount,
         DateTime,
         Iban,
+        Identcode,
         Feature,
         RecordType,
         Form,
@@ -336,6 +339,7 @@ fn damage_field(kind: Damage, rng: &mut Rng, lines: &mut Lines, line: usize) -> 
     let wanted: &[&[u8]] = match kind {
         Amount | Iban | Feature | EmptyNeeded => &[b"060"],
         DateTime => &[b"010"],
+        Identcode => &[b"040"],
         Form => &[b"010", b"020", b"030", b"040", b"060"],
         _ => &[b"010", b"020", b"030", b"040", b"050", b"060"],
     };
@@ -353,7 +357,7 @@ fn damage_field(kind: Damage, rng: &mut Rng, lines: &mut Lines, line: usize) -> 
     let number = match kind {
         Amount => 3,
         Iban => 6,
-        Feature => 1,
+        Feature | Identcode => 1,
         DateTime => rng.between(3, 4),
         EmptyNeeded => rng.pick(&[3, 4, 5, 6, 7, 9, 10]),
         EmptyRequired => rng.pick(record.required()),
@@ -400,6 +404,10 @@ fn damage_field(kind: Damage, rng: &mut Rng, lines: &mut Lines, line: usize) -> 
             };
             Outcome::Unknown
         }
+        Identcode => {
+            let outcome = damage_identcode(rng, field);
+            outcome.map_or(Outcome::Unknown, |number| Outcome::refused(number, start))
+        }
         Feature => {
             *field = match rng.percent(70) {
                 true => rng.pick(&FEATURES).to_vec(),
@@ -422,6 +430,32 @@ fn damage_field(kind: Damage, rng: &mut Rng, lines: &mut Lines, line: usize) -> 
                 .0
                 .to_vec();
             Outcome::Unknown
+        }
+    }
+}
+
+/// Damages an identcode that passed, in one way. Answers the refusal where the damage settles it.
+fn damage_identcode(rng: &mut Rng, code: &mut [u8]) -> Option<u32> {
+    if code.len() != 22 || !code.iter().all(u8::is_ascii_digit) {
+        return None; // damaged before
+    }
+    let place = rng.below(21);
+    match rng.below(3) {
+        0 => {
+            let other = rng.between(1, 9) as u8;
+            code[21] = b'0' + (code[21] - b'0' + other) % 10;
+            Some(8)
+        }
+        // Weights 3 and 1 change places: twice the difference is left, which 10 divides where the
+        // two differ by 5 or not at all.
+        1 => {
+            code.swap(place, place + 1);
+            let differ = code[place].abs_diff(code[place + 1]);
+            (differ % 5 != 0).then_some(8)
+        }
+        _ => {
+            code[rng.below(22)] = rng.pick(b"/:aAzZOIl -\xC4");
+            Some(8)
         }
     }
 }

@@ -75,10 +75,10 @@ fn base_lines() -> Vec<(Record, String)> {
             Record::R030,
             "1;2;;;;;DE;1010;;;;;;;;B;;;;AT;1020;Wien;;Gasse;;2;;;;;;;;;;;;;;".into(),
         ),
-        (Record::R040, "1000000000000000000001;;".into()),
+        (Record::R040, "1000000000000000000007;;".into()),
         (
             Record::R040,
-            "1000000000000000000001".to_string() + &";x".repeat(23),
+            "1000000000000000000007".to_string() + &";x".repeat(23),
         ),
         (Record::R050, "10".into()),
         (Record::R050, "10".to_string() + &";x".repeat(23)),

@@ -54,7 +54,7 @@ pub fn valid_file_of(rng: &mut Rng, lines: usize) -> Vec<u8> {
     let mut maker = Maker {
         style: Style::any(rng),
         identcodes: HashSet::new(),
-        latest: 0,
+        latest: None,
     };
     let mut file = Vec::new();
     let mut count = 0;
@@ -90,7 +90,7 @@ pub fn valid_file_of(rng: &mut Rng, lines: usize) -> Vec<u8> {
 struct Maker {
     style: Style,
     identcodes: HashSet<Vec<u8>>,
-    latest: u64,
+    latest: Option<Vec<u8>>,
 }
 
 impl Maker {
@@ -104,14 +104,14 @@ impl Maker {
         }
     }
 
-    /// A new identcode. Half of them differ from the latest in their last digits alone.
+    /// A new identcode that passes. Half of them differ from the latest in their last digits alone.
     fn identcode(&mut self, rng: &mut Rng) -> Vec<u8> {
         loop {
-            self.latest = match rng.percent(50) {
-                true => self.latest + 1,
-                false => rng.word() >> 2,
+            let code = match &self.latest {
+                Some(latest) if rng.percent(50) => identcode_of(following(&latest[..21])),
+                _ => valid_identcode(rng),
             };
-            let code = format!("{:022}", self.latest).into_bytes();
+            self.latest = Some(code.clone());
             if self.identcodes.insert(code.clone()) {
                 return code;
             }
@@ -192,4 +192,17 @@ impl Maker {
             _ => text(rng, style, width),
         }
     }
+}
+
+/// The digits of the next number; behind nines alone come zeros.
+fn following(digits: &[u8]) -> Vec<u8> {
+    let mut digits = digits.to_vec();
+    for digit in digits.iter_mut().rev() {
+        if *digit < b'9' {
+            *digit += 1;
+            break;
+        }
+        *digit = b'0';
+    }
+    digits
 }

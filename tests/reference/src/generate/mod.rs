@@ -12,14 +12,17 @@ mod files;
 mod values;
 
 pub use calls::{
-    issue_call, line_call, purpose_call, valid_writer_call, writer_call, IssueCall, LineCall,
-    PurposeCall, WriterCall,
+    identcode_issue_call, issue_call, line_call, purpose_call, valid_writer_call, writer_call,
+    IssueCall, LineCall, PurposeCall, WriterCall,
 };
 pub use countries::{countries, own};
 pub use damage::{damage, file_case, Damage, FileCase};
 pub use fields::{field_cases, FieldCase};
 pub use files::{put_together, take_apart, valid_file, valid_file_of, Lines};
-pub use values::{damaged_iban, damaged_number, valid_iban, valid_number};
+pub use values::{
+    damaged_iban, damaged_identcode, damaged_number, identcode_of, valid_iban, valid_identcode,
+    valid_number,
+};
 
 use crate::Refusal;
 

@@ -2,6 +2,7 @@
 //! field says of them (0 holds, 6 too long, 8 wrong form).
 
 use super::Rng;
+use crate::identcode::check_digit;
 use crate::numbers::{issue_number, remainder_by_97};
 use crate::profile::FEATURES;
 
@@ -170,15 +171,42 @@ pub const CARRIERS_OWN: &[Value] = &[
 
 /// 040.1
 pub const IDENTCODES: &[Value] = &[
-    (b"1000000000000000000001", 0),
+    (b"1000000000000000000007", 0),
+    (b"8546379003275981863426", 0),
+    (b"1012345123456781212349", 0),
     (b"0000000000000000000000", 0),
-    (b"9999999999999999999999", 0),
-    (b"100000000000000000001", 8),
+    (b"9999999999999999999993", 0),
+    // The remainder 0, which gives 0 and not 10.
+    (b"1700000000000000000000", 0),
+    (b"1700000000000000000001", 8),
+    (b"17000000000000000000010", 6),
+    // Other check digits: the next ones, the remainder itself, and that of weights 1, 3, 1, 3.
+    (b"1000000000000000000006", 8),
+    (b"1000000000000000000008", 8),
+    (b"1000000000000000000003", 8),
+    (b"8546379003275981863424", 8),
+    (b"1000000000000000000009", 8),
+    (b"1000000000000000000001", 8),
+    (b"9999999999999999999999", 8),
+    // Neighbours that differ by 5, and by another number, before and behind a swap.
+    (b"1600000000000000000001", 0),
+    (b"6100000000000000000001", 0),
+    (b"1500000000000000000002", 0),
+    (b"5100000000000000000002", 8),
+    (b"1000000000000000000038", 0),
+    (b"1000000000000000000083", 0),
+    (b"1000000000000000000070", 8),
+    (b"100000000000000000007", 8),
+    (b"100000000000000000000", 8),
     (b"1", 8),
     (b"100000000000000000000a", 8),
-    (b"10000000000 0000000001", 8),
+    (b"a000000000000000000007", 8),
+    (b"10000000000 0000000007", 8),
+    (b"10000000000/0000000007", 8),
+    (b"10000000000:0000000007", 8),
+    (b"100000000000000000000:", 8),
     (b"                      ", 8),
-    (b"10000000000000000000001", 6),
+    (b"10000000000000000000007", 6),
 ];
 
 /// 060.1 (the codes that hold are in the profile)
@@ -538,6 +566,36 @@ pub fn damaged_number(rng: &mut Rng) -> Vec<u8> {
         damage_symbols(rng, &mut number);
     }
     number
+}
+
+/// An identcode that passes.
+pub fn valid_identcode(rng: &mut Rng) -> Vec<u8> {
+    identcode_of(rng.digits(21))
+}
+
+/// A body of 21 digits and its check digit.
+pub fn identcode_of(mut body: Vec<u8>) -> Vec<u8> {
+    body.push(check_digit(&body));
+    body
+}
+
+/// An identcode that passed, then damaged; some still pass. Half of them fail in one way at most:
+/// by another check digit, another digit, two neighbours swapped, or a symbol that is no digit.
+pub fn damaged_identcode(rng: &mut Rng) -> Vec<u8> {
+    let mut code = valid_identcode(rng);
+    let place = rng.below(21);
+    match rng.below(8) {
+        0 => code[21] = rng.digit(),
+        1 => code[place] = rng.digit(),
+        2 => code.swap(place, place + 1),
+        3 => code[place] = rng.pick(b"/:aAzZOIl -"),
+        _ => {
+            for _ in 0..rng.between(1, 2) {
+                damage_symbols(rng, &mut code);
+            }
+        }
+    }
+    code
 }
 
 /// An IBAN that passes.
