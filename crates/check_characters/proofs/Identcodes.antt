@@ -25,12 +25,14 @@ use Rattle.text.proofs.Numbers.{eq-or-ne}
 use Rattle.text.proofs.Scans.{none-fails}
 use Rattle.check_characters.specs.Symbol.{valueOf, symbolOf}
 use Rattle.check_characters.specs.Answer.{roomFor, checkVerdict}
-use Rattle.check_characters.specs.Identcode.{parts, wrongInIdentcode, weightAt, weighedFrom, weighed, checkDigit, checkDigitOf, passes}
+use Rattle.check_characters.specs.Identcode.{position, parts, wrongInIdentcode, weightAt, weighedFrom, weighed, checkDigit, checkDigitOf, passes}
 use Rattle.check_characters.specs.Identcode.{checkedIdentcode, partsWhere, partsAnswer, identcodeAnswer}
 use Rattle.check_characters.specs.declared.answer.CheckAnswer.{CheckAnswer}
 use Rattle.check_characters.specs.declared.answer.CheckAnswer.the-variants.{Accepted, Refused}
 use Rattle.check_characters.specs.declared.answer.IssueAnswer.{IssueAnswer}
 use Rattle.check_characters.specs.declared.answer.IssueAnswer.the-variants as issue
+use Rattle.check_characters.specs.declared.identcode.Part.{Part}
+use Rattle.check_characters.specs.declared.identcode.Parts.{Parts}
 use Rattle.check_characters.specs.declared.identcode.PartsAnswer.the-variants as read
 use Rattle.check_characters.proofs.Symbols.{value-digit, low-symbol}
 
@@ -177,10 +179,14 @@ accepted-whole s e =
     }
 
 -- reading its parts
+pub all-six : (a b c d e f : Part) → a ≡ position 1 2 → b ≡ position 3 7 → c ≡ position 8 15 → d ≡ position 16 17 → e ≡ position 18 21 →
+    f ≡ position 22 22 → record { origin = a; customer = b; sequence = c; product = d; destination = e; check = f } ≡ parts
+all-six a b c d e f ea eb ec ed ee ef = rw (ea, eb, ec, ed, ee, ef)
+
 module _ (s : List ℕ) (a : CheckAnswer) (ea : a ≡ checkedIdentcode s) where
-  pub parts-read : a ≡ Accepted → read.Read parts ≡ partsAnswer s
+  pub parts-read : (found : Parts) → found ≡ parts → a ≡ Accepted → read.Read found ≡ partsAnswer s
   unfolding partsAnswer
-  parts-read e = ap partsWhere (sym e ∙ ea)
+  parts-read found f e = ap read.Read f ∙ ap partsWhere (sym e ∙ ea)
 
   pub parts-refused : (refusal : Refusal) → a ≡ Refused refusal → read.Refused refusal ≡ partsAnswer s
   unfolding partsAnswer

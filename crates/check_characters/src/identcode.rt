@@ -12,7 +12,7 @@ ghost use mathlib.Core.Path.{_≡_};
 ghost use Prim.Native.Nat.{_≤_, _<_};
 ghost use lib.ListN.{length, take};
 ghost use Rattle.check_characters.specs.Identcode.{wrongInIdentcode, weightAt, weighed, checkDigit, checkedIdentcode};
-ghost use Rattle.check_characters.specs.Identcode.{partsAnswer, IssuesIdentcode};
+ghost use Rattle.check_characters.specs.Identcode.{parts, partsAnswer, IssuesIdentcode};
 use crate::answer;
 use crate::answer::CheckAnswer;
 use crate::answer::IssueAnswer;
@@ -82,32 +82,7 @@ pub fn read_identcode(code: &[u8]) -> PartsAnswer
 {
     let answer = check_identcode(code);
     match answer {
-        CheckAnswer::Accepted => PartsAnswer::Read(Parts {
-            origin: Part {
-                start: 0,
-                length: 2,
-            },
-            customer: Part {
-                start: 2,
-                length: 5,
-            },
-            sequence: Part {
-                start: 7,
-                length: 8,
-            },
-            product: Part {
-                start: 15,
-                length: 2,
-            },
-            destination: Part {
-                start: 17,
-                length: 4,
-            },
-            check: Part {
-                start: 21,
-                length: 1,
-            },
-        }),
+        CheckAnswer::Accepted => PartsAnswer::Read(all_parts()),
         CheckAnswer::Refused(refusal) => PartsAnswer::Refused(refusal),
     }
 }
@@ -131,6 +106,29 @@ pub fn issue_identcode(body: &[u8], output: &mut [u8]) -> IssueAnswer
     }
     let check = check_digit(walk.sum);
     answer::issue(body, check, output)
+}
+
+// The parts where they stand in every identcode.
+fn all_parts() -> Parts
+    ensures { λ r. ⌜ r ≡ parts ⌝ }
+{
+    Parts {
+        origin: part_at(0, 2),
+        customer: part_at(2, 5),
+        sequence: part_at(7, 8),
+        product: part_at(15, 2),
+        destination: part_at(17, 4),
+        check: part_at(21, 1),
+    }
+}
+
+fn part_at(start: usize, length: usize) -> Part
+    ensures { λ r. ⌜ r ≡ record { start = start; length = length } ⌝ }
+{
+    Part {
+        start: start,
+        length: length,
+    }
 }
 
 // Walks over digits to the first symbol that is none, or the end.

@@ -1,8 +1,8 @@
 // The calls on DPD numbers, IBANs and identcodes.
 ghost use mathlib.Core.Path.{_≡_};
-ghost use Rattle.peliranopi.specs.Told.{kindNumber};
-ghost use Rattle.peliranopi.specs.Calls.{NumberTells, IssueTells, IbanTells, IdentcodeTells, PartsTells, IssueIdentcodeTells};
-ghost use Rattle.peliranopi.specs.Told.{inOrder};
+ghost use Rattle.check_characters.specs.Answer.{checkVerdict, issueVerdict};
+ghost use Rattle.peliranopi.specs.Told.{kindNumber, issuedTold, inOrder};
+ghost use Rattle.peliranopi.specs.Calls.{Tells, NumberTells, IssueTells, IbanTells, IdentcodeTells, PartsTells, IssueIdentcodeTells};
 use crate::tell;
 use check_characters::CheckAnswer;
 use check_characters::IssueAnswer;
@@ -37,39 +37,21 @@ pub extern "C" fn peliranopi_issue_number(
 ) -> u32
     ensures { λ r. ⌜ IssueTells (now (body .entry)) (now (output .entry)) r (now (written .exit)) (now (place .exit)) (now (output .exit)) ⌝ }
 {
-    let answer = check_characters::issue_number(body, output);
-    match answer {
-        IssueAnswer::Issued(bytes) => {
-            *written = bytes;
-            tell::accepted(place)
-        }
-        IssueAnswer::Refused(refusal) => {
-            *written = 0;
-            tell::refused(refusal, place)
-        }
-    }
+    tell_issued(check_characters::issue_number(body, output), written, place)
 }
 
 #[no_mangle]
 pub extern "C" fn peliranopi_check_iban(symbols: &[u8], place: &mut usize) -> u32
     ensures { λ r. ⌜ IbanTells (now (symbols .entry)) r (now (place .exit)) ⌝ }
 {
-    let answer = check_characters::check_iban(symbols);
-    match answer {
-        CheckAnswer::Accepted => tell::accepted(place),
-        CheckAnswer::Refused(refusal) => tell::refused(refusal, place),
-    }
+    tell_checked(check_characters::check_iban(symbols), place)
 }
 
 #[no_mangle]
 pub extern "C" fn peliranopi_check_identcode(code: &[u8], place: &mut usize) -> u32
     ensures { λ r. ⌜ IdentcodeTells (now (code .entry)) r (now (place .exit)) ⌝ }
 {
-    let answer = check_characters::check_identcode(code);
-    match answer {
-        CheckAnswer::Accepted => tell::accepted(place),
-        CheckAnswer::Refused(refusal) => tell::refused(refusal, place),
-    }
+    tell_checked(check_characters::check_identcode(code), place)
 }
 
 // The header has the twelve numbers as a struct of six parts.
@@ -104,7 +86,27 @@ pub extern "C" fn peliranopi_issue_identcode(
     ensures { λ r. ⌜ IssueIdentcodeTells (now (body .entry)) (now (output .entry)) r
         (now (written .exit)) (now (place .exit)) (now (output .exit)) ⌝ }
 {
-    let answer = check_characters::issue_identcode(body, output);
+    tell_issued(
+        check_characters::issue_identcode(body, output),
+        written,
+        place,
+    )
+}
+
+// What checking a number tells.
+fn tell_checked(answer: CheckAnswer, place: &mut usize) -> u32
+    ensures { λ r. ⌜ Tells (checkVerdict answer) r (now (place .exit)) ⌝ }
+{
+    match answer {
+        CheckAnswer::Accepted => tell::accepted(place),
+        CheckAnswer::Refused(refusal) => tell::refused(refusal, place),
+    }
+}
+
+// What issuing a number tells.
+fn tell_issued(answer: IssueAnswer, written: &mut usize, place: &mut usize) -> u32
+    ensures { λ r. ⌜ Tells (issueVerdict answer) r (now (place .exit)) × (now (written .exit) ≡ issuedTold answer) ⌝ }
+{
     match answer {
         IssueAnswer::Issued(bytes) => {
             *written = bytes;

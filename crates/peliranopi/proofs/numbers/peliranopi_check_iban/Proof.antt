@@ -8,11 +8,5 @@ use Rattle.peliranopi.proofs.numbers.peliranopi_check_iban.Tie as tie
 returns : tie.Need-returns
 returns c = search (needs, told-number checkVerdict, told-place checkVerdict)
 
-returns-2 : tie.Need-returns-2
-returns-2 c = search (needs, told-number checkVerdict, told-place checkVerdict)
-
 pub peliranopi-check-iban-spec : {M : Type 1} → statement M
-peliranopi-check-iban-spec =
-    tie.close
-    (tie.spec
-    (λ c κs. search needs) (λ c. search needs) (λ c κs. search needs) (λ c. search needs) (λ c κs. search needs) returns returns-2)
+peliranopi-check-iban-spec = tie.close (tie.spec (λ c κs. search needs) (λ c κs. search needs) returns)

@@ -9,12 +9,5 @@ use Rattle.peliranopi.proofs.numbers.peliranopi_issue_identcode.Tie as 
 returns : tie.Need-returns
 returns c = search (needs, told-number issueVerdict, told-place issueVerdict, told issuedTold, number-left)
 
-returns-2 : tie.Need-returns-2
-returns-2 c = search (needs, told-number issueVerdict, told-place issueVerdict, told issuedTold, number-left)
-
 pub peliranopi-issue-identcode-spec : {M : Type 1} → statement M
-peliranopi-issue-identcode-spec =
-    tie.close
-    (tie.spec
-    (λ c κs. search needs) (λ c. search needs) (λ c κs. search needs) (λ c. search needs) (λ c κs. search needs) (λ c. search needs) returns
-    (λ c. search needs) returns-2)
+peliranopi-issue-identcode-spec = tie.close (tie.spec (λ c κs. search needs) (λ c κs. search needs) (λ c. search needs) returns)
