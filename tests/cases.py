@@ -334,6 +334,9 @@ def identcode_order_cases():
     early = [header(f6="4")] + off[1:]
     yield "code_wrong_earlier_fault", refused(early, 8, place(early, 0, 6))
     yield "code_wrong_later_fault", refused(off[:5] + [feature("005")], 8, place(off, 3, 1))
+    yield "code_wrong_later_no_line_end", refused(render(off)[:-2], 8, place(off, 3, 1))
+    control = parcel(0, f1="1" + "0" * 10 + "\x7f" + "0" * 10)
+    yield "code_with_control_byte", refused(with_line(3, control), 2, place(with_line(3, control), 3, 1) + 11)
 
 
 def cases():
