@@ -1,0 +1,10 @@
+-- `numbers::tell_checked` meets its contract.
+use borrow.Author.Needs.{needs}
+use Rattle.peliranopi.proofs.numbers.tell_checked.Statement.{statement}
+use Rattle.peliranopi.proofs.numbers.tell_checked.Tie as tie
+
+pub tell-checked-spec : {M : Type 1} → statement M
+tell-checked-spec =
+    tie.close
+    (tie.spec
+    (λ c. search needs) (λ c κs. search needs) (λ c. search needs) (λ c κs. search needs) (λ c. search needs) (λ c. search needs))
