@@ -29,12 +29,13 @@ use Rattle.allowed.proofs.Files.{accepted-allowed}
 use Rattle.demands.specs.Marked.{example, lentWith, MarkedHold, AFileIsAllowed}
 
 pub marked-hold : MarkedHold
-unfolding valueOf symbolOf roomFor issuedTo weightAt checkDigit codePasses checkedIdentcode partsAnswer identcodeAnswer step passes shapeOf allowedInNumber checkedAs checkedNumber digitsOf barred soundOf allowedInIban checkedIban amount
-    pointed leadingZero cents digits allDigits dateTime like standsFor goodDay goodTime calendar daysIn leap capitals customer
-    version bic mail purposeText featureCodes isFeature codeOf named mayFollow mayCome mayEnd isCash profile widthInTable widthOf
-    isRequired hasForm tested isFilled serves isServed lacks endsWell textAnswer afterWalk ofKind ofNamed ofText lineAnswer isTyped cashIn
-    cashOf sameParcel repeats isPaired hasContacts contactsBehind lacksContact hasWord listing onLine stepAnswer judged isCashLine
-    fromShipment forFeature sourceOf
+unfolding valueOf symbolOf roomFor issuedTo weightAt checkDigit codePasses checkedIdentcode partsAnswer identcodeAnswer step passes
+    shapeOf allowedInNumber checkedAs checkedNumber digitsOf barred soundOf allowedInIban checkedIban amount pointed leadingZero cents
+    digits allDigits dateTime like standsFor goodDay goodTime calendar daysIn leap capitals customer version bic mail purposeText
+    featureCodes isFeature codeOf named mayFollow mayCome mayEnd isCash profile widthInTable widthOf isRequired hasForm tested
+    isFilled serves isServed lacks endsWell textAnswer afterWalk ofKind ofNamed ofText lineAnswer isTyped cashIn cashOf sameParcel
+    repeats isPaired hasContacts contactsBehind lacksContact hasWord listing onLine stepAnswer judged isCashLine fromShipment
+    forFeature sourceOf
 marked-hold = (
   refl,
   (
@@ -67,7 +68,16 @@ marked-hold = (
                               refl,
                               (
                                 refl,
-                                (refl, (refl, (refl, (refl, (refl, (refl, (refl, (refl, (refl, (refl, (refl, (refl, (refl, (refl, (refl, (refl, (refl, tt))))))))))))))))),
+                                (
+                                  refl,
+                                  (
+                                    refl,
+                                    (
+                                      refl,
+                                      (refl, (refl, (refl, (refl, (refl, (refl, (refl, (refl, (refl, (refl, (refl, (refl, (refl, (refl, tt)))))))))))))),
+                                    ),
+                                  ),
+                                ),
                               ),
                             ),
                           ),

@@ -1,7 +1,7 @@
 -- An identcode, its parts and a body to issue are refused exactly when their digits say so.
 use Prim.Native.Nat.{ℕ, _-_}
 use mathlib.Core.Path.{_≡_, refl, sym, ap, subst, _∙_}
-use mathlib.Core.Bool.{Bool, true, false, not}
+use mathlib.Core.Bool.{false, not}
 use mathlib.Core.List.{List}
 use mathlib.Core.Logic.{_⊎_, inl, inr, _↔_}
 use native.Mathlib.Omega.{arith}
@@ -14,12 +14,12 @@ use Rattle.refusal.specs.declared.Refusal.{Refusal}
 use Rattle.refusal.specs.declared.Reason.the-variants.{OutputTooShort, WrongLength, WrongSymbol, WrongCheck}
 use Rattle.refusal.proofs.Verdicts.{no-pass}
 use Rattle.check_characters.specs.Answer.{roomFor, issuedTo, checkVerdict, issueVerdict}
-use Rattle.check_characters.specs.Identcode.{wrongInIdentcode, checkDigitOf, passes, checkedIdentcode, parts, partsWhere, partsAnswer, partsVerdict}
+use Rattle.check_characters.specs.Identcode.{wrongInIdentcode, checkDigitOf, passes, checkedIdentcode, partsWhere, partsAnswer, partsVerdict}
 use Rattle.check_characters.specs.Identcode.{identcodeAnswer, IssuesIdentcode}
 use Rattle.check_characters.specs.declared.answer.CheckAnswer.{CheckAnswer}
 use Rattle.check_characters.specs.declared.answer.CheckAnswer.the-variants.{Accepted, Refused}
 use Rattle.check_characters.specs.declared.answer.IssueAnswer.the-variants.{Issued, Refused as NotIssued}
-use Rattle.check_characters.specs.declared.identcode.PartsAnswer.the-variants.{Read, Refused as NotRead}
+use Rattle.check_characters.specs.declared.identcode.PartsAnswer.the-variants.{Refused as NotRead}
 use Rattle.slips.specs.Exactly.{digitAnywhere, bodyOf, SoundIdentcode}
 use Rattle.slips.proofs.Shaping.{shaped-all, all-shaped}
 use Rattle.slips.proofs.Identcodes.{accepted-sound, sound-accepted}

@@ -1,7 +1,7 @@
 -- The identcode of a 040 line: on an allowed line it passes, and one that fails is refused by 8 where it stands.
 use Prim.Native.Nat.{ℕ, _+_, _≤_}
 use mathlib.Core.Path.{_≡_, refl, sym, _∙_}
-use mathlib.Core.Bool.{true, false}
+use mathlib.Core.Bool.{true}
 use mathlib.Core.List.{List, [], _∷_}
 use native.Mathlib.Omega.{arith}
 use lib.ListN.{length, drop}
@@ -13,7 +13,6 @@ use Rattle.fields.specs.Record.{typeOf}
 use Rattle.fields.specs.Form.{isIdentcode}
 use Rattle.fields.specs.Profile.{profile, widthInTable, widthOf, isRequired, hasForm}
 use Rattle.fields.specs.declared.record.Due.{Due}
-use Rattle.fields.specs.declared.record.Record.{Record}
 use Rattle.fields.specs.declared.record.Record.the-variants.{Parcel}
 use Rattle.fields.proofs.Forms.{accepted-is, not-accepted}
 use Rattle.line.specs.Parts.{fieldNo}
@@ -21,7 +20,7 @@ use Rattle.line.specs.Told.{Told}
 use Rattle.line.specs.Line.{lineAnswer, fileLimit}
 use Rattle.line.specs.declared.read.LineAnswer.the-variants.{Refused}
 use Rattle.grammar.specs.Grammar.{Filled, LineOk}
-use Rattle.refused.specs.Line.{Counted, FirstBad, RefusedField, RefusedLine, RefusedAt}
+use Rattle.refused.specs.Line.{Counted, RefusedField, RefusedLine, RefusedAt}
 use Rattle.refused.proofs.Lines.{line-refused-exactly}
 
 -- the row of 040.1: its form is the check, it must be filled, and it is 22 bytes wide

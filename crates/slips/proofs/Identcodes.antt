@@ -2,7 +2,7 @@
 -- which neighbours may be swapped.
 use Prim.Native.Nat.{ℕ, suc, _+_, _-_, _*_, _%_, _≤_, _<_}
 use mathlib.Core.Path.{_≡_, refl, sym, ap, _∙_}
-use mathlib.Core.Bool.{Bool, true, not, _||_}
+use mathlib.Core.Bool.{true, not, _||_}
 use mathlib.Core.List.{List, [], _∷_, _++_}
 use mathlib.Core.Logic.{_↔_, _⊎_, inl, inr, ⊎-elim}
 use native.Mathlib.Omega.{arith}
@@ -15,7 +15,7 @@ use Rattle.text.specs.Byte.{digit}
 use Rattle.text.specs.Scan.{all}
 use Rattle.text.proofs.Choices.{and-left, and-right, and-both, or-cases, clash}
 use Rattle.text.proofs.Finite.{every, every-at, told-apart}
-use Rattle.text.proofs.Numbers.{eq-or-ne, le-or-lt}
+use Rattle.text.proofs.Numbers.{eq-or-ne}
 use Rattle.text.proofs.Bytes.{digit-range}
 use Rattle.text.proofs.Runs.{all-append}
 use Rattle.text.proofs.Scans.{all-at, all-of}

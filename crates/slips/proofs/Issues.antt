@@ -13,7 +13,6 @@ use Rattle.refusal.specs.declared.Reason.the-variants.{WrongLength, WrongSymbol
 use Rattle.refusal.specs.Table.{because}
 use Rattle.refusal.proofs.Verdicts.{no-pass}
 use Rattle.text.specs.Byte.{symbol}
-use Rattle.text.specs.Choice.{if_then_else_}
 use Rattle.text.proofs.Choices.{came-then, came-else, true-or-false}
 use Rattle.text.proofs.Numbers.{le-or-lt}
 use Rattle.text.proofs.Finite.{every-at}

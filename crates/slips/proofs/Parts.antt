@@ -1,12 +1,11 @@
 -- The parts of an identcode: read exactly from a sound code, laid one behind the other with the manual's widths, and joined the code again.
 use Prim.Native.Nat.{ℕ, _+_}
 use mathlib.Core.Path.{_≡_, refl, sym, ap, _∙_}
-use mathlib.Core.List.{List, [], _∷_, _++_}
+use mathlib.Core.List.{List, [], _∷_}
 use mathlib.Core.Logic.{_↔_}
 use native.Mathlib.Omega.{arith}
 use lib.ListN.{length, take, drop}
 use lib.Seq.{take-all, take-add, drop-drop}
-use Rattle.refusal.specs.declared.Refusal.{Refusal}
 use Rattle.refusal.proofs.Verdicts.{no-pass}
 use Rattle.check_characters.specs.Identcode.{parts, checkedIdentcode, partsWhere, partsAnswer, partsVerdict}
 use Rattle.check_characters.specs.declared.answer.CheckAnswer.{CheckAnswer}
