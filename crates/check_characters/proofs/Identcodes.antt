@@ -26,7 +26,7 @@ use Rattle.text.proofs.Scans.{none-fails}
 use Rattle.check_characters.specs.Symbol.{valueOf, symbolOf}
 use Rattle.check_characters.specs.Answer.{roomFor, checkVerdict}
 use Rattle.check_characters.specs.Identcode.{position, parts, wrongInIdentcode, weightAt, weighedFrom, weighed, checkDigit, checkDigitOf, passes}
-use Rattle.check_characters.specs.Identcode.{checkedIdentcode, partsWhere, partsAnswer, identcodeAnswer}
+use Rattle.check_characters.specs.Identcode.{checkedIdentcode, partsWhere, partsAnswer, issueIdentcodeAnswer}
 use Rattle.check_characters.specs.declared.answer.CheckAnswer.{CheckAnswer}
 use Rattle.check_characters.specs.declared.answer.CheckAnswer.the-variants.{Accepted, Refused}
 use Rattle.check_characters.specs.declared.answer.IssueAnswer.{IssueAnswer}
@@ -194,17 +194,17 @@ module _ (s : List ℕ) (a : CheckAnswer) (ea : a ≡ checkedIdentcode s) where
 
 -- and issuing one
 module _ (body : List ℕ) (room : ℕ) where
-  pub identcode-length : (length body ≡ 21 → ⊥) → issue.Refused (because WrongLength 0) ≡ identcodeAnswer body room
-  unfolding identcodeAnswer
+  pub identcode-length : (length body ≡ 21 → ⊥) → issue.Refused (because WrongLength 0) ≡ issueIdentcodeAnswer body room
+  unfolding issueIdentcodeAnswer
   identcode-length n = simp (ne-eqb (length body) 21)
 
   module _ (long : length body ≡ 21) (wrong : ℕ) (ew : wrong ≡ wrongInIdentcode body) where
-    pub identcode-wrong : wrong < 21 → issue.Refused (because WrongSymbol wrong) ≡ identcodeAnswer body room
-    unfolding identcodeAnswer
+    pub identcode-wrong : wrong < 21 → issue.Refused (because WrongSymbol wrong) ≡ issueIdentcodeAnswer body room
+    unfolding issueIdentcodeAnswer
     identcode-wrong h = simp (eq-eqb (length body) 21, ← ew, lt-ltb wrong (length body) (omega arith))
 
-    pub identcode-right : (r : IssueAnswer) → 21 ≤ wrong → r ≡ roomFor (length body + 1) room → r ≡ identcodeAnswer body room
-    unfolding identcodeAnswer
+    pub identcode-right : (r : IssueAnswer) → 21 ≤ wrong → r ≡ roomFor (length body + 1) room → r ≡ issueIdentcodeAnswer body room
+    unfolding issueIdentcodeAnswer
     identcode-right r h e = simp (eq-eqb (length body) 21, ← ew, le-ltb wrong (length body) (omega arith)) (rw long at e)
 
     pub identcode-check : (sum check : ℕ) → 21 ≤ wrong → sum ≡ weighed (take wrong body) → check ≡ checkDigit sum → check ≡ checkDigitOf body

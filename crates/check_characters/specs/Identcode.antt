@@ -1,5 +1,6 @@
 -- Identcodes, the Post's codes of its parcels (document 02, request 2): what stands where in one, its check digit, and what checking
--- one, reading its parts and issuing one answer. Document 000, section 4.1, decides; its words are quoted by their English edition.
+-- one, reading its parts and issuing one answer. Document 000, section 4.1, decides; its words are quoted by their English
+-- edition, document 002.
 --
 -- The section's example has the digits 854637900327598186342. Weighed they make 204, which leaves 4 by 10: the check digit is 6
 -- (`example-identcode`), and 8546379003275981863426 passes. In its parts it is
@@ -96,8 +97,8 @@ unfoldable pub partsAnswer : List ℕ → PartsAnswer
 partsAnswer code = partsWhere (checkedIdentcode code)
 
 -- "issuing 16, 17, 13", with so many bytes of output
-unfoldable pub identcodeAnswer : List ℕ → ℕ → IssueAnswer
-identcodeAnswer body room =
+unfoldable pub issueIdentcodeAnswer : List ℕ → ℕ → IssueAnswer
+issueIdentcodeAnswer body room =
     if not (eqb (length body) 21) then issue.Refused (because WrongLength 0)
     else if ltb (wrongInIdentcode body) (length body) then issue.Refused (because WrongSymbol (wrongInIdentcode body))
     else roomFor 22 room
@@ -105,7 +106,7 @@ identcodeAnswer body room =
 -- the answer and the output that issuing allows
 abbrev pub IssuesIdentcode : List ℕ → List ℕ → IssueAnswer → List ℕ → Type 0
 IssuesIdentcode body output answer after =
-    (answer ≡ identcodeAnswer body (length output)) × (after ≡ issuedTo answer body (checkDigitOf body) output)
+    (answer ≡ issueIdentcodeAnswer body (length output)) × (after ≡ issuedTo answer body (checkDigitOf body) output)
 
 -- the paper's number and place for each answer
 abbrev pub partsVerdict : PartsAnswer → Verdict

@@ -9,7 +9,7 @@
 // 204 leaves 4 by 10, and 10 - 4 is 6. The check digit itself would weigh 1: so a code passes where all its 22 digits, weighed, leave
 // 0, here 210. That takes one walk.
 ghost use mathlib.Core.Path.{_≡_};
-ghost use Prim.Native.Nat.{_≤_, _<_};
+ghost use Prim.Native.Nat.{_≤_};
 ghost use lib.ListN.{length, take};
 ghost use Rattle.check_characters.specs.Identcode.{wrongInIdentcode, weightAt, weighed, checkDigit, checkedIdentcode};
 ghost use Rattle.check_characters.specs.Identcode.{partsAnswer, IssuesIdentcode};

@@ -8,7 +8,7 @@ use Rattle.check_characters.specs.Answer.{issuedTo}
 use Rattle.check_characters.specs.Mod37.{checkOf}
 use Rattle.check_characters.specs.Number.{issueAnswer, checkedNumber}
 use Rattle.check_characters.specs.Iban.{checkedIban}
-use Rattle.check_characters.specs.Identcode.{checkDigitOf, checkedIdentcode, partsAnswer, identcodeAnswer}
+use Rattle.check_characters.specs.Identcode.{checkDigitOf, checkedIdentcode, partsAnswer, issueIdentcodeAnswer}
 use Rattle.check_characters.specs.declared.answer.IssueAnswer.{IssueAnswer}
 use Rattle.fields.specs.Profile.{profile}
 use Rattle.fields.specs.Field.{tested}
@@ -76,7 +76,7 @@ pub read-identcode-unique : ReadIdentcodeUnique
 read-identcode-unique code = one-answer partsAnswer code
 
 pub issue-identcode-unique : IssueIdentcodeUnique
-issue-identcode-unique body out = one-output (identcodeAnswer body) body out (checkDigitOf body)
+issue-identcode-unique body out = one-output (issueIdentcodeAnswer body) body out (checkDigitOf body)
 
 pub read-line-unique : ReadLineUnique
 read-line-unique s = one-answer (lineAnswer (alone profile) s)

@@ -6,7 +6,7 @@ use Rattle.check_characters.specs.Answer.{roomFor, issuedTo}
 use Rattle.check_characters.specs.Mod37.{step, passes}
 use Rattle.check_characters.specs.Number.{shapeOf, checkedAs, allowedInNumber, checkedNumber}
 use Rattle.check_characters.specs.Iban.{digitsOf, barred, soundOf, allowedInIban, checkedIban}
-use Rattle.check_characters.specs.Identcode.{weightAt, checkDigit, passes as codePasses, checkedIdentcode, partsAnswer, identcodeAnswer}
+use Rattle.check_characters.specs.Identcode.{weightAt, checkDigit, passes as codePasses, checkedIdentcode, partsAnswer, issueIdentcodeAnswer}
 use Rattle.forms.specs.Shape.{allDigits, digits, capitals, customer, version, bic, mail, purposeText}
 use Rattle.forms.specs.Amount.{cents, pointed, leadingZero, amount}
 use Rattle.forms.specs.Date.{standsFor, like, leap, daysIn, calendar, goodDay, goodTime, dateTime}
@@ -29,7 +29,7 @@ use Rattle.allowed.proofs.Files.{accepted-allowed}
 use Rattle.demands.specs.Marked.{example, lentWith, MarkedHold, AFileIsAllowed}
 
 pub marked-hold : MarkedHold
-unfolding valueOf symbolOf roomFor issuedTo weightAt checkDigit codePasses checkedIdentcode partsAnswer identcodeAnswer step passes
+unfolding valueOf symbolOf roomFor issuedTo weightAt checkDigit codePasses checkedIdentcode partsAnswer issueIdentcodeAnswer step passes
     shapeOf allowedInNumber checkedAs checkedNumber digitsOf barred soundOf allowedInIban checkedIban amount pointed leadingZero cents
     digits allDigits dateTime like standsFor goodDay goodTime calendar daysIn leap capitals customer version bic mail purposeText
     featureCodes isFeature codeOf named mayFollow mayCome mayEnd isCash profile widthInTable widthOf isRequired hasForm tested

@@ -13,7 +13,7 @@ use Rattle.forms.specs.Date.{dateTime}
 use Rattle.check_characters.specs.Answer.{checkVerdict, issuedTo}
 use Rattle.check_characters.specs.Number.{numberVerdict, checkedNumber}
 use Rattle.check_characters.specs.Iban.{checkedIban}
-use Rattle.check_characters.specs.Identcode.{checkDigitOf, checkedIdentcode, partsAnswer, identcodeAnswer}
+use Rattle.check_characters.specs.Identcode.{checkDigitOf, checkedIdentcode, partsAnswer, issueIdentcodeAnswer}
 use Rattle.check_characters.specs.declared.identcode.PartsAnswer.{PartsAnswer}
 use Rattle.check_characters.specs.declared.identcode.PartsAnswer.the-variants.{Read, Refused as NotRead}
 use Rattle.slips.specs.Exactly.{digitsOf, inOrder}
@@ -79,7 +79,7 @@ Holds (file input countries answer starts) = judged input (lentWith countries) �
 Holds (purpose input n text) = purposeOf input n (lentWith "") ≡ bytes text
 Holds (identcode text verdict) = checkVerdict (checkedIdentcode (bytes text)) ≡ verdict
 Holds (parts text pieces) = cut (bytes text) (partsAnswer (bytes text)) ≡ map bytes pieces
-Holds (issued body text) = issuedTo (identcodeAnswer (bytes body) 22) (bytes body) (checkDigitOf (bytes body)) (replicate 22 0) ≡ bytes text
+Holds (issued body text) = issuedTo (issueIdentcodeAnswer (bytes body) 22) (bytes body) (checkDigitOf (bytes body)) (replicate 22 0) ≡ bytes text
 
 abbrev pub AllHold : List Case → Type 0
 AllHold [] = Unit {0}

@@ -17,8 +17,8 @@ two = treeAfter example one 1 30
 abbrev three : List ℕ
 three = treeAfter example two 2 60
 
-pub example-grows : (one ≡ 0 ∷ replicate 6 0) × (two ≡ 355598337 ∷ 0 ∷ 30 ∷ replicate 4 0)
-    × (three ≡ 355598337 ∷ 3276803 ∷ 30 ∷ 0 ∷ 60 ∷ replicate 2 0)
+pub example-grows : (one ≡ 0 ∷ replicate 6 0) × (two ≡ 338755585 ∷ 0 ∷ 30 ∷ replicate 4 0)
+    × (three ≡ 338755585 ∷ 3276803 ∷ 30 ∷ 0 ∷ 60 ∷ replicate 2 0)
 unfolding fork digitOf byteOf pairOf unlikeAt parted isThere grown hasRoom treeAfter
 example-grows = (refl, refl, refl)
 

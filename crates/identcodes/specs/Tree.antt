@@ -2,8 +2,8 @@
 -- fork: it names a digit of the identcode, a byte, and a pair of words. A code whose digit there is below the byte goes on at the first
 -- of the pair, any other at the second. A new code parts the leaf to which it comes.
 --
--- Of the three parcel lines below, which start at the offsets 0, 30 and 60, the row is 355598337 3276803 30 0 60 (`example-grows`):
--- word 0 asks digit 21 for `2` and has the pair 1 and 2, word 1 asks digit 0 for `2` and has the pair 3 and 4.
+-- Of the three parcel lines below, which start at the offsets 0, 30 and 60, the row is 338755585 3276803 30 0 60 (`example-grows`):
+-- word 0 asks digit 20 for `1` and has the pair 1 and 2, word 1 asks digit 0 for `2` and has the pair 3 and 4.
 use Prim.Native.Nat.{ℕ, zero, suc, _+_, _*_, _-_, _/_, _%_}
 use mathlib.Core.Path.{_≡_}
 use mathlib.Core.Bool.{Bool, false, _&&_}
@@ -16,7 +16,7 @@ use Rattle.identcodes.specs.declared.CodeAnswer.{CodeAnswer}
 use Rattle.identcodes.specs.declared.CodeAnswer.the-variants.{Known, New, NoRoom}
 
 abbrev pub example : List ℕ
-example = bytes "040;1000000000000000000001;;\r\n040;1000000000000000000002;;\r\n040;2000000000000000000001;;\r\n"
+example = bytes "040;1000000000000000000007;;\r\n040;1000000000000000000014;;\r\n040;2000000000000000000004;;\r\n"
 
 -- the identcode of the parcel line that starts here: the 22 digits behind `040;`
 abbrev pub identcodeAt : List ℕ → ℕ → List ℕ

@@ -7,9 +7,9 @@
 //
 // Three parcel lines that start at the offsets 0, 30 and 60, and the row behind each:
 //
-//     040;1000000000000000000001;;    0
-//     040;1000000000000000000002;;    355598337 0 30               digit 21 (counted from 0) below `2`: word 1, else word 2
-//     040;2000000000000000000001;;    355598337 3276803 30 0 60    word 1 parted: digit 0 below `2`: word 3, else word 4
+//     040;1000000000000000000007;;    0
+//     040;1000000000000000000014;;    338755585 0 30               digit 20 (counted from 0) below `1`: word 1, else word 2
+//     040;2000000000000000000004;;    338755585 3276803 30 0 60    word 1 parted: digit 0 below `2`: word 3, else word 4
 //
 // A fork asks for a byte and not a bit. On no way is a digit asked twice with the same byte, so that none has more than nine forks for
 // each of the 22 digits, whatever the codes and their order.

@@ -8,7 +8,7 @@ use Rattle.check_characters.specs.Answer.{issuedTo, checkVerdict, issueVerdict}
 use Rattle.check_characters.specs.Mod37.{checkOf}
 use Rattle.check_characters.specs.Number.{issueAnswer, numberVerdict, checkedNumber}
 use Rattle.check_characters.specs.Iban.{checkedIban}
-use Rattle.check_characters.specs.Identcode.{checkDigitOf, checkedIdentcode, partsAnswer, identcodeAnswer, partsVerdict}
+use Rattle.check_characters.specs.Identcode.{checkDigitOf, checkedIdentcode, partsAnswer, issueIdentcodeAnswer, partsVerdict}
 use Rattle.check_characters.specs.declared.answer.IssueAnswer.{IssueAnswer}
 use Rattle.fields.specs.Profile.{profile}
 use Rattle.line.specs.Line.{lineAnswer, lineVerdict, alone}
@@ -94,4 +94,4 @@ PartsTells code number parts place =
 -- issuing one
 abbrev pub IssueIdentcodeTells : List ℕ → List ℕ → ℕ → ℕ → ℕ → List ℕ → Type 0
 IssueIdentcodeTells body output number bytes place after =
-    IssuedTells (identcodeAnswer body (length output)) body (checkDigitOf body) output number bytes place after
+    IssuedTells (issueIdentcodeAnswer body (length output)) body (checkDigitOf body) output number bytes place after

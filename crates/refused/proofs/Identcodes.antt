@@ -15,7 +15,7 @@ use Rattle.refusal.specs.declared.Reason.the-variants.{OutputTooShort, WrongLen
 use Rattle.refusal.proofs.Verdicts.{no-pass}
 use Rattle.check_characters.specs.Answer.{roomFor, issuedTo, checkVerdict, issueVerdict}
 use Rattle.check_characters.specs.Identcode.{wrongInIdentcode, checkDigitOf, passes, checkedIdentcode, partsWhere, partsAnswer, partsVerdict}
-use Rattle.check_characters.specs.Identcode.{identcodeAnswer, IssuesIdentcode}
+use Rattle.check_characters.specs.Identcode.{issueIdentcodeAnswer, IssuesIdentcode}
 use Rattle.check_characters.specs.declared.answer.CheckAnswer.{CheckAnswer}
 use Rattle.check_characters.specs.declared.answer.CheckAnswer.the-variants.{Accepted, Refused}
 use Rattle.check_characters.specs.declared.answer.IssueAnswer.the-variants.{Issued, Refused as NotIssued}
@@ -92,8 +92,8 @@ parts-refused-exactly s refusal = (
 
 -- issuing
 module _ (body : List ℕ) (room : ℕ) where
-  issue-refused : (refusal : Refusal) → identcodeAnswer body room ≡ NotIssued refusal → RefusedIdentcodeIssue body room refusal
-  unfolding identcodeAnswer roomFor
+  issue-refused : (refusal : Refusal) → issueIdentcodeAnswer body room ≡ NotIssued refusal → RefusedIdentcodeIssue body room refusal
+  unfolding issueIdentcodeAnswer roomFor
   issue-refused refusal e =
       let wrong = wrongInIdentcode body in
       choice (not (eqb (length body) 21)) (NotIssued (because WrongLength 0)) _ (NotIssued refusal)
@@ -110,8 +110,8 @@ module _ (body : List ℕ) (room : ℕ) where
       is : (other : Refusal) → RefusedIdentcodeIssue body room other → NotIssued other ≡ NotIssued refusal → RefusedIdentcodeIssue body room refusal
       is other g e = let same : other ≡ refusal = cc in subst (RefusedIdentcodeIssue body room) same g
 
-  refused-issue : (refusal : Refusal) → RefusedIdentcodeIssue body room refusal → identcodeAnswer body room ≡ NotIssued refusal
-  unfolding identcodeAnswer roomFor
+  refused-issue : (refusal : Refusal) → RefusedIdentcodeIssue body room refusal → issueIdentcodeAnswer body room ≡ NotIssued refusal
+  unfolding issueIdentcodeAnswer roomFor
   refused-issue refusal (RefusedIdentcodeIssue.wrong-length n) = rw (ne-eqb (length body) 21 n)
   refused-issue refusal (RefusedIdentcodeIssue.wrong-symbol i n g) =
       rw (eq-eqb (length body) 21 n, there-wrong digitAnywhere body i g, lt-ltb i (length body) (g .inside))

@@ -18,7 +18,7 @@ use Rattle.text.proofs.Runs.{all-append}
 use Rattle.text.proofs.Scans.{all-at, all-of}
 use Rattle.text.proofs.Finite.{every-at}
 use Rattle.check_characters.specs.Answer.{roomFor, issueVerdict}
-use Rattle.check_characters.specs.Identcode.{wrongInIdentcode, weighed, checkDigitOf, identcodeAnswer, IssuesIdentcode}
+use Rattle.check_characters.specs.Identcode.{wrongInIdentcode, weighed, checkDigitOf, issueIdentcodeAnswer, IssuesIdentcode}
 use Rattle.check_characters.specs.declared.answer.IssueAnswer.{IssueAnswer}
 use Rattle.check_characters.specs.declared.answer.IssueAnswer.the-variants.{Issued, Refused}
 use Rattle.check_characters.proofs.Issuing.{room-enough, room-whole}
@@ -33,8 +33,8 @@ record Body (body : List ℕ) (n : ℕ) : Type 0 where
   shaped : Shaped digitAnywhere body
   whole : n ≡ 22
 
-body-of : (body : List ℕ) (room n : ℕ) → identcodeAnswer body room ≡ Issued n → Body body n
-unfolding identcodeAnswer
+body-of : (body : List ℕ) (room n : ℕ) → issueIdentcodeAnswer body room ≡ Issued n → Body body n
+unfolding issueIdentcodeAnswer
 body-of body room n e =
     let wrong = ltb (wrongInIdentcode body) (length body) in
     let a = came-else (not (eqb (length body) 21)) (Refused (because WrongLength 0))
