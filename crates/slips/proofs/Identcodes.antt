@@ -2,8 +2,8 @@
 -- which neighbours may be swapped.
 use Prim.Native.Nat.{ℕ, suc, _+_, _-_, _*_, _%_, _≤_, _<_}
 use mathlib.Core.Path.{_≡_, refl, sym, ap, _∙_}
-use mathlib.Core.Bool.{true, not, _||_}
-use mathlib.Core.List.{List, [], _∷_, _++_}
+use mathlib.Core.Bool.{true}
+use mathlib.Core.List.{List, _∷_, _++_}
 use mathlib.Core.Logic.{_↔_, _⊎_, inl, inr, ⊎-elim}
 use native.Mathlib.Omega.{arith}
 use native.Mathlib.Nat.{zero-add}
@@ -13,11 +13,11 @@ use lib.Seq.{split-at}
 use borrow.Author.Tests.{eqb-true, eq-eqb, le-ltb}
 use Rattle.text.specs.Byte.{digit}
 use Rattle.text.specs.Scan.{all}
-use Rattle.text.proofs.Choices.{and-left, and-right, and-both, or-cases, clash}
-use Rattle.text.proofs.Finite.{every, every-at, told-apart}
-use Rattle.text.proofs.Numbers.{eq-or-ne}
+use Rattle.text.proofs.Choices.{and-left, and-right, and-both, clash}
+use Rattle.text.proofs.Finite.{every-at, told-apart}
+use Rattle.text.proofs.Numbers.{eq-or-ne, le-or-lt}
 use Rattle.text.proofs.Bytes.{digit-range}
-use Rattle.text.proofs.Runs.{all-append}
+use Rattle.text.proofs.Runs.{all-append, all-apart}
 use Rattle.text.proofs.Scans.{all-at, all-of}
 use Rattle.check_characters.specs.Symbol.{valueOf}
 use Rattle.check_characters.specs.Identcode.{wrongInIdentcode, weightAt, weighedFrom, weighed, checkDigitOf, passes, checkedIdentcode}
@@ -76,13 +76,6 @@ sound-accepted s g =
 pub sound-leaves : (s : List ℕ) → SoundIdentcode s → weighed s % 10 ≡ 0
 sound-leaves s g = closed-leaves s (g .long) (g .shaped) (g .closed)
 
--- the digits in front of a place, and from it on
-digits-apart : (p q : List ℕ) → all digit (p ++ q) ≡ true → (all digit p ≡ true) × (all digit q ≡ true)
-digits-apart [] q e = (refl, e)
-digits-apart (b ∷ p) q e =
-    let r = digits-apart p q (and-right (digit b) (all digit (p ++ q)) e) in
-    (and-both (digit b) (all digit p) (and-left (digit b) (all digit (p ++ q)) e) (r .0), r .1)
-
 -- a code in pieces
 abbrev rest : List ℕ → List ℕ → ℕ
 rest p q = weighedFrom (suc (length p)) q
@@ -92,7 +85,7 @@ weighed-pieces p a q = weighed-append 0 p (a ∷ q) ∙ rw zero-add
 
 module _ (p : List ℕ) (a : ℕ) (q : List ℕ) (g : SoundIdentcode (p ++ a ∷ q)) where
   from-here : all digit (a ∷ q) ≡ true
-  from-here = digits-apart p (a ∷ q) (all-of digit (p ++ a ∷ q) (g .shaped)) .1
+  from-here = all-apart digit p (a ∷ q) (all-of digit (p ++ a ∷ q) (g .shaped)) .1
 
   is-digit : digit a ≡ true
   is-digit = and-left (digit a) (all digit q) from-here
@@ -107,8 +100,8 @@ module _ (p : List ℕ) (a : ℕ) (q : List ℕ) (g : SoundIdentcode (p ++ a ∷
   leaves = ap (λ (n : ℕ). n % 10) (omega (arith, weighed-pieces p a q)) ∙ sound-leaves (p ++ a ∷ q) g
 
 -- what a common part adds does not matter
-cancel : (c x y : ℕ) → (c + x) % 10 ≡ 0 → (c + y) % 10 ≡ 0 → x % 10 ≡ y % 10
-cancel c x y e f = omega arith
+cancel : (c x y : ℕ) → (c + x) % 10 ≡ (c + y) % 10 → x % 10 ≡ y % 10
+cancel c x y e = omega arith
 
 -- a weight tells two digits apart
 weight-tells : (i c x y : ℕ) → x < 10 → y < 10 → (c + weightAt i * x) % 10 ≡ 0 → (c + weightAt i * y) % 10 ≡ 0 → x ≡ y
@@ -117,23 +110,19 @@ weight-tells i c x y l m e f =
     (λ z. told-apart 10 (λ v w. 1 * v % 10) (λ v w. 1 * w % 10) refl x y l m (rw (← weight-one i z) at same)) (eq-or-ne (i % 2) 0)
   where
     same : weightAt i * x % 10 ≡ weightAt i * y % 10
-    same = cancel c (weightAt i * x) (weightAt i * y) e f
+    same = cancel c (weightAt i * x) (weightAt i * y) (e ∙ sym f)
 
--- two digits that weigh alike in either order are alike or five apart
-five-test : every 10 (λ x. every 10 (λ y. eqb x y || (eqb y (x + 5) || (eqb x (y + 5) || not (eqb ((3 * x + y) % 10) ((3 * y + x) % 10)))))) ≡ true
-five-test = refl
+-- two unlike digits that weigh alike in either order are five apart
+twice-left : (x : ℕ) → x < 10 → 2 * x % 10 ≡ 2 * (x % 5)
+twice-left x l = eqb-true (2 * x % 10) (2 * (x % 5)) (every-at 10 (λ v. eqb (2 * v % 10) (2 * (v % 5))) refl x l)
+
+five-apart-of : (x y : ℕ) → x < 10 → y < 10 → (x ≡ y → ⊥) → x % 5 ≡ y % 5 → FiveApart x y
+five-apart-of x y l m n e = ⊎-elim (λ k. inl (omega (arith, n))) (λ k. inr (omega arith)) (le-or-lt x y)
 
 weigh-alike : (x y : ℕ) → x < 10 → y < 10 → (x ≡ y → ⊥) → (3 * x + y) % 10 ≡ (3 * y + x) % 10 → FiveApart x y
 weigh-alike x y l m n e =
-    let alike = eqb ((3 * x + y) % 10) ((3 * y + x) % 10) in
-    let t = every-at 10 (λ y. eqb x y || (eqb y (x + 5) || (eqb x (y + 5) || not (eqb ((3 * x + y) % 10) ((3 * y + x) % 10)))))
-    (every-at 10 (λ x. every 10 (λ y. eqb x y || (eqb y (x + 5) || (eqb x (y + 5) || not (eqb ((3 * x + y) % 10) ((3 * y + x) % 10))))))
-    five-test x l) y m in
-    ⊎-elim (λ a. absurd (n (eqb-true x y a)))
-    (λ r. ⊎-elim (λ a. inl (eqb-true y (x + 5) a))
-    (λ r. ⊎-elim (λ a. inr (eqb-true x (y + 5) a)) (λ a. clash a (ap not (eq-eqb _ _ e))) (or-cases (eqb x (y + 5)) (not alike) r))
-    (or-cases (eqb y (x + 5)) (eqb x (y + 5) || not alike) r))
-    (or-cases (eqb x y) (eqb y (x + 5) || (eqb x (y + 5) || not alike)) t)
+    let twice = cancel (x + y) (2 * x) (2 * y) (ap (λ (k : ℕ). k % 10) (omega arith) ∙ e ∙ ap (λ (k : ℕ). k % 10) (omega arith)) in
+    five-apart-of x y l m n (omega (arith, twice, twice-left x l, twice-left y m))
 
 -- no two sound codes differ in one digit
 one-digit : (p : List ℕ) (a b : ℕ) (q : List ℕ) → SoundIdentcode (p ++ a ∷ q) → SoundIdentcode (p ++ b ∷ q) → a ≡ b
@@ -173,7 +162,7 @@ module _ (p : List ℕ) (a b : ℕ) (q : List ℕ) (n : a ≡ b → ⊥) (g : So
 
   pair-digits : (digit a ≡ true) × ((digit b ≡ true) × ((all digit p ≡ true) × (all digit q ≡ true)))
   pair-digits =
-      let w = digits-apart p (a ∷ b ∷ q) (all-of digit (p ++ a ∷ b ∷ q) (g .shaped)) in
+      let w = all-apart digit p (a ∷ b ∷ q) (all-of digit (p ++ a ∷ b ∷ q) (g .shaped)) in
       let r = and-right (digit a) (all digit (b ∷ q)) (w .1) in
       (and-left (digit a) (all digit (b ∷ q)) (w .1), (and-left (digit b) (all digit q) r, (w .0, and-right (digit b) (all digit q) r)))
 
@@ -201,8 +190,8 @@ module _ (p : List ℕ) (a b : ℕ) (q : List ℕ) (n : a ≡ b → ⊥) (g : So
       let l = value-is a (pair-digits .0) .1 in
       let m = value-is b (pair-digits .1 .0) .1 in
       ⊎-elim
-      (λ w. weigh-alike x y l m unlike (cancel (others p q) (3 * x + y) (3 * y + x) (again here (w .0)) (again e (w .1))))
-      (λ w. weigh-alike x y l m unlike (sym (cancel (others p q) (3 * y + x) (3 * x + y) (again here (w .0)) (again e (w .1)))))
+      (λ w. weigh-alike x y l m unlike (cancel (others p q) (3 * x + y) (3 * y + x) (again here (w .0) ∙ sym (again e (w .1)))))
+      (λ w. weigh-alike x y l m unlike (sym (cancel (others p q) (3 * y + x) (3 * x + y) (again here (w .0) ∙ sym (again e (w .1))))))
       (pair-weighs p q a b)
     where
       again : {n k : ℕ} → n % 10 ≡ 0 → n ≡ k → k % 10 ≡ 0

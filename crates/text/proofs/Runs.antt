@@ -73,6 +73,12 @@ module _ (ok : ℕ → Bool) where
   all-append (b ∷ f) g e d =
       and-both (ok b) (all ok (f ++ g)) (and-left (ok b) (all ok f) e) (all-append f g (and-right (ok b) (all ok f) e) d)
 
+  pub all-apart : (f g : List ℕ) → all ok (f ++ g) ≡ true → (all ok f ≡ true) × (all ok g ≡ true)
+  all-apart [] g e = (refl, e)
+  all-apart (b ∷ f) g e =
+      let r = all-apart f g (and-right (ok b) (all ok (f ++ g)) e) in
+      (and-both (ok b) (all ok f) (and-left (ok b) (all ok (f ++ g)) e) (r .0), r .1)
+
   pub run-past : (i : ℕ) (f : List ℕ) (x : ℕ) (rest : List ℕ) → all ok f ≡ true → ok x ≡ false →
       firstFailing (λ _ b. ok b) i (f ++ x ∷ rest) ≡ i + length f
   run-past i [] x rest e d = rw d (sym (add-zero i))
