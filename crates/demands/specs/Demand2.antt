@@ -37,7 +37,7 @@ use Rattle.grammar.specs.Written.{inOne, endsFrom, Writable, ReadsBack}
 use Rattle.writer.specs.declared.write.WriteAnswer.{WriteAnswer}
 use Rattle.writer.specs.declared.write.WriteAnswer.the-variants.{Written}
 use Rattle.allowed.specs.Allowed.{FileLine, AllowedFile, Accepts, identcodes}
-use Rattle.slips.specs.Exactly.{SoundNumber, SoundIban, SoundIdentcode, Divides, inOrder, joined, bodyOf}
+use Rattle.slips.specs.Exactly.{SoundNumber, SoundIban, SoundIdentcode, Divides, inOrder, digitsJoined, bodyOf}
 
 -- A file is accepted, with these totals and this list, exactly when it is allowed with the countries that were lent, the list has a
 -- word for each of its lines, the totals are those of its lines, and each word is where that line starts, every other 0. So a judge
@@ -136,7 +136,7 @@ PartsExactly =
 -- and joined again they are the code
 abbrev pub PartsJoined : Type 0
 PartsJoined =
-    (code : List ℕ) (parts : Parts) → partsAnswer code ≡ Read parts → joined code (inOrder parts) ≡ code
+    (code : List ℕ) (parts : Parts) → partsAnswer code ≡ Read parts → digitsJoined code (inOrder parts) ≡ code
 
 -- an identcode that is issued is accepted
 abbrev pub IssuedIdentcodeIsAccepted : Type 0

@@ -16,7 +16,7 @@ use Rattle.check_characters.specs.Iban.{checkedIban}
 use Rattle.check_characters.specs.Identcode.{checkDigitOf, checkedIdentcode, partsAnswer, issueIdentcodeAnswer}
 use Rattle.check_characters.specs.declared.identcode.PartsAnswer.{PartsAnswer}
 use Rattle.check_characters.specs.declared.identcode.PartsAnswer.the-variants.{Read, Refused as NotRead}
-use Rattle.slips.specs.Exactly.{digitsOf, inOrder}
+use Rattle.slips.specs.Exactly.{digitsIn, inOrder}
 use Rattle.file.specs.Lent.{Lent}
 use Rattle.file.specs.File.{judged}
 use Rattle.file.specs.declared.whole.FileAnswer.{FileAnswer}
@@ -53,7 +53,7 @@ lentWith countries = record { countries = bytes countries; words = 4096 }
 
 -- the digits of a code's parts, none where it is refused
 abbrev pub cut : List ℕ → PartsAnswer → List (List ℕ)
-cut code (Read parts) = map (λ part. digitsOf code part) (inOrder parts)
+cut code (Read parts) = map (λ part. digitsIn code part) (inOrder parts)
 cut code (NotRead refusal) = []
 
 -- what the paper says of an input: the verdict on a DPD number or an IBAN, whether an amount or a date-time holds; what judging a file

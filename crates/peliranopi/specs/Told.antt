@@ -103,8 +103,8 @@ kindTold (checked.Accepted kind) = kindNumber kind
 kindTold (checked.Refused refusal) = 0
 
 -- of an identcode: where each of its six parts starts, and how many digits it has, twelve numbers in the parts' order
-abbrev pub inOrder : Parts → List ℕ
-inOrder parts =
+abbrev pub asNumbers : Parts → List ℕ
+asNumbers parts =
     parts .origin .start ∷ parts .origin .length ∷
     parts .customer .start ∷ parts .customer .length ∷
     parts .sequence .start ∷ parts .sequence .length ∷
@@ -113,5 +113,5 @@ inOrder parts =
     parts .check .start ∷ parts .check .length ∷ []
 
 abbrev pub partsTold : PartsAnswer → List ℕ
-partsTold (divided.Read parts) = inOrder parts
+partsTold (divided.Read parts) = asNumbers parts
 partsTold (divided.Refused refusal) = replicate 12 0

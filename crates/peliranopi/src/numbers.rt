@@ -1,7 +1,7 @@
 // The calls on DPD numbers, IBANs and identcodes.
 ghost use mathlib.Core.Path.{_≡_};
 ghost use Rattle.check_characters.specs.Answer.{checkVerdict, issueVerdict};
-ghost use Rattle.peliranopi.specs.Told.{kindNumber, issuedTold, inOrder};
+ghost use Rattle.peliranopi.specs.Told.{kindNumber, issuedTold, asNumbers};
 ghost use Rattle.peliranopi.specs.Calls.{Tells, NumberTells, IssueTells, IbanTells, IdentcodeTells, PartsTells, IssueIdentcodeTells};
 use crate::tell;
 use check_characters::CheckAnswer;
@@ -66,7 +66,7 @@ pub extern "C" fn peliranopi_read_identcode(
     let answer = check_characters::read_identcode(code);
     match answer {
         PartsAnswer::Read(found) => {
-            *parts = in_order(found);
+            *parts = as_numbers(found);
             tell::accepted(place)
         }
         PartsAnswer::Refused(refusal) => {
@@ -120,8 +120,8 @@ fn tell_issued(answer: IssueAnswer, written: &mut usize, place: &mut usize) -> u
 }
 
 // Where each part starts and how many digits it has, part by part.
-fn in_order(parts: Parts) -> [usize; 12]
-    ensures { λ r. ⌜ r ≡ inOrder parts ⌝ }
+fn as_numbers(parts: Parts) -> [usize; 12]
+    ensures { λ r. ⌜ r ≡ asNumbers parts ⌝ }
 {
     [
         parts.origin.start,

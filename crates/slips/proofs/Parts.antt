@@ -13,7 +13,7 @@ use Rattle.check_characters.specs.declared.answer.CheckAnswer.the-variants.{Acc
 use Rattle.check_characters.specs.declared.identcode.Part.{Part}
 use Rattle.check_characters.specs.declared.identcode.Parts.{Parts}
 use Rattle.check_characters.specs.declared.identcode.PartsAnswer.the-variants as read
-use Rattle.slips.specs.Exactly.{SoundIdentcode, inOrder, Laid, Divides, joined}
+use Rattle.slips.specs.Exactly.{SoundIdentcode, inOrder, Laid, Divides, digitsJoined}
 use Rattle.slips.proofs.Identcodes.{accepted-sound, sound-accepted}
 
 -- the digits of parts that have these widths
@@ -60,14 +60,14 @@ parts-exactly code p = (
 )
 
 -- parts that are laid one behind the other, joined, are what lies from the first on
-laid-joined : (code : List ℕ) (at : ℕ) (ps : List Part) (ws : List ℕ) → Laid at ps ws → joined code ps ≡ take (total ws) (drop at code)
+laid-joined : (code : List ℕ) (at : ℕ) (ps : List Part) (ws : List ℕ) → Laid at ps ws → digitsJoined code ps ≡ take (total ws) (drop at code)
 laid-joined code at [] [] l = refl
 laid-joined code at [] (w ∷ ws) l = absurd l
 laid-joined code at (p ∷ ps) [] l = absurd l
 laid-joined code at (p ∷ ps) (w ∷ ws) (e, f, l) =
     rw (e, f, laid-joined code (at + w) ps ws l, ← drop-drop w at code, ← take-add w (total ws) (drop at code))
 
-pub parts-joined : (code : List ℕ) (p : Parts) → partsAnswer code ≡ read.Read p → joined code (inOrder p) ≡ code
+pub parts-joined : (code : List ℕ) (p : Parts) → partsAnswer code ≡ read.Read p → digitsJoined code (inOrder p) ≡ code
 parts-joined code p e =
     let g = parts-exactly code p .0 e in
     laid-joined code 0 (inOrder p) (2 ∷ 5 ∷ 8 ∷ 2 ∷ 4 ∷ 1 ∷ []) (g .1) ∙ take-all 22 code (omega (arith, g .0 .long))

@@ -65,9 +65,9 @@ abbrev pub Divides : Parts → Type 0
 Divides parts = Laid 0 (inOrder parts) (2 ∷ 5 ∷ 8 ∷ 2 ∷ 4 ∷ 1 ∷ [])
 
 -- the digits of a part, and those of parts joined
-abbrev pub digitsOf : List ℕ → Part → List ℕ
-digitsOf code part = take (part .length) (drop (part .start) code)
+abbrev pub digitsIn : List ℕ → Part → List ℕ
+digitsIn code part = take (part .length) (drop (part .start) code)
 
-abbrev pub joined : List ℕ → List Part → List ℕ
-joined code [] = []
-joined code (part ∷ parts) = digitsOf code part ++ joined code parts
+abbrev pub digitsJoined : List ℕ → List Part → List ℕ
+digitsJoined code [] = []
+digitsJoined code (part ∷ parts) = digitsIn code part ++ digitsJoined code parts
