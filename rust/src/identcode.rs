@@ -6,7 +6,7 @@ use peliranopi_sys as sys;
 
 use crate::refusal::{accepted, Refusal};
 
-/// The six parts of an identcode, each as its part of the code; [`read_identcode`] gives them.
+/// The six parts of an identcode, each as its range in the code; [`read_identcode`] gives them.
 #[derive(Clone, Debug, PartialEq, Eq, Hash)]
 pub struct IdentcodeParts {
     /// The country it comes from, or the partner: 2 digits.
@@ -70,12 +70,14 @@ pub fn read_identcode(code: &[u8]) -> Result<IdentcodeParts, Refusal> {
     })
 }
 
+/// A part as a range. Should another library be linked that tells nonsense, it ends at the last
+/// number there is: nothing panics.
 fn range(part: sys::peliranopi_part) -> Range<usize> {
     part.start..part.start.saturating_add(part.length)
 }
 
 /// Issues the identcode that has this body, which is its parts without the check, joined (21
-/// digits): writes body and check digit at the output's start, and answers how many bytes that are,
+/// digits): writes body and check digit at the output's start, and answers how many bytes that is,
 /// 22.
 ///
 /// Every other byte of the output stays as it was; on a refusal all of them do.

@@ -1,6 +1,6 @@
 //! The dispatch core of a carrier desk: judges, reads and writes Austrian Post pre-advice flat
-//! files (version 5), works out payment purposes, checks and issues identcodes and DPD parcel
-//! numbers, and checks IBANs.
+//! files (version 5), works out payment purposes, checks, reads and issues identcodes, checks
+//! and issues DPD parcel numbers, and checks IBANs.
 //!
 //! These are safe functions over the static library of Peliranopi, which is for x86-64 and whose
 //! code is proved. Each takes every input, ends, and answers or refuses; a refusal has its number in

@@ -25,7 +25,7 @@ use Rattle.text.proofs.Numbers.{eq-or-ne}
 use Rattle.text.proofs.Scans.{none-fails}
 use Rattle.check_characters.specs.Symbol.{valueOf, symbolOf}
 use Rattle.check_characters.specs.Answer.{roomFor, checkVerdict}
-use Rattle.check_characters.specs.Identcode.{position, parts, wrongInIdentcode, weightAt, weighedFrom, weighed, checkDigit, checkDigitOf, passes}
+use Rattle.check_characters.specs.Identcode.{allowedInIdentcode, position, parts, wrongInIdentcode, weightAt, weighedFrom, weighed, checkDigit, checkDigitOf, passes}
 use Rattle.check_characters.specs.Identcode.{checkedIdentcode, partsWhere, partsAnswer, issueIdentcodeAnswer}
 use Rattle.check_characters.specs.declared.answer.CheckAnswer.{CheckAnswer}
 use Rattle.check_characters.specs.declared.answer.CheckAnswer.the-variants.{Accepted, Refused}
@@ -108,7 +108,7 @@ digit-is sum =
 -- a check digit weighs 1, so that a code passes where all its digits, weighed, leave 0
 module _ (s : List ℕ) (long : length s ≡ 22) (fine : length s ≤ wrongInIdentcode s) where
   pub code-digit : (i : ℕ) → i < length s → digit (getD s i 0) ≡ true
-  code-digit i l = none-fails (λ i b. digit b) 0 s (omega arith) i l
+  code-digit i l = none-fails allowedInIdentcode 0 s (omega arith) i l
 
   pub code-weighs : weighed s ≡ weighed (take 21 s) + (getD s 21 0 - 48)
   code-weighs =

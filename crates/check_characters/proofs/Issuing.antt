@@ -21,21 +21,22 @@ use Rattle.check_characters.specs.declared.number.Kind.the-variants.{Tra
 use Rattle.check_characters.specs.declared.answer.IssueAnswer.{IssueAnswer}
 use Rattle.check_characters.specs.declared.answer.IssueAnswer.the-variants.{Issued, Refused}
 
+module _ (n room : ℕ) where
+  pub room-short : room ≤ n → Refused (because OutputTooShort 0) ≡ roomFor (n + 1) room
+  unfolding roomFor
+  room-short l = simp (lt-ltb room (n + 1) (omega arith))
+
+  pub room-there : n < room → Issued (n + 1) ≡ roomFor (n + 1) room
+  unfolding roomFor
+  room-there l = simp (le-ltb room (n + 1) (omega arith))
+
 module _ (whole room : ℕ) where
-  pub room-short : room < whole → Refused (because OutputTooShort 0) ≡ roomFor whole room
-  unfolding roomFor
-  room-short l = simp (lt-ltb room whole)
-
-  pub room-enough : whole ≤ room → Issued whole ≡ roomFor whole room
-  unfolding roomFor
-  room-enough l = simp (le-ltb room whole)
-
   pub room-whole : (n : ℕ) → roomFor whole room ≡ Issued n → n ≡ whole
   unfolding roomFor
   room-whole n e = let w = came-else (ltb room whole) (Refused (because OutputTooShort 0)) (Issued whole) (Issued n) (no-pass issueVerdict refl refl) e in cc
 
 -- the body placed at the start, and the check behind it
-pub issue-written : (body out placedOut : List ℕ) (check : ℕ) → length body + 1 ≤ length out → placedOut ≡ placed out 0 body →
+pub issue-written : (body out placedOut : List ℕ) (check : ℕ) → length body < length out → placedOut ≡ placed out 0 body →
     set placedOut (length body) check ≡ issuedTo (Issued (length body + 1)) body check out
 unfolding placed issuedTo
 issue-written body out placedOut check h ep =

@@ -60,8 +60,3 @@ has-last Label n e = omega arith
 
 pub last-inside : (k : Kind) (s : List ℕ) → length s ≡ lengthOf k → length s - 1 < length s
 last-inside k s e = omega (arith, has-last k (length s) e)
-
--- and a body of at most 27
-pub body-short : (k : Kind) (body : List ℕ) → length body + 1 ≡ lengthOf k → length body ≤ 27
-body-short Tracking body e = omega arith
-body-short Label body e = omega arith

@@ -1,6 +1,6 @@
 -- Identcodes, the Post's codes of its parcels (document 02, request 2): what stands where in one, its check digit, and what checking
--- one, reading its parts and issuing one answer. Document 000, section 4.1, decides; its words are quoted by their English
--- edition, document 002.
+-- one, reading its parts and issuing one answer. Section 4.1 of document 000 gives the parts and their widths, and its
+-- 4.1.6 decides on the check digit; both are quoted by their English edition, document 002.
 --
 -- The section's example has the digits 854637900327598186342. Weighed they make 204, which leaves 4 by 10: the check digit is 6
 -- (`example-identcode`), and 8546379003275981863426 passes. In its parts it is
@@ -44,17 +44,21 @@ parts =
       customer = position 3 7;
       -- "Sequential Number. Position: 8-15 (N8)"
       sequence = position 8 15;
-      -- "Product-Process-Code. Position: 16-17 (N2)"
+      -- "Product-Process-Code (PPC). Position: 16-17 (N2)"
       product = position 16 17;
-      -- "Destination - postal code - or country. Position: 18-21 (N4)"
+      -- "Destination - postal code - or country (if not AT). Position: 18-21 (N4)"
       destination = position 18 21;
-      -- "Checksum. Position: 22 (N1)"
+      -- "Checksum [..]. Position: 22 (N1)"
       check = position 22 22;
     }
 
--- "N": the place of the first symbol that is not a digit
+-- "N": a digit stands at every place
+abbrev pub allowedInIdentcode : ℕ → ℕ → Bool
+allowedInIdentcode i b = digit b
+
+-- the place of the first symbol that is none
 abbrev pub wrongInIdentcode : List ℕ → ℕ
-wrongInIdentcode code = firstFailing (λ i b. digit b) 0 code
+wrongInIdentcode code = firstFailing allowedInIdentcode 0 code
 
 -- "The weighting factor 3,1,3,1 [..] starting with 3 [..] from left to right": the weight at the place i
 unfoldable pub weightAt : ℕ → ℕ

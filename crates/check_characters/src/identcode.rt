@@ -115,16 +115,7 @@ pub fn issue_identcode(body: &[u8], output: &mut [u8]) -> IssueAnswer
     answer::issue(body, check, output)
 }
 
-fn part_at(start: usize, length: usize) -> Part
-    ensures { λ r. ⌜ r ≡ record { start = start; length = length } ⌝ }
-{
-    Part {
-        start: start,
-        length: length,
-    }
-}
-
-// Walks over digits to the first symbol that is none, or the end.
+// Walks over digits to the first symbol that is no digit, or the end.
 fn weigh(digits: &[u8]) -> Walk
     requires { ⌜ length (now digits) ≤ 22 ⌝ }
     ensures { λ r. ⌜ (r .wrong ≡ wrongInIdentcode (now (digits .entry)))
@@ -162,4 +153,14 @@ fn check_digit(sum: u32) -> u8
         return b'0';
     }
     b'0' + (10 - left)
+}
+
+// A part that starts here and has so many digits.
+fn part_at(start: usize, length: usize) -> Part
+    ensures { λ r. ⌜ r ≡ record { start = start; length = length } ⌝ }
+{
+    Part {
+        start: start,
+        length: length,
+    }
 }

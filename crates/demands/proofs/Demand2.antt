@@ -41,6 +41,7 @@ use Rattle.demands.specs.Demand2.{
   PartsJoined,
   IssuedIdentcodeIsAccepted,
   AcceptedIdentcodeIsIssued,
+  PartsIssuedAgain,
   EachPasses,
   CodesPass,
 }
@@ -100,6 +101,10 @@ issued-identcode-is-accepted body out after n h = identcodes.sound-accepted (tak
 pub accepted-identcode-is-issued : AcceptedIdentcodeIsIssued
 accepted-identcode-is-issued code out after answer e room h =
     codes.sound-issued code out after answer (identcodes.accepted-sound code e) room h
+
+pub parts-issued-again : PartsIssuedAgain
+parts-issued-again code out after p answer e room h =
+    codes.sound-issued code out after answer (parts.parts-exactly code p .0 e .0) room (rw (parts.parts-body code p e) at h)
 
 pub codes-pass : CodesPass
 codes-pass countries s ls g = go ls (g .lines)

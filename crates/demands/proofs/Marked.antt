@@ -74,7 +74,7 @@ marked-hold = (
                                     refl,
                                     (
                                       refl,
-                                      (refl, (refl, (refl, (refl, (refl, (refl, (refl, (refl, (refl, (refl, (refl, (refl, (refl, (refl, tt)))))))))))))),
+                                      (refl, (refl, (refl, (refl, (refl, (refl, (refl, (refl, (refl, (refl, (refl, (refl, (refl, (refl, (refl, (refl, tt)))))))))))))))),
                                     ),
                                   ),
                                 ),

@@ -1,4 +1,5 @@
 -- Proofs of the statements in specs/Refusals.
+use mathlib.Core.Path.{refl}
 use Rattle.fields.specs.Profile.{profile}
 use Rattle.line.specs.Line.{alone}
 use Rattle.refused.proofs.Lines as lines
@@ -29,6 +30,7 @@ use Rattle.demands.specs.Refusals.{
   PartsRefusedExactly,
   IssueIdentcodeRefusedExactly,
   FailingCodeRefused,
+  FailingCodeRefusesFile,
   LineAlwaysOne,
   LineNeverBoth,
   FieldAlwaysOne,
@@ -93,6 +95,10 @@ issue-identcode-refused-exactly = identcodes.identcode-issue-refused-exactly
 
 pub failing-code-refused : FailingCodeRefused
 failing-code-refused = parcels.failing-code
+
+pub failing-code-refuses-file : FailingCodeRefusesFile
+failing-code-refuses-file s lent ls left code more begins room counted filled narrow fails =
+    files.refused-exactly s lent _ _ .1 (parcels.failing-file s lent ls left code more begins room counted filled narrow fails, refl)
 
 pub line-always-one : LineAlwaysOne
 line-always-one = either.line-always-one (alone profile)

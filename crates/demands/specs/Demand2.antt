@@ -37,7 +37,7 @@ use Rattle.grammar.specs.Written.{inOne, endsFrom, Writable, ReadsBack}
 use Rattle.writer.specs.declared.write.WriteAnswer.{WriteAnswer}
 use Rattle.writer.specs.declared.write.WriteAnswer.the-variants.{Written}
 use Rattle.allowed.specs.Allowed.{FileLine, AllowedFile, Accepts, identcodes}
-use Rattle.slips.specs.Exactly.{SoundNumber, SoundIban, SoundIdentcode, Divides, inOrder, digitsJoined, bodyOf}
+use Rattle.slips.specs.Exactly.{SoundNumber, SoundIban, SoundIdentcode, Divides, inOrder, withoutCheck, digitsJoined, bodyOf}
 
 -- A file is accepted, with these totals and this list, exactly when it is allowed with the countries that were lent, the list has a
 -- word for each of its lines, the totals are those of its lines, and each word is where that line starts, every other 0. So a judge
@@ -148,6 +148,13 @@ abbrev pub AcceptedIdentcodeIsIssued : Type 0
 AcceptedIdentcodeIsIssued =
     (code output after : List ℕ) (answer : IssueAnswer) → checkedIdentcode code ≡ Passed → length code ≤ length output →
     IssuesIdentcode (bodyOf code) output answer after → (answer ≡ Issued (length code)) × (after ≡ code ++ drop (length code) output)
+
+-- "issue a code from its parts, joined without the check": those of an accepted code give the code again
+abbrev pub PartsIssuedAgain : Type 0
+PartsIssuedAgain =
+    (code output after : List ℕ) (parts : Parts) (answer : IssueAnswer) → partsAnswer code ≡ Read parts → length code ≤ length output →
+    IssuesIdentcode (digitsJoined code (withoutCheck parts)) output answer after →
+    (answer ≡ Issued (length code)) × (after ≡ code ++ drop (length code) output)
 
 -- "040.1 must pass from now on": each identcode of an allowed file does
 abbrev pub EachPasses : List (List ℕ) → Type 0

@@ -40,10 +40,11 @@ exampleOf sender parcel =
 abbrev pub example : List ℕ
 example = exampleOf "020;A;;;;AT;1010;Wien;;Gasse;;1;1;a@b;;;" "040;1000000000000000000007;;"
 
--- the same without the sender's phone, and with the identcode that it had
+-- the same without the sender's phone
 abbrev pub unreachable : List ℕ
 unreachable = exampleOf "020;A;;;;AT;1010;Wien;;Gasse;;1;;a@b;;;" "040;1000000000000000000007;;"
 
+-- the example with the identcode that it had, which fails
 abbrev pub failing : List ℕ
 failing = exampleOf "020;A;;;;AT;1010;Wien;;Gasse;;1;1;a@b;;;" "040;1000000000000000000001;;"
 
@@ -52,9 +53,9 @@ abbrev pub lentWith : String → Lent
 lentWith countries = record { countries = bytes countries; words = 4096 }
 
 -- the digits of a code's parts, none where it is refused
-abbrev pub cut : List ℕ → PartsAnswer → List (List ℕ)
-cut code (Read parts) = map (λ part. digitsIn code part) (inOrder parts)
-cut code (NotRead refusal) = []
+abbrev pub piecesOf : List ℕ → PartsAnswer → List (List ℕ)
+piecesOf code (Read parts) = map (λ part. digitsIn code part) (inOrder parts)
+piecesOf code (NotRead refusal) = []
 
 -- what the paper says of an input: the verdict on a DPD number or an IBAN, whether an amount or a date-time holds; what judging a file
 -- with these countries answers, and where its lines start; the purpose of the line with a number; the verdict on an identcode, the
@@ -78,7 +79,7 @@ Holds (date text holds) = dateTime (bytes text) ≡ holds
 Holds (file input countries answer starts) = judged input (lentWith countries) ≡ record { answer = answer; starts = starts }
 Holds (purpose input n text) = purposeOf input n (lentWith "") ≡ bytes text
 Holds (identcode text verdict) = checkVerdict (checkedIdentcode (bytes text)) ≡ verdict
-Holds (parts text pieces) = cut (bytes text) (partsAnswer (bytes text)) ≡ map bytes pieces
+Holds (parts text pieces) = piecesOf (bytes text) (partsAnswer (bytes text)) ≡ map bytes pieces
 Holds (issued body text) = issuedTo (issueIdentcodeAnswer (bytes body) 22) (bytes body) (checkDigitOf (bytes body)) (replicate 22 0) ≡ bytes text
 
 abbrev pub AllHold : List Case → Type 0
@@ -124,6 +125,9 @@ marked =
     ∷ Case.identcode "8546379003275981863427" (Verdict.refused 18 21)
     ∷ Case.identcode "85463790032759818634:6" (Verdict.refused 17 20)
     ∷ Case.identcode "854637900327598186342" (Verdict.refused 16 0)
+    -- "(If the remainder is 0, the checksum is 0)"
+    ∷ Case.issued "170000000000000000000" "1700000000000000000000"
+    ∷ Case.identcode "1700000000000000000001" (Verdict.refused 18 21)
     ∷ Case.parts "1012345123456781212349" ("10" ∷ "12345" ∷ "12345678" ∷ "12" ∷ "1234" ∷ "9" ∷ [])
     -- "a failing code in a file is 8"
     ∷ Case.file failing "" (Refused (because FieldForm 182)) []

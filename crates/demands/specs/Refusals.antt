@@ -38,10 +38,10 @@ use Rattle.purpose.specs.Purpose.{Purposes}
 use Rattle.purpose.specs.declared.write.PurposeAnswer.the-variants.{Refused as NoPurpose}
 use Rattle.grammar.specs.Grammar.{Filled, Reads, StandsInLine}
 use Rattle.grammar.specs.Written.{Writable}
-use Rattle.allowed.specs.Allowed.{FileLine, AllowedFile}
+use Rattle.allowed.specs.Allowed.{FileLine, fileBytes, AllowedFile}
 use Rattle.slips.specs.Exactly.{SoundNumber, SoundIban, SoundIdentcode}
 use Rattle.refused.specs.Line.{Counted, RefusedAt, RefusedFind}
-use Rattle.refused.specs.File.{Begins, dueBehind, RefusedFile, Means}
+use Rattle.refused.specs.File.{Begins, dueBehind, toldBehind, RefusedFile, Means}
 use Rattle.refused.specs.Write.{RefusedWrite}
 use Rattle.refused.specs.Purpose.{RefusedPurpose}
 use Rattle.refused.specs.Number.{RefusedNumber, RefusedIban, RefusedIssue}
@@ -145,13 +145,21 @@ IssueIdentcodeRefusedExactly =
     IssuesIdentcode body output (NotIssued refusal) after ↔ (RefusedIdentcodeIssue body (length output) refusal × (after ≡ output))
 
 -- "a failing code in a file is 8", at the field: whatever record is due, a 040 line that may come and whose first field is no wider than
--- 22 bytes, but does not pass, is refused there.
+-- 22 bytes, but does not pass, is refused there;
 abbrev pub FailingCodeRefused : Type 0
 FailingCodeRefused =
     (due : Due) (file : List ℕ) (offset : ℕ) (code : List ℕ) (more : List (List ℕ)) → length file ≤ fileLimit → offset ≤ length file →
     Counted (record { rules = profile; due = due }) (drop offset file) Parcel (code ∷ more) →
     Filled code → length code ≤ 22 → (checkedIdentcode code ≡ Passed → ⊥) →
     lineAnswer (record { rules = profile; due = due }) file offset ≡ RefusedAsLine (because FieldForm (offset + 4))
+
+-- and so is the file that begins with allowed lines and then has such a line.
+abbrev pub FailingCodeRefusesFile : Type 0
+FailingCodeRefusesFile =
+    (file : List ℕ) (lent : Lent) (ls : List FileLine) (left code : List ℕ) (more : List (List ℕ)) →
+    Begins (lent .countries) file ls left → length ls ≤ lent .words → Counted (toldBehind ls) left Parcel (code ∷ more) →
+    Filled code → length code ≤ 22 → (checkedIdentcode code ≡ Passed → ⊥) →
+    Judges file lent (RefusedAsFile (because FieldForm (length (fileBytes ls) + 4))) (replicate (lent .words) 0)
 
 -- A line, a field, a writing, a number, an IBAN and an identcode pass or are refused, never both.
 abbrev pub LineAlwaysOne : Type 0

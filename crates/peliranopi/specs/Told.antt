@@ -12,7 +12,7 @@ use Rattle.check_characters.specs.declared.answer.IssueAnswer.{IssueAnswer}
 use Rattle.check_characters.specs.declared.answer.IssueAnswer.the-variants.{Issued, Refused}
 use Rattle.check_characters.specs.declared.identcode.Parts.{Parts}
 use Rattle.check_characters.specs.declared.identcode.PartsAnswer.{PartsAnswer}
-use Rattle.check_characters.specs.declared.identcode.PartsAnswer.the-variants as divided
+use Rattle.check_characters.specs.declared.identcode.PartsAnswer.the-variants as parted
 use Rattle.fields.specs.declared.record.Record.{Record}
 use Rattle.fields.specs.declared.record.Record.the-variants.{Header, Sender, Shipment, Parcel, Product, Feature}
 use Rattle.line.specs.declared.read.LineAnswer.{LineAnswer}
@@ -113,5 +113,5 @@ asNumbers parts =
     parts .check .start ∷ parts .check .length ∷ []
 
 abbrev pub partsTold : PartsAnswer → List ℕ
-partsTold (divided.Read parts) = asNumbers parts
-partsTold (divided.Refused refusal) = replicate 12 0
+partsTold (parted.Read parts) = asNumbers parts
+partsTold (parted.Refused refusal) = replicate 12 0

@@ -14,13 +14,13 @@ use Rattle.refusal.specs.declared.Refusal.{Refusal}
 use Rattle.refusal.specs.declared.Reason.the-variants.{OutputTooShort, WrongLength, WrongSymbol, WrongCheck}
 use Rattle.refusal.proofs.Verdicts.{no-pass}
 use Rattle.check_characters.specs.Answer.{roomFor, issuedTo, checkVerdict, issueVerdict}
-use Rattle.check_characters.specs.Identcode.{wrongInIdentcode, checkDigitOf, passes, checkedIdentcode, partsWhere, partsAnswer, partsVerdict}
+use Rattle.check_characters.specs.Identcode.{allowedInIdentcode, wrongInIdentcode, checkDigitOf, passes, checkedIdentcode, partsWhere, partsAnswer, partsVerdict}
 use Rattle.check_characters.specs.Identcode.{issueIdentcodeAnswer, IssuesIdentcode}
 use Rattle.check_characters.specs.declared.answer.CheckAnswer.{CheckAnswer}
 use Rattle.check_characters.specs.declared.answer.CheckAnswer.the-variants.{Accepted, Refused}
 use Rattle.check_characters.specs.declared.answer.IssueAnswer.the-variants.{Issued, Refused as NotIssued}
 use Rattle.check_characters.specs.declared.identcode.PartsAnswer.the-variants.{Refused as NotRead}
-use Rattle.slips.specs.Exactly.{digitAnywhere, bodyOf, SoundIdentcode}
+use Rattle.slips.specs.Exactly.{bodyOf, SoundIdentcode}
 use Rattle.slips.proofs.Shaping.{shaped-all, all-shaped}
 use Rattle.slips.proofs.Identcodes.{accepted-sound, sound-accepted}
 use Rattle.refused.specs.Identcode.{RefusedIdentcode, RefusedIdentcodeIssue}
@@ -46,11 +46,11 @@ module _ (s : List ℕ) where
       (λ t q. is (because WrongLength 0) (RefusedIdentcode.wrong-length (eqb-false (length s) 22 (not-true (eqb (length s) 22) t))) q)
       (λ t. let n = eqb-true (length s) 22 (not-false (eqb (length s) 22) t) in
       choice (ltb wrong (length s)) (Refused (because WrongSymbol wrong)) _ (Refused refusal)
-      (λ u q. is (because WrongSymbol wrong) (RefusedIdentcode.wrong-symbol wrong n (wrong-there digitAnywhere s (ltb-true wrong (length s) u))) q)
+      (λ u q. is (because WrongSymbol wrong) (RefusedIdentcode.wrong-symbol wrong n (wrong-there allowedInIdentcode s (ltb-true wrong (length s) u))) q)
       (λ u. choice (passes s) Accepted (Refused (because WrongCheck (length s - 1))) (Refused refusal)
       (λ v q. absurd (no-pass checkVerdict refl refl (sym q)))
       (λ v q. is (because WrongCheck 21)
-      (RefusedIdentcode.wrong-check n (shaped-all digitAnywhere s (ltb-false wrong (length s) u)) (open-check n v))
+      (RefusedIdentcode.wrong-check n (shaped-all allowedInIdentcode s (ltb-false wrong (length s) u)) (open-check n v))
       (ap (λ (k : ℕ). Refused (because WrongCheck k)) (omega arith) ∙ q)))) e
     where
       is : (other : Refusal) → RefusedIdentcode s other → Refused other ≡ Refused refusal → RefusedIdentcode s refusal
@@ -60,9 +60,9 @@ module _ (s : List ℕ) where
   unfolding checkedIdentcode
   refused-identcode refusal (RefusedIdentcode.wrong-length n) = rw (ne-eqb (length s) 22 n)
   refused-identcode refusal (RefusedIdentcode.wrong-symbol i n g) =
-      rw (eq-eqb (length s) 22 n, there-wrong digitAnywhere s i g, lt-ltb i (length s) (g .inside))
+      rw (eq-eqb (length s) 22 n, there-wrong allowedInIdentcode s i g, lt-ltb i (length s) (g .inside))
   refused-identcode refusal (RefusedIdentcode.wrong-check n g q) =
-      rw (eq-eqb (length s) 22 n, le-ltb (wrongInIdentcode s) (length s) (all-shaped digitAnywhere s g), check-open n q)
+      rw (eq-eqb (length s) 22 n, le-ltb (wrongInIdentcode s) (length s) (all-shaped allowedInIdentcode s g), check-open n q)
       (ap (λ (k : ℕ). Refused (because WrongCheck k)) (omega arith))
 
   pub identcode-always-one : SoundIdentcode s ⊎ ((refusal : Refusal) × RefusedIdentcode s refusal)
@@ -101,10 +101,10 @@ module _ (body : List ℕ) (room : ℕ) where
       (λ t. let n = eqb-true (length body) 21 (not-false (eqb (length body) 21) t) in
       choice (ltb wrong (length body)) (NotIssued (because WrongSymbol wrong)) _ (NotIssued refusal)
       (λ u q. is (because WrongSymbol wrong)
-      (RefusedIdentcodeIssue.wrong-symbol wrong n (wrong-there digitAnywhere body (ltb-true wrong (length body) u))) q)
+      (RefusedIdentcodeIssue.wrong-symbol wrong n (wrong-there allowedInIdentcode body (ltb-true wrong (length body) u))) q)
       (λ u. choice (ltb room 22) (NotIssued (because OutputTooShort 0)) (Issued 22) (NotIssued refusal)
       (λ v q. is (because OutputTooShort 0)
-      (RefusedIdentcodeIssue.too-short n (shaped-all digitAnywhere body (ltb-false wrong (length body) u)) (ltb-true room 22 v)) q)
+      (RefusedIdentcodeIssue.too-short n (shaped-all allowedInIdentcode body (ltb-false wrong (length body) u)) (ltb-true room 22 v)) q)
       (λ v q. absurd (no-pass issueVerdict refl refl (sym q))))) e
     where
       is : (other : Refusal) → RefusedIdentcodeIssue body room other → NotIssued other ≡ NotIssued refusal → RefusedIdentcodeIssue body room refusal
@@ -114,9 +114,9 @@ module _ (body : List ℕ) (room : ℕ) where
   unfolding issueIdentcodeAnswer roomFor
   refused-issue refusal (RefusedIdentcodeIssue.wrong-length n) = rw (ne-eqb (length body) 21 n)
   refused-issue refusal (RefusedIdentcodeIssue.wrong-symbol i n g) =
-      rw (eq-eqb (length body) 21 n, there-wrong digitAnywhere body i g, lt-ltb i (length body) (g .inside))
+      rw (eq-eqb (length body) 21 n, there-wrong allowedInIdentcode body i g, lt-ltb i (length body) (g .inside))
   refused-issue refusal (RefusedIdentcodeIssue.too-short n g p) =
-      rw (eq-eqb (length body) 21 n, le-ltb (wrongInIdentcode body) (length body) (all-shaped digitAnywhere body g), lt-ltb room 22 p)
+      rw (eq-eqb (length body) 21 n, le-ltb (wrongInIdentcode body) (length body) (all-shaped allowedInIdentcode body g), lt-ltb room 22 p)
 
 pub identcode-issue-refused-exactly : (body output : List ℕ) (refusal : Refusal) (after : List ℕ) →
     IssuesIdentcode body output (NotIssued refusal) after ↔ (RefusedIdentcodeIssue body (length output) refusal × (after ≡ output))

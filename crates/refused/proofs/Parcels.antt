@@ -1,10 +1,10 @@
 -- The identcode of a 040 line: on an allowed line it passes, and one that fails is refused by 8 where it stands.
 use Prim.Native.Nat.{ℕ, _+_, _≤_}
-use mathlib.Core.Path.{_≡_, refl, sym, _∙_}
+use mathlib.Core.Path.{_≡_, refl, sym, ap, _∙_}
 use mathlib.Core.Bool.{true}
-use mathlib.Core.List.{List, [], _∷_}
+use mathlib.Core.List.{List, [], _∷_, _++_}
 use native.Mathlib.Omega.{arith}
-use lib.ListN.{length, drop}
+use lib.ListN.{length, drop, length-append}
 use Rattle.refusal.specs.Table.{because}
 use Rattle.refusal.specs.declared.Reason.the-variants.{FieldForm}
 use Rattle.check_characters.specs.Identcode.{checkedIdentcode}
@@ -13,13 +13,19 @@ use Rattle.fields.specs.Record.{typeOf}
 use Rattle.fields.specs.Form.{isIdentcode}
 use Rattle.fields.specs.Profile.{profile, widthInTable, widthOf, isRequired, hasForm}
 use Rattle.fields.specs.declared.record.Due.{Due}
+use Rattle.fields.specs.declared.record.Due.the-variants.{First}
 use Rattle.fields.specs.declared.record.Record.the-variants.{Parcel}
 use Rattle.fields.proofs.Forms.{accepted-is, not-accepted}
+use Rattle.text.specs.Quoted.{bytes}
 use Rattle.line.specs.Parts.{fieldNo}
+use Rattle.line.specs.Render.{joined}
 use Rattle.line.specs.Told.{Told}
 use Rattle.line.specs.Line.{lineAnswer, fileLimit}
 use Rattle.line.specs.declared.read.LineAnswer.the-variants.{Refused}
 use Rattle.grammar.specs.Grammar.{Filled, LineOk}
+use Rattle.file.specs.Lent.{Lent}
+use Rattle.allowed.specs.Allowed.{FileLine, fileBytes}
+use Rattle.refused.specs.File.{dueBehind, toldBehind, Begins, RefusedFile}
 use Rattle.refused.specs.Line.{Counted, RefusedField, RefusedLine, RefusedAt}
 use Rattle.refused.proofs.Lines.{line-refused-exactly}
 
@@ -42,19 +48,38 @@ parcel-passes (f ∷ fs) g =
     accepted-is (checkedIdentcode f)
     (sym (parcel-form (typeOf Parcel) f) ∙ g .fields .0 .formed (g .fields .0 .filled parcel-filled))
 
-module _ (due : Due) (s : List ℕ) (at : ℕ) where
+-- the line whose record and count are right, and whose code fails
+module _ (due : Due) (at : ℕ) (left : List ℕ) (code : List ℕ) (more : List (List ℕ)) where
   abbrev told : Told
   told = record { rules = profile; due = due }
 
-  pub failing-code : (code : List ℕ) (more : List (List ℕ)) → length s ≤ fileLimit → at ≤ length s →
-      Counted told (drop at s) Parcel (code ∷ more) → Filled code → length code ≤ 22 → (checkedIdentcode code ≡ Accepted → ⊥) →
-      lineAnswer told s at ≡ Refused (because FieldForm (at + 4))
-  failing-code code more short inside counted filled narrow fails =
-      line-refused-exactly told s at (because FieldForm (at + 4)) .1
-      (RefusedAt.line-refused (because FieldForm (at + 4)) short inside
-      (RefusedLine.bad-field Parcel [] code more FieldForm counted
-      (record {
-        before = tt;
-        here = RefusedField.formless (rw (parcel-width (typeOf Parcel)) narrow) filled
-            (parcel-form (typeOf Parcel) code ∙ not-accepted (checkedIdentcode code) fails);
-      })))
+  module _ (counted : Counted told left Parcel (code ∷ more)) (filled : Filled code) (narrow : length code ≤ 22)
+      (fails : checkedIdentcode code ≡ Accepted → ⊥) where
+    code-refused : RefusedLine told at left (because FieldForm (at + 4))
+    code-refused =
+        RefusedLine.bad-field Parcel [] code more FieldForm counted
+        (record {
+          before = tt;
+          here = RefusedField.formless (rw (parcel-width (typeOf Parcel)) narrow) filled
+              (parcel-form (typeOf Parcel) code ∙ not-accepted (checkedIdentcode code) fails);
+        })
+
+    something-left : left ≡ [] → ⊥
+    something-left e =
+        omega (arith, ap length (sym e ∙ counted .stands .there), length-append (typeOf Parcel) (joined (code ∷ more) ++ bytes "\r\n" ++ counted .stands .behind))
+
+pub failing-code : (due : Due) (s : List ℕ) (at : ℕ) (code : List ℕ) (more : List (List ℕ)) → length s ≤ fileLimit → at ≤ length s →
+    Counted (told due at (drop at s) code more) (drop at s) Parcel (code ∷ more) → Filled code → length code ≤ 22 →
+    (checkedIdentcode code ≡ Accepted → ⊥) → lineAnswer (told due at (drop at s) code more) s at ≡ Refused (because FieldForm (at + 4))
+failing-code due s at code more short inside counted filled narrow fails =
+    line-refused-exactly (told due at (drop at s) code more) s at (because FieldForm (at + 4)) .1
+    (RefusedAt.line-refused (because FieldForm (at + 4)) short inside (code-refused due at (drop at s) code more counted filled narrow fails))
+
+pub failing-file : (s : List ℕ) (lent : Lent) (ls : List FileLine) (left code : List ℕ) (more : List (List ℕ)) →
+    Begins (lent .countries) s ls left → length ls ≤ lent .words → Counted (toldBehind ls) left Parcel (code ∷ more) → Filled code →
+    length code ≤ 22 → (checkedIdentcode code ≡ Accepted → ⊥) → RefusedFile s lent (because FieldForm (length (fileBytes ls) + 4))
+failing-file s lent ls left code more begins room counted filled narrow fails =
+    let at = length (fileBytes ls) in
+    let due = dueBehind First ls in
+    RefusedFile.line-refused ls left (because FieldForm (at + 4)) begins room
+    (something-left due at left code more counted filled narrow fails) (code-refused due at left code more counted filled narrow fails)

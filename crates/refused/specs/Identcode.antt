@@ -6,8 +6,8 @@ use lib.ListN.{length}
 use Rattle.refusal.specs.Table.{because}
 use Rattle.refusal.specs.declared.Refusal.{Refusal}
 use Rattle.refusal.specs.declared.Reason.the-variants.{OutputTooShort, WrongLength, WrongSymbol, WrongCheck}
-use Rattle.check_characters.specs.Identcode.{checkDigitOf}
-use Rattle.slips.specs.Exactly.{symbolAt, Shaped, bodyOf, digitAnywhere}
+use Rattle.check_characters.specs.Identcode.{allowedInIdentcode, checkDigitOf}
+use Rattle.slips.specs.Exactly.{symbolAt, Shaped, bodyOf}
 use Rattle.refused.specs.Number.{FirstWrong}
 
 -- a code that is checked, or read as its parts
@@ -15,10 +15,10 @@ pub data RefusedIdentcode (s : List ℕ) : Refusal → Type 0 where
   -- 16: "wrong length of a number"
   wrong-length : (length s ≡ 22 → ⊥) → RefusedIdentcode s (because WrongLength 0)
   -- 17: "symbol not allowed at its place", at "first such symbol"
-  wrong-symbol : (i : ℕ) → length s ≡ 22 → FirstWrong digitAnywhere s i → RefusedIdentcode s (because WrongSymbol i)
+  wrong-symbol : (i : ℕ) → length s ≡ 22 → FirstWrong allowedInIdentcode s i → RefusedIdentcode s (because WrongSymbol i)
   -- 18: "check wrong", at "the last digit"
   wrong-check :
-      length s ≡ 22 → Shaped digitAnywhere s → (symbolAt s 21 ≡ checkDigitOf (bodyOf s) → ⊥) → RefusedIdentcode s (because WrongCheck 21)
+      length s ≡ 22 → Shaped allowedInIdentcode s → (symbolAt s 21 ≡ checkDigitOf (bodyOf s) → ⊥) → RefusedIdentcode s (because WrongCheck 21)
 
 -- 21 digits whose check would be issued into an output of so many bytes
 pub data RefusedIdentcodeIssue (body : List ℕ) (room : ℕ) : Refusal → Type 0 where
@@ -26,6 +26,6 @@ pub data RefusedIdentcodeIssue (body : List ℕ) (room : ℕ) : Refusal → Type
   wrong-length : (length body ≡ 21 → ⊥) → RefusedIdentcodeIssue body room (because WrongLength 0)
   -- 17: "symbol not allowed at its place", at "first such symbol"
   wrong-symbol :
-      (i : ℕ) → length body ≡ 21 → FirstWrong digitAnywhere body i → RefusedIdentcodeIssue body room (because WrongSymbol i)
+      (i : ℕ) → length body ≡ 21 → FirstWrong allowedInIdentcode body i → RefusedIdentcodeIssue body room (because WrongSymbol i)
   -- 13: "output too short"
-  too-short : length body ≡ 21 → Shaped digitAnywhere body → room < 22 → RefusedIdentcodeIssue body room (because OutputTooShort 0)
+  too-short : length body ≡ 21 → Shaped allowedInIdentcode body → room < 22 → RefusedIdentcodeIssue body room (because OutputTooShort 0)

@@ -18,19 +18,19 @@ use Rattle.text.proofs.Runs.{all-append}
 use Rattle.text.proofs.Scans.{all-at, all-of}
 use Rattle.text.proofs.Finite.{every-at}
 use Rattle.check_characters.specs.Answer.{roomFor, issueVerdict}
-use Rattle.check_characters.specs.Identcode.{wrongInIdentcode, weighed, checkDigitOf, issueIdentcodeAnswer, IssuesIdentcode}
+use Rattle.check_characters.specs.Identcode.{allowedInIdentcode, wrongInIdentcode, weighed, checkDigitOf, issueIdentcodeAnswer, IssuesIdentcode}
 use Rattle.check_characters.specs.declared.answer.IssueAnswer.{IssueAnswer}
 use Rattle.check_characters.specs.declared.answer.IssueAnswer.the-variants.{Issued, Refused}
-use Rattle.check_characters.proofs.Issuing.{room-enough, room-whole}
+use Rattle.check_characters.proofs.Issuing.{room-there, room-whole}
 use Rattle.check_characters.proofs.Identcodes.{digit-is, identcode-right}
-use Rattle.slips.specs.Exactly.{digitAnywhere, Shaped, SoundIdentcode, bodyOf}
+use Rattle.slips.specs.Exactly.{Shaped, SoundIdentcode, bodyOf}
 use Rattle.slips.proofs.Shaping.{shaped-all, all-shaped}
 use Rattle.slips.proofs.Written.{written-start, front-shaped, written-again}
 
 -- what an issued answer tells of the body
 record Body (body : List ℕ) (n : ℕ) : Type 0 where
   long : length body ≡ 21
-  shaped : Shaped digitAnywhere body
+  shaped : Shaped allowedInIdentcode body
   whole : n ≡ 22
 
 body-of : (body : List ℕ) (room n : ℕ) → issueIdentcodeAnswer body room ≡ Issued n → Body body n
@@ -42,7 +42,7 @@ body-of body room n e =
     let b = came-else wrong (Refused (because WrongSymbol (wrongInIdentcode body))) (roomFor 22 room) (Issued n) (no-pass issueVerdict refl refl) (a .1) in
     record {
       long = eqb-true (length body) 21 (not-false (eqb (length body) 21) (a .0));
-      shaped = shaped-all digitAnywhere body (ltb-false (wrongInIdentcode body) (length body) (b .0));
+      shaped = shaped-all allowedInIdentcode body (ltb-false (wrongInIdentcode body) (length body) (b .0));
       whole = room-whole 22 room n (b .1);
     }
 
@@ -50,7 +50,7 @@ check-is-digit : (sum : ℕ) → digit (48 + (10 - sum % 10) % 10) ≡ true
 check-is-digit sum = every-at 10 (λ v. digit (48 + v)) refl ((10 - sum % 10) % 10) (omega arith)
 
 -- a body with its check digit
-module _ (body : List ℕ) (long : length body ≡ 21) (shaped : Shaped digitAnywhere body) where
+module _ (body : List ℕ) (long : length body ≡ 21) (shaped : Shaped allowedInIdentcode body) where
   abbrev code : List ℕ
   code = body ++ (checkDigitOf body ∷ [])
 
@@ -90,8 +90,8 @@ sound-issued s out after answer g room h =
     answered =
         h .0
         ∙ sym (identcode-right (bodyOf s) (length out) long (wrongInIdentcode (bodyOf s)) refl (Issued (length (bodyOf s) + 1))
-        (omega (arith, long, all-shaped digitAnywhere (bodyOf s) (front-shaped digitAnywhere s (length s - 1) (g .shaped))))
-        (room-enough (length (bodyOf s) + 1) (length out) (omega (arith, long, g .long))))
+        (omega (arith, long, all-shaped allowedInIdentcode (bodyOf s) (front-shaped allowedInIdentcode s (length s - 1) (g .shaped))))
+        (room-there (length (bodyOf s)) (length out) (omega (arith, long, g .long))))
         ∙ ap Issued (omega (arith, long, g .long))
 
     last : checkDigitOf (bodyOf s) ≡ getD s (length s - 1) 0

@@ -20,12 +20,12 @@ use Rattle.text.proofs.Bytes.{digit-range}
 use Rattle.text.proofs.Runs.{all-append, all-apart}
 use Rattle.text.proofs.Scans.{all-at, all-of}
 use Rattle.check_characters.specs.Symbol.{valueOf}
-use Rattle.check_characters.specs.Identcode.{wrongInIdentcode, weightAt, weighedFrom, weighed, checkDigitOf, passes, checkedIdentcode}
+use Rattle.check_characters.specs.Identcode.{allowedInIdentcode, wrongInIdentcode, weightAt, weighedFrom, weighed, checkDigitOf, passes, checkedIdentcode}
 use Rattle.check_characters.specs.declared.answer.CheckAnswer.the-variants.{Accepted}
 use Rattle.check_characters.proofs.Symbols.{value-digit}
 use Rattle.check_characters.proofs.Identcodes.{weight-three, weight-one, weighed-append, passes-leaves, leaves-passes, accepted-whole}
 use Rattle.slips.specs.Slips.{AgreeBut, swapped, FiveApart}
-use Rattle.slips.specs.Exactly.{digitAnywhere, SoundIdentcode, Shaped, bodyOf}
+use Rattle.slips.specs.Exactly.{SoundIdentcode, Shaped, bodyOf}
 use Rattle.slips.proofs.Shaping.{shaped-all, all-shaped}
 use Rattle.slips.proofs.Places.{in-pieces, agree-there, pair-at}
 
@@ -36,13 +36,13 @@ accepted-sound s e =
     let n : length s - 1 ≡ 21 = omega (arith, w .long) in
     record {
       long = w .long;
-      shaped = shaped-all digitAnywhere s (w .fine);
+      shaped = shaped-all allowedInIdentcode s (w .fine);
       closed = ap (λ (k : ℕ). getD s k 0) (sym n) ∙ eqb-true (getD s (length s - 1) 0) (checkDigitOf (bodyOf s)) (w .closed);
     }
 
-module _ (s : List ℕ) (long : length s ≡ 22) (shaped : Shaped digitAnywhere s) where
+module _ (s : List ℕ) (long : length s ≡ 22) (shaped : Shaped allowedInIdentcode s) where
   fine : length s ≤ wrongInIdentcode s
-  fine = all-shaped digitAnywhere s shaped
+  fine = all-shaped allowedInIdentcode s shaped
 
   closed-passes : getD s 21 0 ≡ checkDigitOf (bodyOf s) → passes s ≡ true
   unfolding passes
@@ -174,7 +174,7 @@ module _ (p : List ℕ) (a b : ℕ) (q : List ℕ) (n : a ≡ b → ⊥) (g : So
   swapped-long : length (p ++ b ∷ a ∷ q) ≡ 22
   swapped-long = simp length-append (simp length-append at (g .long))
 
-  swapped-shaped : Shaped digitAnywhere (p ++ b ∷ a ∷ q)
+  swapped-shaped : Shaped allowedInIdentcode (p ++ b ∷ a ∷ q)
   swapped-shaped =
       let d = pair-digits in
       all-at digit (p ++ b ∷ a ∷ q)

@@ -26,7 +26,7 @@ use Rattle.check_characters.specs.declared.answer.IssueAnswer.{IssueAnswer}
 use Rattle.check_characters.specs.declared.answer.IssueAnswer.the-variants.{Issued, Refused}
 use Rattle.check_characters.proofs.Carries.{carry-of, check-value}
 use Rattle.check_characters.proofs.Shapes.{has-last, tracking-check, label-check}
-use Rattle.check_characters.proofs.Issuing.{room-enough, room-whole, issue-right, issue-tracking, issue-label}
+use Rattle.check_characters.proofs.Issuing.{room-there, room-whole, issue-right, issue-tracking, issue-label}
 use Rattle.slips.specs.Exactly.{Shaped, SoundNumber, bodyOf}
 use Rattle.slips.proofs.Shaping.{shaped-all, all-shaped}
 use Rattle.slips.proofs.Written.{written-start, front-shaped, all-and-last, written-again}
@@ -137,7 +137,7 @@ sound-issued k s out after answer g room h = (answered, rw answered at (h .1) �
         ∙ issues-as k (bodyOf s) (length out) (whole ∙ g .long)
         ∙ sym (issue-right k (bodyOf s) (length out) (wrongInNumber k (bodyOf s)) refl (Issued (length (bodyOf s) + 1))
         (all-shaped (allowedInNumber k) (bodyOf s) shaped) (whole ∙ g .long)
-        (room-enough (length (bodyOf s) + 1) (length out) (omega (arith, whole))))
+        (room-there (length (bodyOf s)) (length out) (omega (arith, whole))))
         ∙ ap Issued whole
 
     last : checkOf (bodyOf s) ≡ getD s (length s - 1) 0

@@ -1,5 +1,5 @@
 -- The parts of an identcode: read exactly from a sound code, laid one behind the other with the manual's widths, and joined the code again.
-use Prim.Native.Nat.{ℕ, _+_}
+use Prim.Native.Nat.{ℕ, _+_, _-_}
 use mathlib.Core.Path.{_≡_, refl, sym, ap, _∙_}
 use mathlib.Core.List.{List, [], _∷_}
 use mathlib.Core.Logic.{_↔_}
@@ -13,7 +13,7 @@ use Rattle.check_characters.specs.declared.answer.CheckAnswer.the-variants.{Acc
 use Rattle.check_characters.specs.declared.identcode.Part.{Part}
 use Rattle.check_characters.specs.declared.identcode.Parts.{Parts}
 use Rattle.check_characters.specs.declared.identcode.PartsAnswer.the-variants as read
-use Rattle.slips.specs.Exactly.{SoundIdentcode, inOrder, Laid, Divides, digitsJoined}
+use Rattle.slips.specs.Exactly.{SoundIdentcode, inOrder, withoutCheck, Laid, Divides, digitsJoined, bodyOf}
 use Rattle.slips.proofs.Identcodes.{accepted-sound, sound-accepted}
 
 -- the digits of parts that have these widths
@@ -66,6 +66,18 @@ laid-joined code at [] (w ∷ ws) l = absurd l
 laid-joined code at (p ∷ ps) [] l = absurd l
 laid-joined code at (p ∷ ps) (w ∷ ws) (e, f, l) =
     rw (e, f, laid-joined code (at + w) ps ws l, ← drop-drop w at code, ← take-add w (total ws) (drop at code))
+
+-- without the check they are the body
+pub parts-body : (code : List ℕ) (p : Parts) → partsAnswer code ≡ read.Read p → digitsJoined code (withoutCheck p) ≡ bodyOf code
+parts-body code p e = go (parts-exactly code p .0 e)
+  where
+    go : SoundIdentcode code × Divides p → digitsJoined code (withoutCheck p) ≡ bodyOf code
+    go (g, (a, a', (b, b', (c, c', (d, d', (e, e', t)))))) =
+        laid-joined code 0 (withoutCheck p) (2 ∷ 5 ∷ 8 ∷ 2 ∷ 4 ∷ []) (a, a', (b, b', (c, c', (d, d', (e, e', tt)))))
+        ∙ ap (λ (n : ℕ). take n code) short
+      where
+        short : 21 ≡ length code - 1
+        short = omega (arith, g .long)
 
 pub parts-joined : (code : List ℕ) (p : Parts) → partsAnswer code ≡ read.Read p → digitsJoined code (inOrder p) ≡ code
 parts-joined code p e =

@@ -5,11 +5,10 @@ use mathlib.Core.Path.{_≡_}
 use mathlib.Core.Bool.{Bool, true, false}
 use mathlib.Core.List.{List, [], _∷_, _++_}
 use lib.ListN.{length, getD, take, drop}
-use Rattle.text.specs.Byte.{digit}
 use Rattle.check_characters.specs.Mod37.{passes}
 use Rattle.check_characters.specs.Number.{lengthOf, allowedInNumber}
 use Rattle.check_characters.specs.Iban.{ibanNumber, checkDigits, barred, allowedInIban}
-use Rattle.check_characters.specs.Identcode.{checkDigitOf}
+use Rattle.check_characters.specs.Identcode.{allowedInIdentcode, checkDigitOf}
 use Rattle.check_characters.specs.declared.identcode.Part.{Part}
 use Rattle.check_characters.specs.declared.identcode.Parts.{Parts}
 use Rattle.check_characters.specs.declared.number.Kind.{Kind}
@@ -38,14 +37,10 @@ pub record SoundIban (s : List ℕ) : Type 0 where
   pub unbarred : barred (checkDigits s) ≡ false
   pub one : ibanNumber s % 97 ≡ 1
 
--- a digit may stand at every place of an identcode
-abbrev pub digitAnywhere : ℕ → ℕ → Bool
-digitAnywhere i b = digit b
-
 -- 22 digits, the last of them the check digit of the others
 pub record SoundIdentcode (s : List ℕ) : Type 0 where
   pub long : length s ≡ 22
-  pub shaped : Shaped digitAnywhere s
+  pub shaped : Shaped allowedInIdentcode s
   pub closed : symbolAt s 21 ≡ checkDigitOf (bodyOf s)
 
 -- the parts of a code, in their order
@@ -63,6 +58,11 @@ Laid at (part ∷ parts) (width ∷ widths) = (part .start ≡ at) × (part .len
 -- document 000, section 4.2: the parts of a code are "2 - 5 - 8 - 2 - 4 - 1" digits
 abbrev pub Divides : Parts → Type 0
 Divides parts = Laid 0 (inOrder parts) (2 ∷ 5 ∷ 8 ∷ 2 ∷ 4 ∷ 1 ∷ [])
+
+-- "its parts, joined without the check"
+abbrev pub withoutCheck : Parts → List Part
+withoutCheck parts =
+    parts .origin ∷ parts .customer ∷ parts .sequence ∷ parts .product ∷ parts .destination ∷ []
 
 -- the digits of a part, and those of parts joined
 abbrev pub digitsIn : List ℕ → Part → List ℕ

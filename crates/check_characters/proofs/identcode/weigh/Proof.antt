@@ -2,10 +2,9 @@
 use Prim.Native.Nat.{_≤_, _-_, _*_}
 use mathlib.Core.Path.{_≡_}
 use lib.ListN.{length, take, drop}
-use Rattle.text.specs.Byte.{digit}
 use Rattle.text.specs.Scan.{firstFailing}
 use Rattle.text.proofs.Scans.{walk-on, walk-stops, walk-ends}
-use Rattle.check_characters.specs.Identcode.{wrongInIdentcode, weighed}
+use Rattle.check_characters.specs.Identcode.{allowedInIdentcode, wrongInIdentcode, weighed}
 use Rattle.check_characters.proofs.Identcodes.{digit-least, digit-fits, weighs-fits, sum-stays, sum-little, sum-on}
 use borrow.Author.Needs.{needs}
 use Rattle.check_characters.proofs.identcode.weigh.Statement.{statement}
@@ -15,7 +14,7 @@ ruleset laws = (needs, walk-on, walk-stops, walk-ends, digit-least, digit-fits, 
 
 abbrev Inv-loop : tie.InvT-loop
 Inv-loop s sum₀ i₀ sum i =
-    (i ≤ length s) × (sum ≤ 27 * i) × (sum ≡ weighed (take i s)) × (firstFailing (λ i b. digit b) i (drop i s) ≡ wrongInIdentcode s)
+    (i ≤ length s) × (sum ≤ 27 * i) × (sum ≡ weighed (take i s)) × (firstFailing allowedInIdentcode i (drop i s) ≡ wrongInIdentcode s)
 
 abbrev μ-loop : tie.MeasureT-loop
 μ-loop s sum₀ i₀ sum i = length s - i
