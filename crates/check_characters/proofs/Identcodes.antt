@@ -25,7 +25,8 @@ use Rattle.text.proofs.Numbers.{eq-or-ne}
 use Rattle.text.proofs.Scans.{none-fails}
 use Rattle.check_characters.specs.Symbol.{valueOf, symbolOf}
 use Rattle.check_characters.specs.Answer.{roomFor, checkVerdict}
-use Rattle.check_characters.specs.Identcode.{allowedInIdentcode, position, parts, wrongInIdentcode, weightAt, weighedFrom, weighed, checkDigit, checkDigitOf, passes}
+use Rattle.check_characters.specs.Identcode.{allowedInIdentcode, position, parts, wrongInIdentcode, weightAt}
+use Rattle.check_characters.specs.Identcode.{weighedFrom, weighed, checkDigit, checkDigitOf, passes}
 use Rattle.check_characters.specs.Identcode.{checkedIdentcode, partsWhere, partsAnswer, issueIdentcodeAnswer}
 use Rattle.check_characters.specs.declared.answer.CheckAnswer.{CheckAnswer}
 use Rattle.check_characters.specs.declared.answer.CheckAnswer.the-variants.{Accepted, Refused}

@@ -74,7 +74,13 @@ marked-hold = (
                                     refl,
                                     (
                                       refl,
-                                      (refl, (refl, (refl, (refl, (refl, (refl, (refl, (refl, (refl, (refl, (refl, (refl, (refl, (refl, (refl, (refl, tt)))))))))))))))),
+                                      (
+                                        refl,
+                                        (
+                                          refl,
+                                          (refl, (refl, (refl, (refl, (refl, (refl, (refl, (refl, (refl, (refl, (refl, (refl, (refl, (refl, tt)))))))))))))),
+                                        ),
+                                      ),
                                     ),
                                   ),
                                 ),

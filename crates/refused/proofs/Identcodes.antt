@@ -14,7 +14,8 @@ use Rattle.refusal.specs.declared.Refusal.{Refusal}
 use Rattle.refusal.specs.declared.Reason.the-variants.{OutputTooShort, WrongLength, WrongSymbol, WrongCheck}
 use Rattle.refusal.proofs.Verdicts.{no-pass}
 use Rattle.check_characters.specs.Answer.{roomFor, issuedTo, checkVerdict, issueVerdict}
-use Rattle.check_characters.specs.Identcode.{allowedInIdentcode, wrongInIdentcode, checkDigitOf, passes, checkedIdentcode, partsWhere, partsAnswer, partsVerdict}
+use Rattle.check_characters.specs.Identcode.{allowedInIdentcode, wrongInIdentcode, checkDigitOf, passes}
+use Rattle.check_characters.specs.Identcode.{checkedIdentcode, partsWhere, partsAnswer, partsVerdict}
 use Rattle.check_characters.specs.Identcode.{issueIdentcodeAnswer, IssuesIdentcode}
 use Rattle.check_characters.specs.declared.answer.CheckAnswer.{CheckAnswer}
 use Rattle.check_characters.specs.declared.answer.CheckAnswer.the-variants.{Accepted, Refused}

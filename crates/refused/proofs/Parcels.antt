@@ -66,7 +66,8 @@ module _ (due : Due) (at : ℕ) (left : List ℕ) (code : List ℕ) (more : List
 
     something-left : left ≡ [] → ⊥
     something-left e =
-        omega (arith, ap length (sym e ∙ counted .stands .there), length-append (typeOf Parcel) (joined (code ∷ more) ++ bytes "\r\n" ++ counted .stands .behind))
+        let line = joined (code ∷ more) ++ bytes "\r\n" ++ counted .stands .behind in
+        omega (arith, ap length (sym e ∙ counted .stands .there), length-append (typeOf Parcel) line)
 
 pub failing-code : (due : Due) (s : List ℕ) (at : ℕ) (code : List ℕ) (more : List (List ℕ)) → length s ≤ fileLimit → at ≤ length s →
     Counted (told due at (drop at s) code more) (drop at s) Parcel (code ∷ more) → Filled code → length code ≤ 22 →
