@@ -1,53 +1,69 @@
--- An IBAN's symbols spread into digits, and the remainder by 97 walked over them.
+-- The number that an IBAN's symbols stand for, walked over symbol by symbol, and its remainder by 97.
 use Prim.Native.Nat.{ℕ, suc, _+_, _-_, _*_, _/_, _%_, _≤_, _<_}
 use mathlib.Core.Path.{_≡_, refl, sym, ap, _∙_}
 use mathlib.Core.Bool.{Bool, true, false}
 use mathlib.Core.List.{List, [], _∷_, _++_, append-assoc, append-nil}
 use native.Mathlib.Omega.{arith}
 use native.Mathlib.Nat.{mod-eq-of-lt, div-add-mod, add-mul-mod-self-left}
-use native.Mathlib.Numerals.{add-one, add-two}
-use lib.ListN.{length, take, drop, set, getD, drop-of-length-le, length-set, length-take, length-drop}
-use lib.Seq.{take-suc-set, drop-cons, take-all}
+use native.Mathlib.Numerals.{add-one}
+use lib.ListN.{length, take, drop, getD, drop-of-length-le, length-drop}
+use lib.Seq.{drop-cons, take-all}
+use Rattle.text.specs.Choice.{if_then_else_}
 use Rattle.text.specs.Byte.{capital}
 use Rattle.check_characters.specs.Symbol.{valueOf}
 use Rattle.check_characters.specs.Iban.{digitsOf, spread, decimalFrom, ibanNumber}
+use Rattle.check_characters.proofs.Symbols.{value-le}
 
-module _ (b : ℕ) (t : Bool) (et : t ≡ capital b) where
-  digits-two : t ≡ true → digitsOf b ≡ valueOf b / 10 ∷ valueOf b % 10 ∷ []
-  unfolding digitsOf
-  digits-two e = simp (← et, e)
-
-  digits-one : t ≡ false → digitsOf b ≡ valueOf b ∷ []
-  unfolding digitsOf
-  digits-one e = simp (← et, e)
-
-  -- the digits of a symbol stored at the end of what is there
-  module _ (v at : ℕ) (out : List ℕ) (ev : v ≡ valueOf b) (room : at + 2 ≤ length out) where
-    pub put-two : t ≡ true → take (at + 2) (set (set out at (v / 10)) (at + 1) (v % 10)) ≡ take at out ++ digitsOf b
-    put-two e =
-        rw (add-two, add-one)
-        (take-suc-set (set out at (v / 10)) (suc at) (v % 10) (simp length-set (omega arith))
-        ∙ ap (λ (x : List ℕ). x ++ (v % 10 ∷ [])) (take-suc-set out at (v / 10) (omega arith))
-        ∙ append-assoc (take at out) (v / 10 ∷ []) (v % 10 ∷ [])
-        ∙ cc (digits-two e))
-
-    pub put-one : t ≡ false → take (at + 1) (set out at v) ≡ take at out ++ digitsOf b
-    put-one e = rw add-one (take-suc-set out at v (omega arith) ∙ cc (digits-one e))
-
--- the loop over the symbols at the place i: what is spread, and what is still to be spread, are the whole
-module _ (s : List ℕ) (i : ℕ) (x z : List ℕ) where
-  pub spread-on : (y : List ℕ) → i < length s → y ≡ x ++ digitsOf (getD s i 0) → x ++ spread (drop i s) ≡ z →
-      y ++ spread (drop (i + 1) s) ≡ z
-  spread-on y h e f =
-      rw (add-one, e)
-      (append-assoc x (digitsOf (getD s i 0)) (spread (drop (suc i) s)) ∙ ap (λ (w : List ℕ). x ++ spread w) (sym (drop-cons s i 0 h)) ∙ f)
-
-  pub spread-ends : length s ≤ i → x ++ spread (drop i s) ≡ z → x ≡ z
-  spread-ends h f = sym (append-nil x) ∙ ap (λ (w : List ℕ). x ++ spread w) (sym (drop-of-length-le s h)) ∙ f
+pub decimal-append : (a : ℕ) (p q : List ℕ) → decimalFrom a (p ++ q) ≡ decimalFrom (decimalFrom a p) q
+decimal-append a [] q = refl
+decimal-append a (d ∷ p) q = decimal-append (10 * a + d) p q
 
 pub spread-append : (p q : List ℕ) → spread (p ++ q) ≡ spread p ++ spread q
 spread-append [] q = refl
 spread-append (b ∷ p) q = ap (λ (w : List ℕ). digitsOf b ++ w) (spread-append p q) ∙ sym (append-assoc (digitsOf b) (spread p) (spread q))
+
+-- a run of symbols, and then another
+run-append : (n : ℕ) (p q : List ℕ) → decimalFrom n (spread (p ++ q)) ≡ decimalFrom (decimalFrom n (spread p)) (spread q)
+run-append n p q = ap (decimalFrom n) (spread-append p q) ∙ decimal-append n (spread p) (spread q)
+
+-- a symbol takes the number ten or a hundred times, and adds its value
+abbrev pub weight : ℕ → ℕ
+weight b = if capital b then 100 else 10
+
+pub weighed : (r b : ℕ) → decimalFrom r (digitsOf b) ≡ weight b * r + valueOf b
+unfolding digitsOf
+weighed r b = go (capital b)
+  where
+    go : (t : Bool) → decimalFrom r (if t then valueOf b / 10 ∷ valueOf b % 10 ∷ [] else valueOf b ∷
+        []) ≡ (if t then 100 else 10) * r + valueOf b
+    go true = omega arith
+    go false = refl
+
+module _ (n b v : ℕ) (ev : v ≡ valueOf b) where
+  pub letter-below : 100 * n + v < 100 * n + 36
+  letter-below = omega (arith, value-le b)
+
+  pub digit-below : 10 * n + v < 100 * n + 36
+  digit-below = omega (arith, value-le b)
+
+  alone : decimalFrom n (spread (b ∷ [])) ≡ weight b * n + v
+  alone = ap (decimalFrom n) (append-nil (digitsOf b)) ∙ weighed n b ∙ ap (λ (x : ℕ). weight b * n + x) (sym ev)
+
+  module _ (t : Bool) (et : t ≡ capital b) where
+    pub behind-letter : t ≡ true → 100 * n + v ≡ decimalFrom n (spread (b ∷ []))
+    behind-letter e = simp (alone, ← et, e)
+
+    pub behind-digit : t ≡ false → 10 * n + v ≡ decimalFrom n (spread (b ∷ []))
+    behind-digit e = simp (alone, ← et, e)
+
+-- four symbols, one after the other
+pub behind-each : (n a b c d k l m r : ℕ) → k ≡ decimalFrom n (spread (a ∷ [])) → l ≡ decimalFrom k (spread (b ∷ [])) →
+    m ≡ decimalFrom l (spread (c ∷ [])) → r ≡ decimalFrom m (spread (d ∷ [])) → r ≡ decimalFrom n (spread (a ∷ b ∷ c ∷ d ∷ []))
+behind-each n a b c d k l m r ek el em er =
+    er ∙ next l m c (d ∷ []) em ∙ next k l b (c ∷ d ∷ []) el ∙ next n k a (b ∷ c ∷ d ∷ []) ek
+  where
+    next : (n m b : ℕ) (s : List ℕ) → m ≡ decimalFrom n (spread (b ∷ [])) → decimalFrom m (spread s) ≡ decimalFrom n (spread (b ∷ s))
+    next n m b s e = ap (λ (x : ℕ). decimalFrom x (spread s)) e ∙ sym (run-append n (b ∷ []) s)
 
 -- a remainder by 97 goes by remainders
 pub mod-scale : (k a d : ℕ) → (k * a + d) % 97 ≡ (k * (a % 97) + d) % 97
@@ -55,47 +71,52 @@ mod-scale k a d =
     let e : k * a + d ≡ (k * (a % 97) + d) + 97 * (k * (a / 97)) = omega (arith, ap (λ (x : ℕ). k * x) (div-add-mod a 97)) in
     ap (λ (x : ℕ). x % 97) e ∙ add-mul-mod-self-left (k * (a % 97) + d) 97 (k * (a / 97))
 
-pub decimal-mod : (a b : ℕ) (s : List ℕ) → a % 97 ≡ b % 97 → decimalFrom a s % 97 ≡ decimalFrom b s % 97
+decimal-mod : (a b : ℕ) (s : List ℕ) → a % 97 ≡ b % 97 → decimalFrom a s % 97 ≡ decimalFrom b s % 97
 decimal-mod a b [] e = e
 decimal-mod a b (d ∷ s) e =
     decimal-mod (10 * a + d) (10 * b + d) s (mod-scale 10 a d ∙ ap (λ (x : ℕ). (10 * x + d) % 97) e ∙ sym (mod-scale 10 b d))
 
--- the loop over the digits at the place i
-module _ (s : List ℕ) (r i z : ℕ) where
-  pub remainder-on : (d : ℕ) → i < length s → d ≡ getD s i 0 → decimalFrom r (drop i s) % 97 ≡ z →
-      decimalFrom ((10 * r + d) % 97) (drop (i + 1) s) % 97 ≡ z
-  remainder-on d h e f =
-      let w : decimalFrom r (drop i s) % 97 ≡ decimalFrom ((10 * r + getD s i 0) % 97) (drop (i + 1) s) % 97 =
-      rw (add-one, drop-cons s i 0) (decimal-mod (10 * r + getD s i 0) ((10 * r + getD s i 0) % 97) (drop (suc i) s) (omega arith)) in
-      rw e (sym w ∙ f)
+-- the number from here on is the same when its remainder goes on in its place
+lessened : (a : ℕ) (s : List ℕ) → decimalFrom (a % 97) s % 97 ≡ decimalFrom a s % 97
+lessened a s = decimal-mod (a % 97) a s (omega arith)
 
-  pub remainder-ends : r < 97 → length s ≤ i → decimalFrom r (drop i s) % 97 ≡ z → r ≡ z
-  remainder-ends l h f = sym (rw (drop-of-length-le s) (mod-eq-of-lt l)) ∙ f
+-- the walk over the symbols s at the place i, where the number is n and z the remainder of the whole
+module _ (s : List ℕ) (i n z : ℕ) (f : decimalFrom n (spread (drop i s)) % 97 ≡ z) where
+  on : (j a : ℕ) (p : List ℕ) → drop i s ≡ p ++ drop j s → a ≡ decimalFrom n (spread p) → decimalFrom (a % 97) (spread (drop j s)) % 97 ≡ z
+  on j a p e ea =
+      lessened a (spread (drop j s))
+      ∙ ap (λ (x : ℕ). decimalFrom x (spread (drop j s)) % 97) ea
+      ∙ ap (λ (x : ℕ). x % 97) (sym (run-append n p (drop j s)))
+      ∙ ap (λ (w : List ℕ). decimalFrom n (spread w) % 97) (sym e)
+      ∙ f
 
--- room for two digits a symbol: those of the account part, and those of the first four behind them
-module _ (s digits : List ℕ) (four : 4 ≤ length s) (room : 2 * length s ≤ length digits) where
-  tail-long : length (take (length s - 4) (drop 4 s)) ≡ length s - 4
-  tail-long = simp (length-take, length-drop) (omega arith)
+  pub one-on : (a : ℕ) → i < length s → a ≡ decimalFrom n (spread (getD s i 0 ∷ [])) → decimalFrom (a % 97) (spread (drop (i + 1) s)) % 97 ≡ z
+  one-on a h ea = on (i + 1) a (getD s i 0 ∷ []) (rw add-one (drop-cons s i 0 h)) ea
 
-  pub account-room : 0 + 2 * length (take (length s - 4) (drop 4 s)) ≤ length digits
-  account-room = omega (arith, tail-long)
+  pub four-on : (a : ℕ) → i + 3 < length s →
+      a ≡ decimalFrom n (spread (getD s i 0 ∷ getD s (i + 1) 0 ∷ getD s (i + 2) 0 ∷ getD s (i + 3) 0 ∷ [])) →
+      decimalFrom (a % 97) (spread (drop (i + 4) s)) % 97 ≡ z
+  four-on a h ea =
+      on (i + 4) a (getD s i 0 ∷ getD s (i + 1) 0 ∷ getD s (i + 2) 0 ∷ getD s (i + 3) 0 ∷ [])
+      (left i (i + 1) refl (omega arith) (left (i + 1) (i + 2) (omega arith) (omega arith) (left (i + 2) (i + 3) (omega arith) (omega arith)
+      (left (i + 3) (i + 4) (omega arith) h refl)))) ea
+    where
+      left : (j k : ℕ) {w : List ℕ} → k ≡ j + 1 → j < length s → drop k s ≡ w → drop j s ≡ getD s j 0 ∷ w
+      left j k {w} ek l e =
+          drop-cons s j 0 l ∙ ap (λ (w : List ℕ). getD s j 0 ∷ w) (ap (λ (k : ℕ). drop k s) (sym (ek ∙ add-one j)) ∙ e)
 
-  module _ (account : ℕ) (most : account ≤ 0 + 2 * length (take (length s - 4) (drop 4 s))) (put : List ℕ)
-      (kept : length put ≡ length digits) where
-    pub first-room : account + 2 * length (take 4 s) ≤ length put
-    first-room = omega (arith, tail-long, length-take 4 s)
+  pub walk-ends : n < 97 → length s ≤ i → n ≡ z
+  walk-ends l h = sym (rw (drop-of-length-le s) (mod-eq-of-lt l)) ∙ f
 
-    module _ (whole : ℕ) (filled : List ℕ) (end : whole ≤ account + 2 * length (take 4 s)) (same : length filled ≡ length put) where
-      pub whole-room : whole ≤ length filled
-      whole-room = omega (arith, tail-long, length-take 4 s)
+  pub walk-rests : (r : ℕ) → r ≡ decimalFrom n (spread (take (length s - i) (drop i s))) % 97 → r ≡ z
+  walk-rests r e =
+      e ∙ ap (λ (w : List ℕ). decimalFrom n (spread w) % 97) (take-all (length s - i) (drop i s) (simp length-drop (omega arith))) ∙ f
 
-      pub whole-long : whole ≡ length (take whole filled)
-      whole-long = simp length-take (omega (arith, whole-room))
-
--- the account part and then the first four, spread into one array
-pub of-whole : (s account whole : List ℕ) (r : ℕ) → account ≡ spread (take (length s - 4) (drop 4 s)) →
-    whole ≡ account ++ spread (take 4 s) → r ≡ decimalFrom 0 whole % 97 → r ≡ ibanNumber s % 97
-of-whole s account whole r ea ew er =
-    let tail : take (length s - 4) (drop 4 s) ≡ drop 4 s = take-all (length s - 4) (drop 4 s) (simp length-drop (omega arith)) in
-    er ∙ ap (λ (w : List ℕ). decimalFrom 0 w % 97) (ew ∙ ap (λ (w : List ℕ). w ++ spread (take 4 s)) (ea ∙ ap spread tail)
-    ∙ sym (spread-append (drop 4 s) (take 4 s)))
+-- the account part, and from there the first four
+pub of-whole : (s : List ℕ) (account r : ℕ) → account ≡ decimalFrom 0 (spread (take (length s - 4) (drop 4 s))) % 97 →
+    r ≡ decimalFrom account (spread (take 4 s)) % 97 → r ≡ ibanNumber s % 97
+of-whole s account r ea er =
+    er
+    ∙ ap (λ (n : ℕ). decimalFrom n (spread (take 4 s)) % 97) (walk-rests s 4 0 (decimalFrom 0 (spread (drop 4 s)) % 97) refl account ea)
+    ∙ lessened (decimalFrom 0 (spread (drop 4 s))) (spread (take 4 s))
+    ∙ ap (λ (n : ℕ). n % 97) (sym (run-append 0 (drop 4 s) (take 4 s)))

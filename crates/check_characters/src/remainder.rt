@@ -1,75 +1,64 @@
-// The remainder by 97 of the number that an IBAN stands for. The number is first spread into an array of digits.
+// The remainder by 97 of the number that an IBAN stands for, worked out on a walk over its symbols.
 ghost use mathlib.Core.Path.{_≡_};
 ghost use Prim.Native.Nat.{_+_, _*_, _%_, _<_, _≤_};
-ghost use mathlib.Core.List.{_++_};
-ghost use lib.ListN.{length, take};
-ghost use Rattle.check_characters.specs.Iban.{digitsOf, spread, decimalFrom, ibanNumber};
+ghost use mathlib.Core.List.{[], _∷_};
+ghost use lib.ListN.{length};
+ghost use Rattle.check_characters.specs.Iban.{spread, decimalFrom, ibanNumber};
 use crate::symbol;
 
-// The remainder by 97 of an IBAN's number.
-pub fn of_iban(symbols: &[u8]) -> u32
-    requires { ⌜ (4 ≤ length (now symbols)) × (length (now symbols) ≤ 34) ⌝ }
+// The remainder by 97 of an IBAN's number: behind the account part, and from there behind the first four.
+pub fn of_iban(symbols: &[u8]) -> u64
+    requires { ⌜ 4 ≤ length (now symbols) ⌝ }
     ensures { λ r. ⌜ r ≡ ibanNumber (now (symbols .entry)) % 97 ⌝ }
 {
-    let mut digits = [0u8; 68];
-    of_spread(symbols, &mut digits)
+    walk(walk(0, &symbols[4..]), &symbols[..4])
 }
 
-// The same, with room for the digits lent: the account part is spread first, then the first four.
-fn of_spread(symbols: &[u8], digits: &mut [u8]) -> u32
-    requires { ⌜ (4 ≤ length (now symbols)) × (2 * length (now symbols) ≤ length (now digits)) ⌝ }
-    ensures { λ r. ⌜ r ≡ ibanNumber (now (symbols .entry)) % 97 ⌝ }
+// The remainder behind these symbols, where it is from in front of them. It is taken once for four symbols, which leave the number
+// below 10,000,000,000.
+fn walk(from: u64, symbols: &[u8]) -> u64
+    requires { ⌜ from < 97 ⌝ }
+    ensures { λ r. ⌜ (r ≡ decimalFrom from (spread (now (symbols .entry))) % 97) × (r < 97) ⌝ }
 {
-    let account = spread_into(digits, 0, &symbols[4..]);
-    let whole = spread_into(digits, account, &symbols[..4]);
-    of_digits(&digits[..whole])
+    let mut n = from;
+    let mut i: usize = 0;
+    while i + 3 < symbols.len() {
+        n = behind_four(n, symbols[i], symbols[i + 1], symbols[i + 2], symbols[i + 3]) % 97;
+        i += 4;
+    }
+    walk_rest(n, &symbols[i..])
 }
 
-// The digits of a run of symbols, written from the place at on. Answers where they end.
-fn spread_into(digits: &mut [u8], at: usize, symbols: &[u8]) -> usize
-    requires { ⌜ at + 2 * length (now symbols) ≤ length (now digits) ⌝ }
-    ensures { λ r. ⌜ (take r (now (digits .exit)) ≡ take at (now (digits .entry)) ++ spread (now (symbols .entry)))
-        × (r ≤ at + 2 * length (now (symbols .entry))) ⌝ }
+// The same, symbol by symbol.
+fn walk_rest(from: u64, symbols: &[u8]) -> u64
+    requires { ⌜ from < 97 ⌝ }
+    ensures { λ r. ⌜ (r ≡ decimalFrom from (spread (now (symbols .entry))) % 97) × (r < 97) ⌝ }
 {
-    let mut end = at;
+    let mut n = from;
     let mut i: usize = 0;
     while i < symbols.len() {
-        end = put_digits(digits, end, symbols[i]);
+        n = behind(n, symbols[i]) % 97;
         i += 1;
     }
-    end
+    n
 }
 
-// The digits of a symbol, written from the place at on. Answers where they end.
-fn put_digits(digits: &mut [u8], at: usize, b: u8) -> usize
-    requires { ⌜ at + 2 ≤ length (now digits) ⌝ }
-    ensures { λ r. ⌜ (take r (now (digits .exit)) ≡ take at (now (digits .entry)) ++ digitsOf b) × (r ≤ at + 2) ⌝ }
+// The number behind four more symbols, where it is n in front of them.
+fn behind_four(n: u64, a: u8, b: u8, c: u8, d: u8) -> u64
+    requires { ⌜ n < 97 ⌝ }
+    ensures { λ r. ⌜ r ≡ decimalFrom n (spread (a ∷ b ∷ c ∷ d ∷ [])) ⌝ }
 {
-    let v = symbol::value(b);
+    behind(behind(behind(behind(n, a), b), c), d)
+}
+
+// The number behind one more symbol, where it is n in front of it: a letter is two digits.
+fn behind(n: u64, b: u8) -> u64
+    requires { ⌜ n < 100000000 ⌝ }
+    ensures { λ r. ⌜ (r ≡ decimalFrom n (spread (b ∷ []))) × (r < 100 * n + 36) ⌝ }
+{
+    let v = symbol::value(b) as u64;
     if text::is_capital(b) {
-        digits[at] = v / 10;
-        digits[at + 1] = v % 10;
-        return at + 2;
+        return 100 * n + v;
     }
-    digits[at] = v;
-    at + 1
-}
-
-// The remainder by 97 of the number that digits write.
-fn of_digits(digits: &[u8]) -> u32
-    ensures { λ r. ⌜ r ≡ decimalFrom 0 (now (digits .entry)) % 97 ⌝ }
-{
-    let mut r: u32 = 0;
-    let mut i: usize = 0;
-    while i < digits.len() {
-        r = (10 * r + wide(digits[i])) % 97;
-        i += 1;
-    }
-    r
-}
-
-fn wide(b: u8) -> u32
-    ensures { λ r. ⌜ (r ≡ b) × (r < 256) ⌝ }
-{
-    b as u32
+    10 * n + v
 }

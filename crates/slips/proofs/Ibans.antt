@@ -25,13 +25,13 @@ use Rattle.check_characters.specs.Answer.{checkVerdict}
 use Rattle.check_characters.specs.Iban.{checkDigits, barred, soundOf, checkedIban}
 use Rattle.check_characters.specs.declared.answer.CheckAnswer.the-variants.{Accepted, Refused}
 use Rattle.check_characters.proofs.Symbols.{value-le, value-digit, value-capital}
-use Rattle.check_characters.proofs.Digits.{mod-scale, spread-append}
+use Rattle.check_characters.proofs.Digits.{decimal-append, spread-append, weight, weighed, mod-scale}
 use Rattle.slips.specs.Slips.{AgreeBut, OneClass, swapped}
 use Rattle.slips.specs.Exactly.{SoundIban}
 use Rattle.slips.proofs.Shaping.{shaped-all, all-shaped}
 use Rattle.slips.proofs.Places.{in-pieces, agree-there, pair-at, swap-alike}
-use Rattle.slips.proofs.Remainders.{decimal-append, weight, weighed, after, remainderFrom, remainder-spread}
-use Rattle.slips.proofs.Remainders.{remainder-append, weight-tells, cancel, tell-remainders, tell-order, tell-value}
+use Rattle.slips.proofs.Remainders.{after, remainderFrom, remainder-spread, remainder-append, weight-tells}
+use Rattle.slips.proofs.Remainders.{cancel, tell-remainders, tell-order, tell-value}
 
 pub accepted-sound : (s : List ℕ) → checkedIban s ≡ Accepted → SoundIban s
 unfolding checkedIban soundOf

@@ -10,24 +10,7 @@ use Rattle.text.specs.Byte.{capital}
 use Rattle.text.proofs.Finite.{tells, told-apart}
 use Rattle.check_characters.specs.Symbol.{valueOf}
 use Rattle.check_characters.specs.Iban.{digitsOf, spread, decimalFrom}
-use Rattle.check_characters.proofs.Digits.{mod-scale}
-
-pub decimal-append : (a : ℕ) (p q : List ℕ) → decimalFrom a (p ++ q) ≡ decimalFrom (decimalFrom a p) q
-decimal-append a [] q = refl
-decimal-append a (d ∷ p) q = decimal-append (10 * a + d) p q
-
--- a symbol takes the number ten or a hundred times, and adds its value
-abbrev pub weight : ℕ → ℕ
-weight b = if capital b then 100 else 10
-
-pub weighed : (r b : ℕ) → decimalFrom r (digitsOf b) ≡ weight b * r + valueOf b
-unfolding digitsOf
-weighed r b = go (capital b)
-  where
-    go : (t : Bool) → decimalFrom r (if t then valueOf b / 10 ∷ valueOf b % 10 ∷ [] else valueOf b ∷
-        []) ≡ (if t then 100 else 10) * r + valueOf b
-    go true = omega arith
-    go false = refl
+use Rattle.check_characters.proofs.Digits.{decimal-append, weight, weighed, mod-scale}
 
 -- the remainder after a symbol, and after a run of symbols
 abbrev pub after : ℕ → ℕ → ℕ

@@ -1,0 +1,24 @@
+-- `remainder::walk_rest` meets its contract: the remainder from here on is that of the whole.
+use Prim.Native.Nat.{_≤_, _<_, _-_, _%_}
+use mathlib.Core.Path.{_≡_}
+use lib.ListN.{length, drop}
+use Rattle.check_characters.specs.Iban.{spread, decimalFrom}
+use Rattle.check_characters.proofs.Digits.{one-on, walk-ends}
+use borrow.Author.Needs.{needs}
+use Rattle.check_characters.proofs.remainder.walk_rest.Statement.{statement}
+use Rattle.check_characters.proofs.remainder.walk_rest.Tie as tie
+
+ruleset laws = (needs, one-on, walk-ends)
+
+abbrev Inv-loop : tie.InvT-loop
+Inv-loop from s n₀ i₀ n i = (i ≤ length s) × (n < 97) × (decimalFrom n (spread (drop i s)) % 97 ≡ decimalFrom from (spread s) % 97)
+
+abbrev μ-loop : tie.MeasureT-loop
+μ-loop from s n₀ i₀ n i = length s - i
+
+pub walk-rest-spec : {M : Type 1} → statement M
+walk-rest-spec =
+    tie.close
+    (tie.spec
+    Inv-loop μ-loop (λ c. search laws) (λ c. search laws) (λ c κs. search laws) (λ c. search laws) (λ c. search laws)
+    (λ c. search laws) (λ c. search laws))
