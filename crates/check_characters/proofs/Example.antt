@@ -5,7 +5,7 @@ use mathlib.Core.List.{List, [], _∷_}
 use Rattle.text.specs.Quoted.{byte, bytes}
 use Rattle.check_characters.specs.Symbol.{valueOf, symbolOf}
 use Rattle.check_characters.specs.Mod37.{step, carry, checkOf}
-use Rattle.check_characters.specs.Iban.{digitsOf, ibanNumber}
+use Rattle.check_characters.specs.Iban.{digitsOf, spread, decimalFrom, ibanNumber}
 use Rattle.check_characters.specs.Identcode.{weightAt, weighed, checkDigit, checkDigitOf}
 
 -- the carry behind each symbol
@@ -26,6 +26,16 @@ pub example-iban : (ibanNumber (bytes "AT611904300234573201") ≡ 19043002345732
     × (ibanNumber (bytes "AT161904300234573201") ≡ 1904300234573201102916) × (1904300234573201102916 % 97 ≡ 53)
 unfolding valueOf digitsOf
 example-iban = (refl, refl, refl, refl)
+
+-- the remainder behind each run of symbols
+abbrev remainders : ℕ → List (List ℕ) → List ℕ
+remainders r [] = []
+remainders r (s ∷ runs) = let next = decimalFrom r (spread s) % 97 in next ∷ remainders next runs
+
+pub example-walk : (remainders 0 (bytes "1904" ∷ bytes "3002" ∷ bytes "3457" ∷ bytes "3201" ∷ bytes "AT61" ∷ []) ≡ 61 ∷ 59 ∷ 11 ∷ 2 ∷ 1 ∷ [])
+    × (remainders 2 (bytes "AT16" ∷ []) ≡ 53 ∷ [])
+unfolding valueOf digitsOf
+example-walk = (refl, refl)
 
 pub example-identcode : (weighed (bytes "854637900327598186342") ≡ 204) × (checkDigitOf (bytes "854637900327598186342") ≡ byte "6")
 unfolding valueOf symbolOf weightAt checkDigit

@@ -11,7 +11,8 @@ pub fn of_iban(symbols: &[u8]) -> u64
     requires { ⌜ 4 ≤ length (now symbols) ⌝ }
     ensures { λ r. ⌜ r ≡ ibanNumber (now (symbols .entry)) % 97 ⌝ }
 {
-    walk(walk(0, &symbols[4..]), &symbols[..4])
+    let n = symbols.len();
+    walk(walk(0, &symbols[4..n]), &symbols[0..4])
 }
 
 // The remainder behind these symbols, where it is from in front of them. It is taken once for four symbols, which leave the number
@@ -23,7 +24,14 @@ fn walk(from: u64, symbols: &[u8]) -> u64
     let mut n = from;
     let mut i: usize = 0;
     while i + 3 < symbols.len() {
-        n = behind_four(n, symbols[i], symbols[i + 1], symbols[i + 2], symbols[i + 3]) % 97;
+        n = behind_four(
+            n,
+            symbols[i],
+            symbols[i + 1],
+            symbols[i + 2],
+            symbols[i + 3],
+        )
+            % 97;
         i += 4;
     }
     walk_rest(n, &symbols[i..])

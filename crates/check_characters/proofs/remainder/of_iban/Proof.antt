@@ -1,6 +1,4 @@
 -- `remainder::of_iban` meets its contract.
-use native.Mathlib.Omega.{arith}
-use lib.ListN.{length-take}
 use Rattle.check_characters.proofs.Digits.{of-whole}
 use borrow.Author.Needs.{needs}
 use Rattle.check_characters.proofs.remainder.of_iban.Statement.{statement}
@@ -12,5 +10,5 @@ pub of-iban-spec : {M : Type 1} → statement M
 of-iban-spec =
     tie.close
     (tie.spec
-    (λ c. search laws) (λ c. search laws) (λ c. search laws) (λ c κs. search laws) (λ c. simp length-take (omega arith))
-    (λ c κs. search laws) (λ c. search laws))
+    (λ c. search laws) (λ c. search laws) (λ c. search laws) (λ c κs. search laws) (λ c. search laws) (λ c. search laws)
+    (λ c. search laws) (λ c κs. search laws) (λ c. search laws))
