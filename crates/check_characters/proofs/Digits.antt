@@ -39,6 +39,7 @@ weighed r b = go (capital b)
     go true = omega arith
     go false = refl
 
+-- one symbol more, whose value is v
 module _ (n b v : ℕ) (ev : v ≡ valueOf b) where
   pub letter-below : 100 * n + v < 100 * n + 36
   letter-below = omega (arith, value-le b)
@@ -76,14 +77,14 @@ decimal-mod a b [] e = e
 decimal-mod a b (d ∷ s) e =
     decimal-mod (10 * a + d) (10 * b + d) s (mod-scale 10 a d ∙ ap (λ (x : ℕ). (10 * x + d) % 97) e ∙ sym (mod-scale 10 b d))
 
--- the number from here on is the same when its remainder goes on in its place
+-- where the remainder goes on in a number's place, the remainder in the end is the same
 lessened : (a : ℕ) (s : List ℕ) → decimalFrom (a % 97) s % 97 ≡ decimalFrom a s % 97
 lessened a s = decimal-mod (a % 97) a s (omega arith)
 
 -- the walk over the symbols s at the place i, where the number is n and z the remainder of the whole
 module _ (s : List ℕ) (i n z : ℕ) (f : decimalFrom n (spread (drop i s)) % 97 ≡ z) where
-  on : (j a : ℕ) (p : List ℕ) → drop i s ≡ p ++ drop j s → a ≡ decimalFrom n (spread p) → decimalFrom (a % 97) (spread (drop j s)) % 97 ≡ z
-  on j a p e ea =
+  run-on : (j a : ℕ) (p : List ℕ) → drop i s ≡ p ++ drop j s → a ≡ decimalFrom n (spread p) → decimalFrom (a % 97) (spread (drop j s)) % 97 ≡ z
+  run-on j a p e ea =
       lessened a (spread (drop j s))
       ∙ ap (λ (x : ℕ). decimalFrom x (spread (drop j s)) % 97) ea
       ∙ ap (λ (x : ℕ). x % 97) (sym (run-append n p (drop j s)))
@@ -91,19 +92,18 @@ module _ (s : List ℕ) (i n z : ℕ) (f : decimalFrom n (spread (drop i s)) % 9
       ∙ f
 
   pub one-on : (a : ℕ) → i < length s → a ≡ decimalFrom n (spread (getD s i 0 ∷ [])) → decimalFrom (a % 97) (spread (drop (i + 1) s)) % 97 ≡ z
-  one-on a h ea = on (i + 1) a (getD s i 0 ∷ []) (rw add-one (drop-cons s i 0 h)) ea
+  one-on a h ea = run-on (i + 1) a (getD s i 0 ∷ []) (rw add-one (drop-cons s i 0 h)) ea
 
   pub four-on : (a : ℕ) → i + 3 < length s →
       a ≡ decimalFrom n (spread (getD s i 0 ∷ getD s (i + 1) 0 ∷ getD s (i + 2) 0 ∷ getD s (i + 3) 0 ∷ [])) →
       decimalFrom (a % 97) (spread (drop (i + 4) s)) % 97 ≡ z
   four-on a h ea =
-      on (i + 4) a (getD s i 0 ∷ getD s (i + 1) 0 ∷ getD s (i + 2) 0 ∷ getD s (i + 3) 0 ∷ [])
+      run-on (i + 4) a (getD s i 0 ∷ getD s (i + 1) 0 ∷ getD s (i + 2) 0 ∷ getD s (i + 3) 0 ∷ [])
       (left i (i + 1) refl (omega arith) (left (i + 1) (i + 2) (omega arith) (omega arith) (left (i + 2) (i + 3) (omega arith) (omega arith)
       (left (i + 3) (i + 4) (omega arith) h refl)))) ea
     where
       left : (j k : ℕ) {w : List ℕ} → k ≡ j + 1 → j < length s → drop k s ≡ w → drop j s ≡ getD s j 0 ∷ w
-      left j k {w} ek l e =
-          drop-cons s j 0 l ∙ ap (λ (w : List ℕ). getD s j 0 ∷ w) (ap (λ (k : ℕ). drop k s) (sym (ek ∙ add-one j)) ∙ e)
+      left j k ek l e = drop-cons s j 0 l ∙ ap (λ (w : List ℕ). getD s j 0 ∷ w) (ap (λ (k : ℕ). drop k s) (sym (ek ∙ add-one j)) ∙ e)
 
   pub walk-ends : n < 97 → length s ≤ i → n ≡ z
   walk-ends l h = sym (rw (drop-of-length-le s) (mod-eq-of-lt l)) ∙ f
