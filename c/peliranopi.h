@@ -20,8 +20,8 @@ extern "C" {
 /* The version of this interface. CONTRIBUTING.md says how it is counted. */
 #define PELIRANOPI_VERSION_MAJOR 0
 #define PELIRANOPI_VERSION_MINOR 3
-#define PELIRANOPI_VERSION_PATCH 0
-#define PELIRANOPI_VERSION "0.3.0"
+#define PELIRANOPI_VERSION_PATCH 1
+#define PELIRANOPI_VERSION "0.3.1"
 
 /* The refusals. README.md has the table with their places. Later versions may have more: an answer that is not 0 is a refusal, also
  * where its number is not among these. */

@@ -366,6 +366,7 @@ fn measure_numbers() {
     let passes = |iban: &[u8]| peliranopi::check_iban(iban).is_ok();
     let passes_there = |iban: &[u8]| reference::numbers::check_iban(iban).is_ok();
     print_numbers("IBANs", valid_iban, passes, passes_there);
+    print_numbers("IBANs, Austrian", iban_of_digits, passes, passes_there);
     let passes = |code: &[u8]| peliranopi::check_identcode(code).is_ok();
     let passes_there = |code: &[u8]| reference::identcode::check_identcode(code).is_ok();
     print_numbers("identcodes", valid_identcode, passes, passes_there);
@@ -390,6 +391,14 @@ fn number_of(rng: &mut Rng, length: usize) -> Vec<u8> {
             return number;
         }
     }
+}
+
+/// An IBAN that passes as Austrian banks give it: 16 digits behind `AT`, which becomes 1029, and the check digits.
+fn iban_of_digits(rng: &mut Rng) -> Vec<u8> {
+    let account = String::from_utf8(rng.digits(16)).expect("digits are text");
+    let number: u128 = account.parse().expect("digits are a number");
+    let check = 98 - (number * 1_000_000 + 102_900) % 97;
+    format!("AT{check:02}{account}").into_bytes()
 }
 
 fn print_numbers(
