@@ -15,43 +15,36 @@ pub fn of_iban(symbols: &[u8]) -> u64
     walk(walk(0, &symbols[4..n]), &symbols[0..4])
 }
 
-// The remainder behind these symbols, where it is from in front of them. It is taken once for four symbols, which leave the number
+// The remainder behind a run of symbols, where it is `start` in front of it. It is taken once for four symbols, which leave the number
 // below 10,000,000,000.
-fn walk(from: u64, symbols: &[u8]) -> u64
-    requires { ⌜ from < 97 ⌝ }
-    ensures { λ r. ⌜ (r ≡ decimalFrom from (spread (now (symbols .entry))) % 97) × (r < 97) ⌝ }
+fn walk(start: u64, run: &[u8]) -> u64
+    requires { ⌜ start < 97 ⌝ }
+    ensures { λ r. ⌜ r ≡ decimalFrom start (spread (now (run .entry))) % 97 ⌝ }
 {
-    let mut n = from;
+    let mut n = start;
     let mut i: usize = 0;
-    while i + 3 < symbols.len() {
-        n = behind_four(
-            n,
-            symbols[i],
-            symbols[i + 1],
-            symbols[i + 2],
-            symbols[i + 3],
-        )
-            % 97;
+    while i + 3 < run.len() {
+        n = behind_four(n, run[i], run[i + 1], run[i + 2], run[i + 3]) % 97;
         i += 4;
     }
-    walk_rest(n, &symbols[i..])
+    walk_rest(n, &run[i..])
 }
 
 // The same, symbol by symbol.
-fn walk_rest(from: u64, symbols: &[u8]) -> u64
-    requires { ⌜ from < 97 ⌝ }
-    ensures { λ r. ⌜ (r ≡ decimalFrom from (spread (now (symbols .entry))) % 97) × (r < 97) ⌝ }
+fn walk_rest(start: u64, run: &[u8]) -> u64
+    requires { ⌜ start < 97 ⌝ }
+    ensures { λ r. ⌜ r ≡ decimalFrom start (spread (now (run .entry))) % 97 ⌝ }
 {
-    let mut n = from;
+    let mut n = start;
     let mut i: usize = 0;
-    while i < symbols.len() {
-        n = behind(n, symbols[i]) % 97;
+    while i < run.len() {
+        n = behind(n, run[i]) % 97;
         i += 1;
     }
     n
 }
 
-// The number behind four more symbols, where it is n in front of them.
+// The number behind four more symbols, where it is `n` in front of them.
 fn behind_four(n: u64, a: u8, b: u8, c: u8, d: u8) -> u64
     requires { ⌜ n < 97 ⌝ }
     ensures { λ r. ⌜ r ≡ decimalFrom n (spread (a ∷ b ∷ c ∷ d ∷ [])) ⌝ }
@@ -59,7 +52,7 @@ fn behind_four(n: u64, a: u8, b: u8, c: u8, d: u8) -> u64
     behind(behind(behind(behind(n, a), b), c), d)
 }
 
-// The number behind one more symbol, where it is n in front of it: a letter is two digits.
+// The number behind one more symbol, where it is `n` in front of it: a letter is two digits.
 fn behind(n: u64, b: u8) -> u64
     requires { ⌜ n < 100000000 ⌝ }
     ensures { λ r. ⌜ (r ≡ decimalFrom n (spread (b ∷ []))) × (r < 100 * n + 36) ⌝ }

@@ -11,10 +11,10 @@ use Rattle.check_characters.proofs.remainder.walk_rest.Tie as tie
 ruleset laws = (needs, one-on, walk-ends)
 
 abbrev Inv-loop : tie.InvT-loop
-Inv-loop from s n₀ i₀ n i = (i ≤ length s) × (n < 97) × (decimalFrom n (spread (drop i s)) % 97 ≡ decimalFrom from (spread s) % 97)
+Inv-loop start s n₀ i₀ n i = (i ≤ length s) × (n < 97) × (decimalFrom n (spread (drop i s)) % 97 ≡ decimalFrom start (spread s) % 97)
 
 abbrev μ-loop : tie.MeasureT-loop
-μ-loop from s n₀ i₀ n i = length s - i
+μ-loop start s n₀ i₀ n i = length s - i
 
 pub walk-rest-spec : {M : Type 1} → statement M
 walk-rest-spec =
