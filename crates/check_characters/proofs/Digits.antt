@@ -2,7 +2,7 @@
 use Prim.Native.Nat.{ℕ, _+_, _-_, _*_, _/_, _%_, _≤_, _<_}
 use mathlib.Core.Path.{_≡_, refl, sym, ap, _∙_}
 use mathlib.Core.Bool.{Bool, true, false}
-use mathlib.Core.List.{List, [], _∷_, _++_, append-assoc, append-nil}
+use mathlib.Core.List.{List, [], _∷_, _++_, append-assoc}
 use native.Mathlib.Omega.{arith}
 use native.Mathlib.Nat.{mod-eq-of-lt, div-add-mod, add-mul-mod-self-left}
 use native.Mathlib.Numerals.{add-one}
@@ -14,48 +14,45 @@ use Rattle.check_characters.specs.Symbol.{valueOf}
 use Rattle.check_characters.specs.Iban.{digitsOf, spread, decimalFrom, ibanNumber}
 use Rattle.check_characters.proofs.Symbols.{value-le}
 
-pub decimal-append : (a : ℕ) (p q : List ℕ) → decimalFrom a (p ++ q) ≡ decimalFrom (decimalFrom a p) q
+decimal-append : (a : ℕ) (p q : List ℕ) → decimalFrom a (p ++ q) ≡ decimalFrom (decimalFrom a p) q
 decimal-append a [] q = refl
 decimal-append a (d ∷ p) q = decimal-append (10 * a + d) p q
 
-pub spread-append : (p q : List ℕ) → spread (p ++ q) ≡ spread p ++ spread q
+spread-append : (p q : List ℕ) → spread (p ++ q) ≡ spread p ++ spread q
 spread-append [] q = refl
 spread-append (b ∷ p) q = ap (λ (w : List ℕ). digitsOf b ++ w) (spread-append p q) ∙ sym (append-assoc (digitsOf b) (spread p) (spread q))
 
 -- a run of symbols, and then another
-run-append : (n : ℕ) (p q : List ℕ) → decimalFrom n (spread (p ++ q)) ≡ decimalFrom (decimalFrom n (spread p)) (spread q)
+pub run-append : (n : ℕ) (p q : List ℕ) → decimalFrom n (spread (p ++ q)) ≡ decimalFrom (decimalFrom n (spread p)) (spread q)
 run-append n p q = ap (decimalFrom n) (spread-append p q) ∙ decimal-append n (spread p) (spread q)
 
 -- a symbol takes the number ten or a hundred times, and adds its value
 abbrev pub weight : ℕ → ℕ
 weight b = if capital b then 100 else 10
 
-pub weighed : (r b : ℕ) → decimalFrom r (digitsOf b) ≡ weight b * r + valueOf b
+pub alone : (n b : ℕ) → decimalFrom n (spread (b ∷ [])) ≡ weight b * n + valueOf b
 unfolding digitsOf
-weighed r b = go (capital b)
+alone n b = go (capital b)
   where
-    go : (t : Bool) → decimalFrom r (if t then valueOf b / 10 ∷ valueOf b % 10 ∷ [] else valueOf b ∷
-        []) ≡ (if t then 100 else 10) * r + valueOf b
+    go : (t : Bool) → decimalFrom n ((if t then valueOf b / 10 ∷ valueOf b % 10 ∷ [] else valueOf b ∷
+        []) ++ []) ≡ (if t then 100 else 10) * n + valueOf b
     go true = omega arith
     go false = refl
 
 -- one symbol more, whose value is v
 module _ (n b v : ℕ) (ev : v ≡ valueOf b) where
-  pub letter-below : 100 * n + v < 100 * n + 36
-  letter-below = omega (arith, value-le b)
+  pub behind-letter-below : 100 * n + v < 100 * n + 36
+  behind-letter-below = omega (arith, value-le b)
 
-  pub digit-below : 10 * n + v < 100 * n + 36
-  digit-below = omega (arith, value-le b)
-
-  alone : decimalFrom n (spread (b ∷ [])) ≡ weight b * n + v
-  alone = ap (decimalFrom n) (append-nil (digitsOf b)) ∙ weighed n b ∙ ap (λ (x : ℕ). weight b * n + x) (sym ev)
+  pub behind-digit-below : 10 * n + v < 100 * n + 36
+  behind-digit-below = omega (arith, value-le b)
 
   module _ (t : Bool) (et : t ≡ capital b) where
     pub behind-letter : t ≡ true → 100 * n + v ≡ decimalFrom n (spread (b ∷ []))
-    behind-letter e = simp (alone, ← et, e)
+    behind-letter e = simp (alone n b, ← et, e, ev)
 
     pub behind-digit : t ≡ false → 10 * n + v ≡ decimalFrom n (spread (b ∷ []))
-    behind-digit e = simp (alone, ← et, e)
+    behind-digit e = simp (alone n b, ← et, e, ev)
 
 -- four symbols, one after the other
 pub behind-each : (n a b c d k l m r : ℕ) → k ≡ decimalFrom n (spread (a ∷ [])) → l ≡ decimalFrom k (spread (b ∷ [])) →

@@ -30,20 +30,6 @@ fn walk(start: u64, run: &[u8]) -> u64
     walk_rest(n, &run[i..])
 }
 
-// The same, symbol by symbol.
-fn walk_rest(start: u64, run: &[u8]) -> u64
-    requires { ⌜ start < 97 ⌝ }
-    ensures { λ r. ⌜ r ≡ decimalFrom start (spread (now (run .entry))) % 97 ⌝ }
-{
-    let mut n = start;
-    let mut i: usize = 0;
-    while i < run.len() {
-        n = behind(n, run[i]) % 97;
-        i += 1;
-    }
-    n
-}
-
 // The number behind four more symbols, where it is `n` in front of them.
 fn behind_four(n: u64, a: u8, b: u8, c: u8, d: u8) -> u64
     requires { ⌜ n < 97 ⌝ }
@@ -62,4 +48,18 @@ fn behind(n: u64, b: u8) -> u64
         return 100 * n + v;
     }
     10 * n + v
+}
+
+// The remainder behind what is left of a run, taken symbol by symbol.
+fn walk_rest(start: u64, run: &[u8]) -> u64
+    requires { ⌜ start < 97 ⌝ }
+    ensures { λ r. ⌜ r ≡ decimalFrom start (spread (now (run .entry))) % 97 ⌝ }
+{
+    let mut n = start;
+    let mut i: usize = 0;
+    while i < run.len() {
+        n = behind(n, run[i]) % 97;
+        i += 1;
+    }
+    n
 }
