@@ -4,8 +4,8 @@ A row is a call, its bytes, and the functions of the C library that it calls.
 A call needs its return address, what it pushes and reserves, what it touches below the stack pointer (the red zone), and what the
 functions need that it calls, along the deepest path. Each function is walked along its jumps, with the depth of the stack at every
 instruction, so that a tail jump, whose frame is gone by then, is exact. An alignment counts with the most that it can skip. Below the
-stack pointer the offset counts, and an index is taken to lead upwards from it. A function of the C library counts with its return
-address alone.
+stack pointer the offset counts, and an index is taken to lead upwards from it; what is reached below it through another register is not
+seen. A function of the C library counts with its return address alone.
 
 What is not understood ends the run: recursion, an indirect call, a stack pointer that is set in another way than `moved` knows, or an
 instruction that is reached at two depths, as in a loop that reserves a very large frame page by page."""
@@ -15,6 +15,7 @@ import sys
 
 WORD = 8  # bytes of a return address, and of what is pushed
 PREFIXES = r"(?:(?:bnd|notrack|rep|repz|repnz|lock|data16|cs) )*"
+C_LIBRARY = ("memcmp", "memcpy", "memmove", "memset")
 UNKNOWN = r"\(bad\)|i?ret|l(?:call|jmp|ret)|sys|int"
 
 # A jump by a table, and what the compiler may put between its instructions.
@@ -24,7 +25,9 @@ SWITCH = rf"lea \S+,(%\w+)\n{OTHERS}movslq \(\1,%\w+,4\),(%\w+)\n{OTHERS}add \1,
 
 def objdump(program, option, path):
     command = [program, option, "--wide", "--disassemble-zeroes", "--no-show-raw-insn", path]
-    return subprocess.run(command, stdout=subprocess.PIPE, check=True, encoding="utf-8").stdout.splitlines()
+    # In another language its words are other ones.
+    done = subprocess.run(command, stdout=subprocess.PIPE, check=True, encoding="utf-8", env={"LC_ALL": "C"})
+    return done.stdout.splitlines()
 
 
 def number(digits):
@@ -84,6 +87,8 @@ class Library:
                 self.functions[section, int(found[1], 16)] = found[2]
             elif found := re.fullmatch(r" *([0-9a-f]+):\t([^\t#]*)[^\t]*(?:\t[0-9a-f]+: R_\w+\t(.*))?", line):
                 place = section, int(found[1], 16)
+                if place in self.code:
+                    sys.exit(f"test: {path} has two sections {section} with code")
                 text = re.sub(PREFIXES, "", " ".join(found[2].split()), count=1)
                 self.code[place] = [text, symbol(found[3]) if found[3] else None, None]
                 if last:
@@ -112,8 +117,8 @@ class Library:
         for start, function in self.functions.items():
             if (name, added + 4) in (start, (function, 0)):
                 return start
-        if name.startswith(".") or added != -4:
-            self.fail(place, "it leads into the midst of a function")
+        if added != -4 or name not in C_LIBRARY:
+            self.fail(place, "it leads to no start of a function that is known")
         return name
 
     def switch(self, place):
@@ -128,8 +133,8 @@ class Library:
         starts = [more + 4 for name, more in loads.values() if name == table]
         end = min((start for start in starts if start > added + 4), default=sys.maxsize)
         entries = [(at, named) for at, named in self.tables[table] if added + 4 <= at < end]
-        if any(to != section for _, (to, _) in entries):
-            self.fail(place, "its table leads out of the function")
+        if not entries or any(to != section for _, (to, _) in entries):
+            self.fail(place, "its table is empty, or leads out of the function")
         return [(section, more - at + added + 4) for at, (_, more) in entries]
 
     def need(self, function, callers=()):
@@ -142,20 +147,27 @@ class Library:
             self.needs[function] = self.walk(function, (*callers, function))
         return self.needs[function]
 
+    def reach(self, function, place, depth, frame, reached):
+        """Notes the depth and the frame at a place; false where the walk has been there and has nothing to take back."""
+        if place not in self.code or (place in self.functions and place != function):
+            self.fail(function, "it does not end")
+        if place in reached:
+            if reached[place][0] != depth:
+                self.fail(place, f"it is reached at the depths {depth} and {reached[place][0]}")
+            if reached[place][1] in (frame, None):
+                return False
+            frame = None
+        reached[place] = depth, frame
+        return True
+
     def walk(self, function, callers):
         most, outside = WORD, set()
         reached, todo = {}, [(function, WORD, None)]
         while todo:
             place, depth, frame = todo.pop()
-            if place not in self.code or (place in self.functions and place != function):
-                self.fail(function, "it does not end")
-            if place in reached:
-                if reached[place][0] != depth:
-                    self.fail(place, f"it is reached at the depths {depth} and {reached[place][0]}")
-                if reached[place][1] in (frame, None):
-                    continue
-                frame = None
-            reached[place] = depth, frame
+            if not self.reach(function, place, depth, frame, reached):
+                continue
+            depth, frame = reached[place]
             text, _, behind = self.code[place]
             name = text.split()[0]
             for offset, register in re.findall(r"-(0x\w+)\(%(rsp|rbp)\b", text):

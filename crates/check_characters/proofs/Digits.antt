@@ -14,28 +14,28 @@ use Rattle.check_characters.specs.Symbol.{valueOf}
 use Rattle.check_characters.specs.Iban.{digitsOf, spread, decimalFrom, ibanNumber}
 use Rattle.check_characters.proofs.Symbols.{value-le}
 
-decimal-append : (a : ℕ) (p q : List ℕ) → decimalFrom a (p ++ q) ≡ decimalFrom (decimalFrom a p) q
+pub decimal-append : (a : ℕ) (p q : List ℕ) → decimalFrom a (p ++ q) ≡ decimalFrom (decimalFrom a p) q
 decimal-append a [] q = refl
 decimal-append a (d ∷ p) q = decimal-append (10 * a + d) p q
 
-spread-append : (p q : List ℕ) → spread (p ++ q) ≡ spread p ++ spread q
+pub spread-append : (p q : List ℕ) → spread (p ++ q) ≡ spread p ++ spread q
 spread-append [] q = refl
 spread-append (b ∷ p) q = ap (λ (w : List ℕ). digitsOf b ++ w) (spread-append p q) ∙ sym (append-assoc (digitsOf b) (spread p) (spread q))
 
 -- a run of symbols, and then another
-pub run-append : (n : ℕ) (p q : List ℕ) → decimalFrom n (spread (p ++ q)) ≡ decimalFrom (decimalFrom n (spread p)) (spread q)
+run-append : (n : ℕ) (p q : List ℕ) → decimalFrom n (spread (p ++ q)) ≡ decimalFrom (decimalFrom n (spread p)) (spread q)
 run-append n p q = ap (decimalFrom n) (spread-append p q) ∙ decimal-append n (spread p) (spread q)
 
 -- a symbol takes the number ten or a hundred times, and adds its value
 abbrev pub weight : ℕ → ℕ
 weight b = if capital b then 100 else 10
 
-pub alone : (n b : ℕ) → decimalFrom n (spread (b ∷ [])) ≡ weight b * n + valueOf b
+pub weighed : (r b : ℕ) → decimalFrom r (digitsOf b) ≡ weight b * r + valueOf b
 unfolding digitsOf
-alone n b = go (capital b)
+weighed r b = go (capital b)
   where
-    go : (t : Bool) → decimalFrom n ((if t then valueOf b / 10 ∷ valueOf b % 10 ∷ [] else valueOf b ∷
-        []) ++ []) ≡ (if t then 100 else 10) * n + valueOf b
+    go : (t : Bool) → decimalFrom r (if t then valueOf b / 10 ∷ valueOf b % 10 ∷ [] else valueOf b ∷
+        []) ≡ (if t then 100 else 10) * r + valueOf b
     go true = omega arith
     go false = refl
 
@@ -47,12 +47,15 @@ module _ (n b v : ℕ) (ev : v ≡ valueOf b) where
   pub behind-digit-below : 10 * n + v < 100 * n + 36
   behind-digit-below = omega (arith, value-le b)
 
+  alone : decimalFrom n (spread (b ∷ [])) ≡ weight b * n + v
+  alone = decimal-append n (digitsOf b) [] ∙ weighed n b ∙ ap (λ (x : ℕ). weight b * n + x) (sym ev)
+
   module _ (t : Bool) (et : t ≡ capital b) where
     pub behind-letter : t ≡ true → 100 * n + v ≡ decimalFrom n (spread (b ∷ []))
-    behind-letter e = simp (alone n b, ← et, e, ev)
+    behind-letter e = simp (alone, ← et, e)
 
     pub behind-digit : t ≡ false → 10 * n + v ≡ decimalFrom n (spread (b ∷ []))
-    behind-digit e = simp (alone n b, ← et, e, ev)
+    behind-digit e = simp (alone, ← et, e)
 
 -- four symbols, one after the other
 pub behind-each : (n a b c d k l m r : ℕ) → k ≡ decimalFrom n (spread (a ∷ [])) → l ≡ decimalFrom k (spread (b ∷ [])) →

@@ -25,7 +25,7 @@ use Rattle.check_characters.specs.Answer.{checkVerdict}
 use Rattle.check_characters.specs.Iban.{checkDigits, barred, soundOf, checkedIban}
 use Rattle.check_characters.specs.declared.answer.CheckAnswer.the-variants.{Accepted, Refused}
 use Rattle.check_characters.proofs.Symbols.{value-le, value-digit, value-capital}
-use Rattle.check_characters.proofs.Digits.{run-append, weight, alone, mod-scale}
+use Rattle.check_characters.proofs.Digits.{decimal-append, spread-append, weight, weighed, mod-scale}
 use Rattle.slips.specs.Slips.{AgreeBut, OneClass, swapped}
 use Rattle.slips.specs.Exactly.{SoundIban}
 use Rattle.slips.proofs.Shaping.{shaped-all, all-shaped}
@@ -230,14 +230,16 @@ power-tells n z v w l lv lw h =
 ends-number : (a b : ℕ) (m : List ℕ) → digit a ≡ true → digit b ≡ true →
     decimalFrom 0 (spread ((b ∷ m) ++ (a ∷ []))) ≡ 10 * (valueOf b * 10 ^ length (spread m) + decimalFrom 0 (spread m)) + valueOf a
 ends-number a b m da db =
-    run-append 0 (b ∷ m) (a ∷ [])
-    ∙ ten _ a da
-    ∙ ap (λ (r : ℕ). 10 * r + valueOf a) (run-append 0 (b ∷ []) m
+    ap (decimalFrom 0) (spread-append (b ∷ m) (a ∷ []))
+    ∙ decimal-append 0 (spread (b ∷ m)) (spread (a ∷ []))
+    ∙ ap (λ (r : ℕ). decimalFrom r (spread (a ∷ []))) (decimal-append 0 (digitsOf b) (spread m)
     ∙ ap (λ (r : ℕ). decimalFrom r (spread m)) (ten 0 b db) ∙ decimal-linear (10 * 0 + valueOf b) (spread m))
+    ∙ decimal-append _ (digitsOf a) []
+    ∙ ten _ a da
     ∙ omega arith
   where
-    ten : (r b : ℕ) → digit b ≡ true → decimalFrom r (spread (b ∷ [])) ≡ 10 * r + valueOf b
-    ten r b d = alone r b ∙ ap (λ (m : ℕ). m * r + valueOf b) (light b d)
+    ten : (r b : ℕ) → digit b ≡ true → decimalFrom r (digitsOf b) ≡ 10 * r + valueOf b
+    ten r b d = weighed r b ∙ ap (λ (m : ℕ). m * r + valueOf b) (light b d)
 
 fourth-and-fifth : (x y z a b : ℕ) (q : List ℕ) → OneClass a b → SoundIban (x ∷ y ∷ z ∷ a ∷ b ∷ q) → SoundIban (x ∷ y ∷ z ∷ b ∷ a ∷ q) →
     a ≡ b

@@ -9,8 +9,8 @@ use Rattle.text.specs.Choice.{if_then_else_}
 use Rattle.text.specs.Byte.{capital}
 use Rattle.text.proofs.Finite.{tells, told-apart}
 use Rattle.check_characters.specs.Symbol.{valueOf}
-use Rattle.check_characters.specs.Iban.{spread, decimalFrom}
-use Rattle.check_characters.proofs.Digits.{run-append, weight, alone, mod-scale}
+use Rattle.check_characters.specs.Iban.{digitsOf, spread, decimalFrom}
+use Rattle.check_characters.proofs.Digits.{decimal-append, weight, weighed, mod-scale}
 
 -- the remainder after a symbol, and after a run of symbols
 abbrev pub after : ℕ → ℕ → ℕ
@@ -23,9 +23,9 @@ remainderFrom r (b ∷ s) = remainderFrom (after r b) s
 pub remainder-spread : (a : ℕ) (s : List ℕ) → decimalFrom a (spread s) % 97 ≡ remainderFrom (a % 97) s
 remainder-spread a [] = refl
 remainder-spread a (b ∷ s) =
-    ap (λ (x : ℕ). x % 97) (run-append a (b ∷ []) s)
-    ∙ remainder-spread (decimalFrom a (spread (b ∷ []))) s
-    ∙ ap (λ (x : ℕ). remainderFrom x s) (ap (λ (x : ℕ). x % 97) (alone a b) ∙ mod-scale (weight b) a (valueOf b))
+    ap (λ (x : ℕ). x % 97) (decimal-append a (digitsOf b) (spread s))
+    ∙ remainder-spread (decimalFrom a (digitsOf b)) s
+    ∙ ap (λ (x : ℕ). remainderFrom x s) (ap (λ (x : ℕ). x % 97) (weighed a b) ∙ mod-scale (weight b) a (valueOf b))
 
 pub remainder-append : (r : ℕ) (p q : List ℕ) → remainderFrom r (p ++ q) ≡ remainderFrom (remainderFrom r p) q
 remainder-append r [] q = refl

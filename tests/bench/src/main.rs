@@ -393,7 +393,7 @@ fn number_of(rng: &mut Rng, length: usize) -> Vec<u8> {
     }
 }
 
-/// An IBAN that passes as Austrian banks give it: 16 digits behind `AT`, which becomes 1029, and the check digits.
+/// An Austrian IBAN that passes: `AT`, the check digits and 16 digits. Behind the account, `AT00` counts as 102900.
 fn iban_of_digits(rng: &mut Rng) -> Vec<u8> {
     let account = String::from_utf8(rng.digits(16)).expect("digits are text");
     let number: u128 = account.parse().expect("digits are a number");
