@@ -1,10 +1,11 @@
--- The examples that the numbers, the IBANs and the identcodes open with, worked out.
+-- The examples that the numbers, the table of steps, the wedge, the IBANs and the identcodes open with, worked out.
 use Prim.Native.Nat.{ℕ, _%_}
 use mathlib.Core.Path.{_≡_, refl}
 use mathlib.Core.List.{List, [], _∷_}
 use Rattle.text.specs.Quoted.{byte, bytes}
 use Rattle.check_characters.specs.Symbol.{valueOf, symbolOf}
 use Rattle.check_characters.specs.Mod37.{step, carry, checkOf}
+use Rattle.check_characters.specs.Steps.{entryFor}
 use Rattle.check_characters.specs.Iban.{digitsOf, spread, decimalFrom, ibanNumber}
 use Rattle.check_characters.specs.Identcode.{weightAt, weighed, checkDigit, checkDigitOf}
 
@@ -17,6 +18,15 @@ pub example-tracking : (carries 36 (bytes "09980000020041") ≡ 35 ∷ 16 ∷ 13
     × (checkOf (bytes "09980000020041") ≡ byte "F") × (valueOf (byte "F") ≡ 15)
 unfolding valueOf symbolOf step checkOf
 example-tracking = (refl, refl, refl)
+
+-- the carry behind a number that passes, and an entry of the table
+pub example-typed : carry (bytes "09980000020041F") ≡ 2
+unfolding valueOf step
+example-typed = refl
+
+pub example-entry : (entryFor 36 0 ≡ 1260) × (step 36 0 ≡ 35)
+unfolding step
+example-entry = (refl, refl)
 
 pub example-label : (carry (bytes "000280009980000020037155056") ≡ 31) × (checkOf (bytes "000280009980000020037155056") ≡ byte "6")
 unfolding valueOf symbolOf step checkOf

@@ -1,5 +1,7 @@
 pub mod Symbols
 pub mod Carries
+pub mod Entries
+pub mod Keying
 pub mod Shapes
 pub mod Checking
 pub mod Issuing

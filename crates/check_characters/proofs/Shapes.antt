@@ -57,6 +57,3 @@ module _ (k : Kind) (i b : ℕ) (t : Bool) where
 pub has-last : (k : Kind) (n : ℕ) → n ≡ lengthOf k → 1 ≤ n
 has-last Tracking n e = omega arith
 has-last Label n e = omega arith
-
-pub last-inside : (k : Kind) (s : List ℕ) → length s ≡ lengthOf k → length s - 1 < length s
-last-inside k s e = omega (arith, has-last k (length s) e)

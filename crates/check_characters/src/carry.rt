@@ -1,30 +1,53 @@
-// The carry of ISO/IEC 7064 MOD 37,36, and the check character that it leaves.
+// The carry of ISO/IEC 7064 MOD 37,36, after one symbol more and after a run of them, and the check character that it leaves. Each step is
+// read from the table of steps, which who calls lays out once.
 ghost use mathlib.Core.Path.{_≡_};
-ghost use Prim.Native.Nat.{_<_, _≤_};
+ghost use Prim.Native.Nat.{_-_, _%_, _<_, _≤_};
+ghost use Rattle.check_characters.specs.Symbol.{symbolOf};
 ghost use Rattle.check_characters.specs.Mod37.{step, carry, checkOf};
+ghost use Rattle.check_characters.specs.Steps.{steps};
+ghost use Rattle.check_characters.specs.Wedge.{isCarry, nextCarry};
+use crate::steps;
 use crate::symbol;
+use refusal::Reason;
+use refusal::Refusal;
 
-// The carry after one more value.
-fn next(carry: u8, value: u8) -> u8
-    requires { ⌜ (1 ≤ carry) × (carry ≤ 36) × (value < 36) ⌝ }
-    ensures { λ r. ⌜ r ≡ step carry value ⌝ }
+pub enum CarryAnswer {
+    // The carry after the symbol.
+    Next(u32),
+    Refused(Refusal),
+}
+
+// The carry after one more symbol, for who takes a number key by key: the first call gets 36, each other the carry of the one before.
+pub fn next_carry(carry: u32, symbol: u8) -> CarryAnswer
+    ensures { λ r. ⌜ r ≡ nextCarry carry symbol ⌝ }
 {
-    let left = (carry + value) % 36;
-    if left == 0 {
-        return 35;
+    if !is_carry(carry) {
+        return CarryAnswer::Refused(Refusal {
+            why: Reason::NotThere,
+            place: 0,
+        });
     }
-    2 * left % 37
+    if !text::is_symbol(symbol) {
+        return CarryAnswer::Refused(Refusal {
+            why: Reason::WrongSymbol,
+            place: 0,
+        });
+    }
+    let table = steps::laid_out();
+    let value = symbol::value(symbol);
+    CarryAnswer::Next(next(&table, carry as u8, value) as u32)
 }
 
 // The carry after a run of symbols.
 pub fn carry_after(symbols: &[u8]) -> u8
     ensures { λ r. ⌜ r ≡ carry (now (symbols .entry)) ⌝ }
 {
+    let table = steps::laid_out();
     let mut carry: u8 = 36;
     let mut i: usize = 0;
     while i < symbols.len() {
         let v = symbol::value(symbols[i]);
-        carry = next(carry, v);
+        carry = next(&table, carry, v);
         i += 1;
     }
     carry
@@ -34,6 +57,31 @@ pub fn carry_after(symbols: &[u8]) -> u8
 pub fn check_of(symbols: &[u8]) -> u8
     ensures { λ r. ⌜ r ≡ checkOf (now (symbols .entry)) ⌝ }
 {
-    let carry = carry_after(symbols);
+    closing(carry_after(symbols))
+}
+
+// The carry after one more value, as the table has it.
+pub fn next(table: &[u8; 1296], carry: u8, value: u8) -> u8
+    requires { ⌜ (now table ≡ steps) × (1 ≤ carry) × (carry ≤ 36) × (value < 36) ⌝ }
+    ensures { λ r. ⌜ r ≡ step carry value ⌝ }
+{
+    table[((carry - 1) as usize) * 36 + (value as usize)]
+}
+
+// The check character that closes a carry.
+pub fn closing(carry: u8) -> u8
+    requires { ⌜ (1 ≤ carry) × (carry ≤ 36) ⌝ }
+    ensures { λ r. ⌜ r ≡ symbolOf ((37 - carry) % 36) ⌝ }
+{
     symbol::symbol_of((37 - carry) % 36)
+}
+
+// Whether a number is a carry.
+fn is_carry(number: u32) -> bool
+    ensures { λ r. ⌜ r ≡ isCarry number ⌝ }
+{
+    if number < 1 {
+        return false;
+    }
+    number <= 36
 }

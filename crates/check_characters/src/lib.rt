@@ -5,12 +5,15 @@ mod iban;
 mod identcode;
 mod number;
 mod remainder;
+mod steps;
 mod symbol;
 
 pub use answer::CheckAnswer;
 pub use answer::IssueAnswer;
+pub use carry::CarryAnswer;
 pub use carry::carry_after;
 pub use carry::check_of;
+pub use carry::next_carry;
 pub use iban::check_iban;
 pub use identcode::Part;
 pub use identcode::Parts;

@@ -11,14 +11,16 @@
 // check's value makes 22 + value leave 1 modulo 36: it is 15, the value of `F`.
 ghost use mathlib.Core.Path.{_≡_};
 ghost use Prim.Native.Nat.{_+_, _<_, _≤_};
-ghost use lib.ListN.{length};
+ghost use lib.ListN.{length, take};
 ghost use Rattle.check_characters.specs.Number.{lengthOf, allowedInNumber, wrongInNumber, checkedAs, checkedNumber};
 ghost use Rattle.check_characters.specs.Number.{issueAs, Issues};
 ghost use Rattle.check_characters.specs.Answer.{issuedTo};
-ghost use Rattle.check_characters.specs.Mod37.{checkOf};
+ghost use Rattle.check_characters.specs.Mod37.{carry, checkOf};
+ghost use Rattle.check_characters.specs.Steps.{steps};
 use crate::answer;
 use crate::answer::IssueAnswer;
 use crate::carry;
+use crate::steps;
 use crate::symbol;
 use refusal::Reason;
 use refusal::Refusal;
@@ -33,16 +35,23 @@ pub enum NumberAnswer {
     Refused(Refusal),
 }
 
+// How far a number's symbols are allowed, and the carry behind these.
+struct Walked {
+    wrong: usize,
+    carry: u8,
+}
+
 // Checks a tracking number or a label code; the length tells which.
 pub fn check_number(symbols: &[u8]) -> NumberAnswer
     ensures { λ r. ⌜ r ≡ checkedNumber (now (symbols .entry)) ⌝ }
 {
+    let table = steps::laid_out();
     let n = symbols.len();
     if n == 15 {
-        return check_as(Kind::Tracking, symbols);
+        return check_as(&table, Kind::Tracking, symbols);
     }
     if n == 28 {
-        return check_as(Kind::Label, symbols);
+        return check_as(&table, Kind::Label, symbols);
     }
     NumberAnswer::Refused(Refusal {
         why: Reason::WrongLength,
@@ -54,12 +63,13 @@ pub fn check_number(symbols: &[u8]) -> NumberAnswer
 pub fn issue_number(body: &[u8], output: &mut [u8]) -> IssueAnswer
     ensures { λ r. ⌜ Issues (now (body .entry)) (now (output .entry)) r (now (output .exit)) ⌝ }
 {
+    let table = steps::laid_out();
     let n = body.len();
     if n == 14 {
-        return issue_as(Kind::Tracking, body, output);
+        return issue_as(&table, Kind::Tracking, body, output);
     }
     if n == 27 {
-        return issue_as(Kind::Label, body, output);
+        return issue_as(&table, Kind::Label, body, output);
     }
     IssueAnswer::Refused(Refusal {
         why: Reason::WrongLength,
@@ -67,61 +77,69 @@ pub fn issue_number(body: &[u8], output: &mut [u8]) -> IssueAnswer
     })
 }
 
-// Checks a number that has the length of its kind.
-fn check_as(kind: Kind, symbols: &[u8]) -> NumberAnswer
-    requires { ⌜ length (now symbols) ≡ lengthOf kind ⌝ }
+// Checks a number that has the length of its kind. The check is a symbol like the others, and behind it the carry of a number that
+// passes is 2.
+fn check_as(table: &[u8; 1296], kind: Kind, symbols: &[u8]) -> NumberAnswer
+    requires { ⌜ (now table ≡ steps) × (length (now symbols) ≡ lengthOf kind) ⌝ }
     ensures { λ r. ⌜ r ≡ checkedAs kind (now (symbols .entry)) ⌝ }
 {
     let n = symbols.len();
-    let wrong = wrong_symbol(kind, symbols);
-    if wrong < n {
+    let walked = walk(table, kind, symbols);
+    if walked.wrong < n {
         return NumberAnswer::Refused(Refusal {
             why: Reason::WrongSymbol,
-            place: wrong,
+            place: walked.wrong,
         });
     }
-    let last = n - 1;
-    let carry = carry::carry_after(&symbols[..last]);
-    let check = symbol::value(symbols[last]);
-    if (carry + check) % 36 == 1 {
+    if walked.carry == 2 {
         return NumberAnswer::Accepted(kind);
     }
     NumberAnswer::Refused(Refusal {
         why: Reason::WrongCheck,
-        place: last,
+        place: n - 1,
     })
 }
 
 // Issues a number from a body that is one symbol shorter than its kind.
-fn issue_as(kind: Kind, body: &[u8], output: &mut [u8]) -> IssueAnswer
-    requires { ⌜ length (now body) + 1 ≡ lengthOf kind ⌝ }
+fn issue_as(table: &[u8; 1296], kind: Kind, body: &[u8], output: &mut [u8]) -> IssueAnswer
+    requires { ⌜ (now table ≡ steps) × (length (now body) + 1 ≡ lengthOf kind) ⌝ }
     ensures { λ r. ⌜ (r ≡ issueAs kind (now (body .entry)) (length (now (output .entry))))
         × (now (output .exit) ≡ issuedTo r (now (body .entry)) (checkOf (now (body .entry))) (now (output .entry))) ⌝ }
 {
-    let wrong = wrong_symbol(kind, body);
-    if wrong < body.len() {
+    let walked = walk(table, kind, body);
+    if walked.wrong < body.len() {
         return IssueAnswer::Refused(Refusal {
             why: Reason::WrongSymbol,
-            place: wrong,
+            place: walked.wrong,
         });
     }
-    let check = carry::check_of(body);
+    let check = carry::closing(walked.carry);
     answer::issue(body, check, output)
 }
 
-// The place of the first symbol that is not allowed where it stands, or the end.
-fn wrong_symbol(kind: Kind, symbols: &[u8]) -> usize
-    requires { ⌜ length (now symbols) ≤ lengthOf kind ⌝ }
-    ensures { λ r. ⌜ r ≡ wrongInNumber kind (now (symbols .entry)) ⌝ }
+// Walks to the first symbol that is not allowed where it stands, or the end, and takes the carry along.
+fn walk(table: &[u8; 1296], kind: Kind, symbols: &[u8]) -> Walked
+    requires { ⌜ (now table ≡ steps) × (length (now symbols) ≤ lengthOf kind) ⌝ }
+    ensures { λ r. ⌜ (r .wrong ≡ wrongInNumber kind (now (symbols .entry)))
+        × (r .carry ≡ carry (take (r .wrong) (now (symbols .entry)))) ⌝ }
 {
+    let mut carry: u8 = 36;
     let mut i: usize = 0;
     while i < symbols.len() {
-        if !is_allowed(kind, i, symbols[i]) {
-            return i;
+        let b = symbols[i];
+        if !is_allowed(kind, i, b) {
+            return Walked {
+                wrong: i,
+                carry: carry,
+            };
         }
+        carry = carry::next(table, carry, symbol::value(b));
         i += 1;
     }
-    i
+    Walked {
+        wrong: i,
+        carry: carry,
+    }
 }
 
 // Whether the byte b may stand at the place i of a number.

@@ -7,6 +7,7 @@ use Rattle.text.specs.Placed.{placed}
 use Rattle.check_characters.specs.Answer.{issuedTo}
 use Rattle.check_characters.specs.Mod37.{checkOf}
 use Rattle.check_characters.specs.Number.{issueAnswer, checkedNumber}
+use Rattle.check_characters.specs.Wedge.{nextCarry}
 use Rattle.check_characters.specs.Iban.{checkedIban}
 use Rattle.check_characters.specs.Identcode.{checkDigitOf, checkedIdentcode, partsAnswer, issueIdentcodeAnswer}
 use Rattle.check_characters.specs.declared.answer.IssueAnswer.{IssueAnswer}
@@ -22,6 +23,7 @@ use Rattle.purpose.specs.declared.write.PurposeAnswer.{PurposeAnswer}
 use Rattle.demands.specs.Demand1.{
   CheckNumberUnique,
   IssueNumberUnique,
+  NextCarryUnique,
   CheckIbanUnique,
   CheckIdentcodeUnique,
   ReadIdentcodeUnique,
@@ -42,6 +44,7 @@ use Rattle.demands.specs.Demand1.{
   WritePurposeCallUnique,
   CheckNumberCallUnique,
   IssueNumberCallUnique,
+  NextCarryCallUnique,
   CheckIbanCallUnique,
   CheckIdentcodeCallUnique,
   ReadIdentcodeCallUnique,
@@ -65,6 +68,9 @@ one-output answer body out check a b x y p q =
 
 pub issue-number-unique : IssueNumberUnique
 issue-number-unique body out = one-output (issueAnswer body) body out (checkOf body)
+
+pub next-carry-unique : NextCarryUnique
+next-carry-unique carry = one-answer (nextCarry carry)
 
 pub check-iban-unique : CheckIbanUnique
 check-iban-unique s = one-answer checkedIban s
@@ -139,6 +145,10 @@ check-number-call-unique symbols n kind place n₂ kind₂ place₂ p q =
 pub issue-number-call-unique : IssueNumberCallUnique
 issue-number-call-unique body output n bytes place n₂ bytes₂ place₂ x y p q =
     (p .0 .0 ∙ sym (q .0 .0), p .1 ∙ sym (q .1), p .0 .1 ∙ sym (q .0 .1), p .2 ∙ sym (q .2))
+
+pub next-carry-call-unique : NextCarryCallUnique
+next-carry-call-unique carry symbol n next place n₂ next₂ place₂ p q =
+    (p .0 .0 ∙ sym (q .0 .0), p .1 ∙ sym (q .1), p .0 .1 ∙ sym (q .0 .1))
 
 pub check-iban-call-unique : CheckIbanCallUnique
 check-iban-call-unique symbols n place n₂ place₂ p q = (p .0 ∙ sym (q .0), p .1 ∙ sym (q .1))

@@ -9,6 +9,7 @@ use Rattle.refused.proofs.Deciding as deciding
 use Rattle.refused.proofs.Writing as writing
 use Rattle.refused.proofs.Purposes as purposes
 use Rattle.refused.proofs.Numbers as numbers
+use Rattle.refused.proofs.Keys as keys
 use Rattle.refused.proofs.Identcodes as identcodes
 use Rattle.refused.proofs.Parcels as parcels
 use Rattle.refused.proofs.Either as either
@@ -26,6 +27,7 @@ use Rattle.demands.specs.Refusals.{
   NumberRefusedExactly,
   IbanRefusedExactly,
   IssueRefusedExactly,
+  KeyRefusedExactly,
   IdentcodeRefusedExactly,
   PartsRefusedExactly,
   IssueIdentcodeRefusedExactly,
@@ -43,6 +45,8 @@ use Rattle.demands.specs.Refusals.{
   IbanNeverBoth,
   IdentcodeAlwaysOne,
   IdentcodeNeverBoth,
+  KeyAlwaysOne,
+  KeyNeverBoth,
 }
 
 pub file-refused-exactly : FileRefusedExactly
@@ -83,6 +87,9 @@ iban-refused-exactly = numbers.iban-refused-exactly
 
 pub issue-refused-exactly : IssueRefusedExactly
 issue-refused-exactly = numbers.issue-refused-exactly
+
+pub key-refused-exactly : KeyRefusedExactly
+key-refused-exactly = keys.key-refused-exactly
 
 pub identcode-refused-exactly : IdentcodeRefusedExactly
 identcode-refused-exactly = identcodes.identcode-refused-exactly
@@ -135,3 +142,9 @@ identcode-always-one = identcodes.identcode-always-one
 
 pub identcode-never-both : IdentcodeNeverBoth
 identcode-never-both = identcodes.identcode-never-both
+
+pub key-always-one : KeyAlwaysOne
+key-always-one = keys.key-always-one
+
+pub key-never-both : KeyNeverBoth
+key-never-both = keys.key-never-both

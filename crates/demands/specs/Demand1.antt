@@ -8,8 +8,10 @@ use mathlib.Core.List.{List}
 use lib.ListN.{length, replicate}
 use Rattle.text.specs.Placed.{placed}
 use Rattle.check_characters.specs.Number.{Issues, checkedNumber}
+use Rattle.check_characters.specs.Wedge.{nextCarry}
 use Rattle.check_characters.specs.Iban.{checkedIban}
 use Rattle.check_characters.specs.Identcode.{checkedIdentcode, partsAnswer, IssuesIdentcode}
+use Rattle.check_characters.specs.declared.carry.CarryAnswer.{CarryAnswer}
 use Rattle.check_characters.specs.declared.number.NumberAnswer.{NumberAnswer}
 use Rattle.check_characters.specs.declared.answer.IssueAnswer.{IssueAnswer}
 use Rattle.check_characters.specs.declared.answer.CheckAnswer.{CheckAnswer}
@@ -32,7 +34,7 @@ use Rattle.purpose.specs.Purpose.{Purposes}
 use Rattle.purpose.specs.declared.write.PurposeAnswer.{PurposeAnswer}
 use Rattle.file.specs.declared.whole.FileAnswer.{FileAnswer}
 use Rattle.peliranopi.specs.Calls.{JudgeTells, LineTells, FieldTells, WriteTells, PurposeTells, NumberTells, IssueTells, IbanTells}
-use Rattle.peliranopi.specs.Calls.{IdentcodeTells, PartsTells, IssueIdentcodeTells}
+use Rattle.peliranopi.specs.Calls.{CarryTells, IdentcodeTells, PartsTells, IssueIdentcodeTells}
 
 -- A contract `answer ≡ definition of the inputs` leaves one answer. That is the contract of every public function but those that
 -- write into a buffer, which have relations of their own (`Issues`, `Judges` and so on).
@@ -44,6 +46,10 @@ abbrev pub IssueNumberUnique : Type 0
 IssueNumberUnique =
     (body output : List ℕ) (a b : IssueAnswer) (x y : List ℕ) → Issues body output a x → Issues body output b y →
     (a ≡ b) × (x ≡ y)
+
+abbrev pub NextCarryUnique : Type 0
+NextCarryUnique =
+    (carry symbol : ℕ) (a b : CarryAnswer) → a ≡ nextCarry carry symbol → b ≡ nextCarry carry symbol → a ≡ b
 
 abbrev pub CheckIbanUnique : Type 0
 CheckIbanUnique =
@@ -145,6 +151,11 @@ abbrev pub IssueNumberCallUnique : Type 0
 IssueNumberCallUnique =
     (body output : List ℕ) (n bytes place n₂ bytes₂ place₂ : ℕ) (x y : List ℕ) → IssueTells body output n bytes place x →
     IssueTells body output n₂ bytes₂ place₂ y → (n ≡ n₂) × (bytes ≡ bytes₂) × (place ≡ place₂) × (x ≡ y)
+
+abbrev pub NextCarryCallUnique : Type 0
+NextCarryCallUnique =
+    (carry symbol n next place n₂ next₂ place₂ : ℕ) → CarryTells carry symbol n next place → CarryTells carry symbol n₂ next₂ place₂ →
+    (n ≡ n₂) × (next ≡ next₂) × (place ≡ place₂)
 
 abbrev pub CheckIbanCallUnique : Type 0
 CheckIbanCallUnique =

@@ -11,9 +11,11 @@ use Rattle.refusal.specs.Table.{because}
 use Rattle.refusal.specs.declared.Refusal.{Refusal}
 use Rattle.refusal.specs.declared.Reason.the-variants.{FieldForm}
 use Rattle.check_characters.specs.Number.{Issues, checkedNumber}
+use Rattle.check_characters.specs.Wedge.{nextCarry}
 use Rattle.check_characters.specs.Iban.{checkedIban}
 use Rattle.check_characters.specs.Identcode.{checkedIdentcode, partsAnswer, IssuesIdentcode}
 use Rattle.check_characters.specs.declared.identcode.PartsAnswer.the-variants.{Refused as NotRead}
+use Rattle.check_characters.specs.declared.carry.CarryAnswer.the-variants.{Refused as NoCarry}
 use Rattle.check_characters.specs.declared.number.Kind.{Kind}
 use Rattle.check_characters.specs.declared.number.NumberAnswer.the-variants.{Refused as RefusedAsNumber}
 use Rattle.check_characters.specs.declared.answer.IssueAnswer.the-variants.{Refused as NotIssued}
@@ -40,11 +42,13 @@ use Rattle.grammar.specs.Grammar.{Filled, Reads, StandsInLine}
 use Rattle.grammar.specs.Written.{Writable}
 use Rattle.allowed.specs.Allowed.{FileLine, fileBytes, AllowedFile}
 use Rattle.slips.specs.Exactly.{SoundNumber, SoundIban, SoundIdentcode}
+use Rattle.slips.specs.Typed.{Leads}
 use Rattle.refused.specs.Line.{Counted, RefusedAt, RefusedFind}
 use Rattle.refused.specs.File.{Begins, dueBehind, toldBehind, RefusedFile, Means}
 use Rattle.refused.specs.Write.{RefusedWrite}
 use Rattle.refused.specs.Purpose.{RefusedPurpose}
 use Rattle.refused.specs.Number.{RefusedNumber, RefusedIban, RefusedIssue}
+use Rattle.refused.specs.Wedge.{RefusedKey}
 use Rattle.refused.specs.Identcode.{RefusedIdentcode, RefusedIdentcodeIssue}
 
 -- A file is refused exactly when it is too long; or the list of countries has an odd length; or it begins with lines that are allowed,
@@ -128,6 +132,12 @@ IssueRefusedExactly =
     (body output : List ℕ) (refusal : Refusal) (after : List ℕ) →
     Issues body output (NotIssued refusal) after ↔ (RefusedIssue body (length output) refusal × (after ≡ output))
 
+-- Document 02, request 4. The carry after one more key: 15, then 17.
+abbrev pub KeyRefusedExactly : Type 0
+KeyRefusedExactly =
+    (carry key : ℕ) (refusal : Refusal) →
+    (nextCarry carry key ≡ NoCarry refusal) ↔ RefusedKey carry key refusal
+
 -- Document 02, request 2. An identcode, its parts, and the 21 digits of one to be issued: "with nothing written".
 abbrev pub IdentcodeRefusedExactly : Type 0
 IdentcodeRefusedExactly =
@@ -161,7 +171,7 @@ FailingCodeRefusesFile =
     Filled code → length code ≤ 22 → (checkedIdentcode code ≡ Passed → ⊥) →
     Judges file lent (RefusedAsFile (because FieldForm (length (fileBytes ls) + 4))) (replicate (lent .words) 0)
 
--- A line, a field, a writing, a number, an IBAN and an identcode pass or are refused, never both.
+-- A line, a field, a writing, a number, an IBAN, an identcode and a key pass or are refused, never both.
 abbrev pub LineAlwaysOne : Type 0
 LineAlwaysOne =
     (file : List ℕ) (offset : ℕ) →
@@ -220,3 +230,11 @@ IdentcodeAlwaysOne =
 abbrev pub IdentcodeNeverBoth : Type 0
 IdentcodeNeverBoth =
     (code : List ℕ) (refusal : Refusal) → SoundIdentcode code → RefusedIdentcode code refusal → ⊥
+
+abbrev pub KeyAlwaysOne : Type 0
+KeyAlwaysOne =
+    (carry key : ℕ) → ((next : ℕ) × Leads carry key next) ⊎ ((refusal : Refusal) × RefusedKey carry key refusal)
+
+abbrev pub KeyNeverBoth : Type 0
+KeyNeverBoth =
+    (carry key next : ℕ) (refusal : Refusal) → Leads carry key next → RefusedKey carry key refusal → ⊥

@@ -4,33 +4,21 @@ use mathlib.Core.Path.{_≡_, refl, sym, ap, _∙_}
 use mathlib.Core.Bool.{Bool, true, false, _&&_}
 use mathlib.Core.List.{List, [], _∷_}
 use mathlib.Core.Logic.{⊎-elim}
-use native.Mathlib.Nat.{add-zero, add-suc, suc-add, zero-add, not-suc-le-zero, le-of-suc-le-suc}
 use native.Mathlib.Omega.{arith}
 use lib.Dec.{leb, eqb}
 use lib.ListN.{getD}
 use borrow.Author.Tests.{leb-true, lt-leb, eq-eqb, ne-eqb}
 use Rattle.text.specs.Choice.{if_then_else_}
+use Rattle.text.specs.Values.{values}
 use Rattle.text.proofs.Numbers.{eq-or-ne}
 use Rattle.text.proofs.Choices.{and-left, and-right}
+use Rattle.text.proofs.Tables.{values-at}
 use Rattle.fields.specs.Record.{rowOf, recordAt, oneOf}
 use Rattle.fields.specs.Profile.{Asked, anything, only, But, always, instead, narrowed, widthOf, Row, names, rowIn, noField}
 use Rattle.fields.specs.Profile.{profile, meets, widthInTable, isRequired, hasForm}
 use Rattle.fields.specs.declared.record.Record.{Record}
 use Rattle.fields.specs.declared.record.Record.the-variants.{Header, Sender, Shipment, Parcel, Product, Feature}
 use Rattle.fields.proofs.Records.{at-row}
-
--- the list of a function's values from i on
-abbrev pub values : {A : Type 0} → (ℕ → A) → ℕ → ℕ → List A
-values f i zero = []
-values f i (suc n) = f i ∷ values f (suc i) n
-
-values-from : {A : Type 0} (f : ℕ → A) (i n k : ℕ) (d : A) → k < n → getD (values f i n) k d ≡ f (i + k)
-values-from f i zero k d h = absurd (not-suc-le-zero h)
-values-from f i (suc n) zero d h = ap f (sym (add-zero i))
-values-from f i (suc n) (suc k) d h = values-from f (suc i) n k d (le-of-suc-le-suc h) ∙ ap f (suc-add i k ∙ sym (add-suc i k))
-
-values-at : {A : Type 0} (f : ℕ → A) (n k : ℕ) (d : A) → k < n → getD (values f 0 n) k d ≡ f k
-values-at f n k d h = values-from f 0 n k d h ∙ ap f (zero-add k)
 
 -- a table of six records, five lines of ten fields each, each entry what a rule gives it
 abbrev pub table : {A : Type 0} → (ℕ → ℕ → A) → List (List (List A))

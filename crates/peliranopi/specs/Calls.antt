@@ -7,6 +7,7 @@ use Rattle.refusal.specs.Table.{Verdict}
 use Rattle.check_characters.specs.Answer.{issuedTo, checkVerdict, issueVerdict}
 use Rattle.check_characters.specs.Mod37.{checkOf}
 use Rattle.check_characters.specs.Number.{issueAnswer, numberVerdict, checkedNumber}
+use Rattle.check_characters.specs.Wedge.{nextCarry, carryVerdict}
 use Rattle.check_characters.specs.Iban.{checkedIban}
 use Rattle.check_characters.specs.Identcode.{checkDigitOf, checkedIdentcode, partsAnswer, issueIdentcodeAnswer, partsVerdict}
 use Rattle.check_characters.specs.declared.answer.IssueAnswer.{IssueAnswer}
@@ -18,7 +19,7 @@ use Rattle.file.specs.File.{judged, listOf, fileVerdict}
 use Rattle.writer.specs.Write.{recordNumbered, between, writeAnswer, writtenTo, writeVerdict}
 use Rattle.purpose.specs.Purpose.{purposeAnswer, purposeOf, listAfter, outputAfter, purposeVerdict}
 use Rattle.peliranopi.specs.Told.{numberTold, placeTold, linesTold, parcelsTold, centsTold, recordTold, countTold, nextTold, startTold}
-use Rattle.peliranopi.specs.Told.{lengthTold, writtenTold, purposeTold, issuedTold, kindTold, partsTold}
+use Rattle.peliranopi.specs.Told.{lengthTold, writtenTold, purposeTold, issuedTold, kindTold, carryTold, partsTold}
 
 -- what every call tells: its number, and the place
 abbrev pub Tells : Verdict → ℕ → ℕ → Type 0
@@ -76,6 +77,12 @@ IssuedTells answer body check output number bytes place after =
 abbrev pub IssueTells : List ℕ → List ℕ → ℕ → ℕ → ℕ → List ℕ → Type 0
 IssueTells body output number bytes place after =
     IssuedTells (issueAnswer body (length output)) body (checkOf body) output number bytes place after
+
+-- the carry after one more symbol
+abbrev pub CarryTells : ℕ → ℕ → ℕ → ℕ → ℕ → Type 0
+CarryTells carry symbol number next place =
+    let answer = nextCarry carry symbol in
+    Tells (carryVerdict answer) number place × (next ≡ carryTold answer)
 
 -- checking an IBAN
 abbrev pub IbanTells : List ℕ → ℕ → ℕ → Type 0

@@ -10,6 +10,8 @@ use Rattle.check_characters.specs.declared.number.NumberAnswer.{NumberAnswer}
 use Rattle.check_characters.specs.declared.number.NumberAnswer.the-variants as checked
 use Rattle.check_characters.specs.declared.answer.IssueAnswer.{IssueAnswer}
 use Rattle.check_characters.specs.declared.answer.IssueAnswer.the-variants.{Issued, Refused}
+use Rattle.check_characters.specs.declared.carry.CarryAnswer.{CarryAnswer}
+use Rattle.check_characters.specs.declared.carry.CarryAnswer.the-variants as keyed
 use Rattle.check_characters.specs.declared.identcode.Parts.{Parts}
 use Rattle.check_characters.specs.declared.identcode.PartsAnswer.{PartsAnswer}
 use Rattle.check_characters.specs.declared.identcode.PartsAnswer.the-variants as parted
@@ -101,6 +103,11 @@ kindNumber Label = 2
 abbrev pub kindTold : NumberAnswer → ℕ
 kindTold (checked.Accepted kind) = kindNumber kind
 kindTold (checked.Refused refusal) = 0
+
+-- of a symbol keyed: the carry after it
+abbrev pub carryTold : CarryAnswer → ℕ
+carryTold (keyed.Next carry) = carry
+carryTold (keyed.Refused refusal) = 0
 
 -- of an identcode: where each of its six parts starts, and how many digits it has, twelve numbers in the parts' order
 abbrev pub asNumbers : Parts → List ℕ

@@ -15,4 +15,5 @@ pub use numbers::peliranopi_check_identcode;
 pub use numbers::peliranopi_check_number;
 pub use numbers::peliranopi_issue_identcode;
 pub use numbers::peliranopi_issue_number;
+pub use numbers::peliranopi_next_carry;
 pub use numbers::peliranopi_read_identcode;

@@ -1,9 +1,11 @@
-// The calls on DPD numbers, IBANs and identcodes.
+// The calls on DPD numbers and their carry, IBANs and identcodes.
 ghost use mathlib.Core.Path.{_≡_};
 ghost use Rattle.check_characters.specs.Answer.{checkVerdict, issueVerdict};
 ghost use Rattle.peliranopi.specs.Told.{kindNumber, issuedTold, asNumbers};
-ghost use Rattle.peliranopi.specs.Calls.{Tells, NumberTells, IssueTells, IbanTells, IdentcodeTells, PartsTells, IssueIdentcodeTells};
+ghost use Rattle.peliranopi.specs.Calls.{Tells, NumberTells, IssueTells, CarryTells, IbanTells, IdentcodeTells, PartsTells};
+ghost use Rattle.peliranopi.specs.Calls.{IssueIdentcodeTells};
 use crate::tell;
+use check_characters::CarryAnswer;
 use check_characters::CheckAnswer;
 use check_characters::IssueAnswer;
 use check_characters::Kind;
@@ -38,6 +40,28 @@ pub extern "C" fn peliranopi_issue_number(
     ensures { λ r. ⌜ IssueTells (now (body .entry)) (now (output .entry)) r (now (written .exit)) (now (place .exit)) (now (output .exit)) ⌝ }
 {
     tell_issued(check_characters::issue_number(body, output), written, place)
+}
+
+#[no_mangle]
+pub extern "C" fn peliranopi_next_carry(
+    carry: u32,
+    symbol: u8,
+    next: &mut u32,
+    place: &mut usize,
+) -> u32
+    ensures { λ r. ⌜ CarryTells carry symbol r (now (next .exit)) (now (place .exit)) ⌝ }
+{
+    let answer = check_characters::next_carry(carry, symbol);
+    match answer {
+        CarryAnswer::Next(after) => {
+            *next = after;
+            tell::accepted(place)
+        }
+        CarryAnswer::Refused(refusal) => {
+            *next = 0;
+            tell::refused(refusal, place)
+        }
+    }
 }
 
 #[no_mangle]

@@ -14,6 +14,7 @@ pub mod Writing
 pub mod Purposes
 pub mod Wrong
 pub mod Numbers
+pub mod Keys
 pub mod Identcodes
 pub mod Parcels
 pub mod Either

@@ -3,4 +3,5 @@ pub mod File
 pub mod Write
 pub mod Purpose
 pub mod Number
+pub mod Wedge
 pub mod Identcode

@@ -24,13 +24,13 @@ use Rattle.check_characters.specs.declared.number.Kind.{Kind}
 use Rattle.check_characters.specs.declared.number.Kind.the-variants.{Tracking, Label}
 use Rattle.check_characters.specs.declared.answer.IssueAnswer.{IssueAnswer}
 use Rattle.check_characters.specs.declared.answer.IssueAnswer.the-variants.{Issued, Refused}
-use Rattle.check_characters.proofs.Carries.{carry-of, check-value}
+use Rattle.check_characters.proofs.Carries.{carry-of, carry-append, two-of-one, two-passes, check-value}
 use Rattle.check_characters.proofs.Shapes.{has-last, tracking-check, label-check}
 use Rattle.check_characters.proofs.Issuing.{room-there, room-whole, issue-right, issue-tracking, issue-label}
 use Rattle.slips.specs.Exactly.{Shaped, SoundNumber, bodyOf}
 use Rattle.slips.proofs.Shaping.{shaped-all, all-shaped}
 use Rattle.slips.proofs.Written.{written-start, front-shaped, all-and-last, written-again}
-use Rattle.slips.proofs.Numbers.{two-passes, carry-append, two-of-one, one-symbol}
+use Rattle.slips.proofs.Numbers.{one-symbol}
 
 -- what an issued answer tells of the body
 pub record Body (k : Kind) (body : List ℕ) (n : ℕ) : Type 0 where
@@ -77,10 +77,10 @@ module _ (body : List ℕ) where
   unfolding checkOf
   check-is = ap symbolOf (check-value (carry body) (carry-of body))
 
-  check-symbol : symbol (checkOf body) ≡ true
+  pub check-symbol : symbol (checkOf body) ≡ true
   check-symbol = ap symbol check-is ∙ symbol-symbol ((37 - carry body) % 36) (omega arith)
 
-  check-closes : (carry body + valueOf (checkOf body)) % 36 ≡ 1
+  pub check-closes : (carry body + valueOf (checkOf body)) % 36 ≡ 1
   check-closes = let r = carry-of body in let v = ap valueOf check-is ∙ symbol-value ((37 - carry body) % 36) (omega arith) in
       rw v (omega (arith, r .low, r .high))
 

@@ -4,6 +4,7 @@ pub mod Written
 pub mod Steps
 pub mod Numbers
 pub mod Issues
+pub mod Typing
 pub mod Remainders
 pub mod Ibans
 pub mod Identcodes

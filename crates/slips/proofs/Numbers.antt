@@ -24,22 +24,14 @@ use Rattle.check_characters.specs.declared.number.Kind.{Kind}
 use Rattle.check_characters.specs.declared.number.Kind.the-variants.{Tracking, Label}
 use Rattle.check_characters.specs.declared.number.NumberAnswer.the-variants.{Accepted, Refused}
 use Rattle.check_characters.proofs.Symbols.{value-le, value-digit, value-capital}
-use Rattle.check_characters.proofs.Carries.{Carry, step-more, step-carry, carry-of}
+use Rattle.check_characters.proofs.Carries.{Carry, step-carry, carry-of, carry-append, passes-two, two-passes}
 use Rattle.check_characters.proofs.Shapes.{has-last, tracking-digit, tracking-check, label-symbol, label-digit, label-check}
 use Rattle.check_characters.proofs.Checking.{checked-tracking, checked-label}
 use Rattle.slips.specs.Slips.{AgreeBut, swapped, OneFollows}
 use Rattle.slips.specs.Exactly.{Shaped, SoundNumber}
 use Rattle.slips.proofs.Shaping.{shaped-all, all-shaped}
 use Rattle.slips.proofs.Places.{in-pieces, agree-there, pair-at}
-use Rattle.slips.proofs.Written.{all-and-last}
-use Rattle.slips.proofs.Steps.{step-sum, step-value, step-back, swap-follows, follows-swap}
-
-pub two-of-one : (c v : ℕ) → (c + v) % 36 ≡ 1 → step c v ≡ 2
-two-of-one c v e = step-more c v (λ z. omega arith) ∙ rw e
-
-one-of-two : (c v : ℕ) → step c v ≡ 2 → (c + v) % 36 ≡ 1
-unfolding step
-one-of-two c v e = step-sum c v 36 1 e
+use Rattle.slips.proofs.Steps.{step-value, step-back, swap-follows, follows-swap}
 
 sound-as : (j k : Kind) (s : List ℕ) → length s ≡ lengthOf j → checkedAs j s ≡ Accepted k → SoundNumber k s
 unfolding checkedAs
@@ -71,23 +63,6 @@ checked-kind Label s n = checked-label s (λ e. omega arith) n
 pub sound-accepted : (k : Kind) (s : List ℕ) → SoundNumber k s → checkedNumber s ≡ Accepted k
 sound-accepted k s g = checked-kind k s (g .long) ∙ accepted-as k s g
 
--- a number passes exactly when the carry of the whole is 2: the check is a symbol like the others
-pub carry-append : (c : ℕ) (p q : List ℕ) → carryFrom c (p ++ q) ≡ carryFrom (carryFrom c p) q
-carry-append c [] q = refl
-carry-append c (b ∷ p) q = carry-append (step c (valueOf b)) p q
-
-module _ (s : List ℕ) (h : 1 ≤ length s) where
-  last-step : carry s ≡ step (carry (take (length s - 1) s)) (valueOf (getD s (length s - 1) 0))
-  last-step = ap carry (all-and-last s h) ∙ carry-append 36 (take (length s - 1) s) (getD s (length s - 1) 0 ∷ [])
-
-  pub passes-two : passes s ≡ true → carry s ≡ 2
-  unfolding passes
-  passes-two e = last-step ∙ two-of-one (carry (take (length s - 1) s)) (valueOf (getD s (length s - 1) 0)) (eqb-true _ _ e)
-
-  pub two-passes : carry s ≡ 2 → passes s ≡ true
-  unfolding passes
-  two-passes e = eq-eqb _ _ (one-of-two (carry (take (length s - 1) s)) (valueOf (getD s (length s - 1) 0)) (sym last-step ∙ e))
-
 carry-back : (c d : ℕ) (s : List ℕ) → Carry c → Carry d → carryFrom c s ≡ carryFrom d s → c ≡ d
 carry-back c d [] h k e = e
 carry-back c d (b ∷ s) h k e = step-back c d (valueOf b) h k (carry-back _ _ s (step-carry c (valueOf b)) (step-carry d (valueOf b)) e)
@@ -96,7 +71,7 @@ carry-back c d (b ∷ s) h k e = step-back c d (valueOf b) h k (carry-back _ _ s
 digit-symbol : (b : ℕ) → digit b ≡ true → symbol b ≡ true
 digit-symbol b e = rw e
 
-symbol-of : (k : Kind) (i b : ℕ) → i < lengthOf k → allowedInNumber k i b ≡ true → symbol b ≡ true
+pub symbol-of : (k : Kind) (i b : ℕ) → i < lengthOf k → allowedInNumber k i b ≡ true → symbol b ≡ true
 symbol-of Tracking i b h e =
     ⊎-elim (λ l. tracking-check Tracking i b (symbol b) refl l h refl
     ∙ e) (λ l. digit-symbol b (tracking-digit Tracking i b (digit b) refl l refl ∙ e)) (le-or-lt 14 i)
@@ -120,12 +95,12 @@ valued b s =
     letters : digit b ≡ false → capital b ≡ true → ((valueOf b + 48 ≡ b) × (valueOf b < 10)) ⊎ ((valueOf b + 55 ≡ b) × (10 ≤ valueOf b))
     letters n c = let r = capital-range b c in let v = value-capital b (digit b) refl (capital b) refl n c in inr (omega arith, omega arith)
 
-value-one : (a b : ℕ) → symbol a ≡ true → symbol b ≡ true → valueOf a ≡ valueOf b → a ≡ b
+pub value-one : (a b : ℕ) → symbol a ≡ true → symbol b ≡ true → valueOf a ≡ valueOf b → a ≡ b
 value-one a b sa sb e =
     ⊎-elim (λ x. ⊎-elim (λ y. omega arith) (λ y. omega arith) (valued b sb))
     (λ x. ⊎-elim (λ y. omega arith) (λ y. omega arith) (valued b sb)) (valued a sa)
 
-below : (b : ℕ) → valueOf b < 36
+pub below : (b : ℕ) → valueOf b < 36
 below b = omega (arith, value-le b)
 
 -- a number in pieces: what stands in a shape is a symbol, and a sound number's carry ends at 2

@@ -10,7 +10,7 @@ use borrow.Author.Tests.{eqb-true, eq-eqb, ne-eqb}
 use Rattle.text.proofs.Choices.{and-left, and-right, and-both, or-cases}
 use Rattle.text.proofs.Finite.{every, every-at, told-apart}
 use Rattle.check_characters.specs.Mod37.{thirtySixFor0, step}
-use Rattle.check_characters.proofs.Carries.{Carry}
+use Rattle.check_characters.proofs.Carries.{Carry, step-sum}
 use Rattle.slips.specs.Slips.{Follows, OneFollows}
 
 -- a test of a carry and two values, at all of them
@@ -25,12 +25,7 @@ always-at test t c x y h l m =
     (every-at 36 (λ x. every 36 (λ y. test (suc (c - 1)) x y))
     (every-at 36 (λ c. every 36 (λ x. every 36 (λ y. test (suc c) x y))) t (c - 1) (omega (arith, h .low, h .high))) x l) y m)
 
--- the step is one to one in what the sum leaves modulo 36
-pub step-sum : (c v d w : ℕ) → step c v ≡ step d w → (c + v) % 36 ≡ (d + w) % 36
-unfolding step
-step-sum c v d w e = told-apart 36 (λ x y. 2 * thirtySixFor0 x % 37) (λ x y. 2 * thirtySixFor0 y % 37) refl ((c + v) % 36) ((d + w) % 36)
-    (omega arith) (omega arith) e
-
+-- the step is one to one in the value and in the carry
 pub step-value : (c v w : ℕ) → v < 36 → w < 36 → step c v ≡ step c w → v ≡ w
 step-value c v w l m e = omega (arith, step-sum c v c w e)
 

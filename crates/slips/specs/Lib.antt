@@ -1,2 +1,3 @@
 pub mod Slips
 pub mod Exactly
+pub mod Typed

@@ -5,4 +5,5 @@ pub mod Scans
 pub mod Runs
 pub mod Placing
 pub mod Finite
+pub mod Tables
 pub mod Decimals

@@ -1,8 +1,9 @@
--- `carry::carry_after` meets its contract: the carry from here on is the carry of the whole.
+-- `carry::carry_after` meets its contract: the carry is that of the symbols in front.
 use Prim.Native.Nat.{_≤_, _-_}
 use mathlib.Core.Path.{_≡_}
-use lib.ListN.{length, drop}
-use Rattle.check_characters.specs.Mod37.{carryFrom, carry as carryOf}
+use lib.ListN.{length, take}
+use Rattle.check_characters.specs.Mod37.{carry as carryOf}
+use Rattle.check_characters.specs.Steps.{steps}
 use Rattle.check_characters.proofs.Symbols.{value-below}
 use Rattle.check_characters.proofs.Carries.{step-low, step-high, carry-on, carry-ends}
 use borrow.Author.Needs.{needs}
@@ -12,14 +13,15 @@ use Rattle.check_characters.proofs.carry.carry_after.Tie as tie
 ruleset laws = (needs, value-below, step-low, step-high, carry-on, carry-ends)
 
 abbrev Inv-loop : tie.InvT-loop
-Inv-loop s carry₀ i₀ carry i = (i ≤ length s) × (1 ≤ carry) × (carry ≤ 36) × (carryFrom carry (drop i s) ≡ carryOf s)
+Inv-loop s table carry₀ i₀ carry i =
+    (i ≤ length s) × (1 ≤ carry) × (carry ≤ 36) × (carry ≡ carryOf (take i s))
 
 abbrev μ-loop : tie.MeasureT-loop
-μ-loop s carry₀ i₀ carry i = length s - i
+μ-loop s table carry₀ i₀ carry i = length s - i
 
 pub carry-after-spec : {M : Type 1} → statement M
 carry-after-spec =
     tie.close
     (tie.spec
-    Inv-loop μ-loop (λ c. search laws) (λ c. search laws) (λ c κs. search laws) (λ c κs. search laws) (λ c. search laws)
+    Inv-loop μ-loop (λ c κs. search laws) (λ c. search laws) (λ c. search laws) (λ c κs. search laws) (λ c κs. search laws) (λ c. search laws)
     (λ c. search laws) (λ c. search laws) (λ c. search laws))

@@ -10,4 +10,4 @@ pub check-number-spec : {M : Type 1} → statement M
 check-number-spec =
     tie.close
     (tie.spec
-    (λ c κs. search laws) (λ c. search laws) (λ c κs. search laws) (λ c. search laws) (λ c. search laws))
+    (λ c κs. search laws) (λ c κs. search laws) (λ c. search laws) (λ c κs. search laws) (λ c. search laws) (λ c. search laws))

@@ -12,5 +12,5 @@ unfolding issuedTo
 issue-number-spec =
     tie.close
     (tie.spec
-    (λ c κs. search laws) (λ c. search laws) (λ c. search laws) (λ c κs. search laws) (λ c. search laws) (λ c. search laws)
+    (λ c κs. search laws) (λ c κs. search laws) (λ c. search laws) (λ c. search laws) (λ c κs. search laws) (λ c. search laws) (λ c. search laws)
     (λ c. search laws))

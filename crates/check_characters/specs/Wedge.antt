@@ -1,0 +1,31 @@
+-- The scanning wedge (document 02, request 4), which "asks for the carry after each keystroke".
+--
+-- It starts at 36. Keyed 09980000020041F, each key's carry goes into the next call, and the carries are those that src/number.rt lists,
+-- 35 behind the first `0` and 22 behind the `1`; behind the check `F` it is 2, as behind every number that passes (`example-typed`).
+use Prim.Native.Nat.{ℕ}
+use mathlib.Core.Bool.{Bool, not, _&&_}
+use lib.Dec.{leb}
+use Rattle.text.specs.Choice.{if_then_else_}
+use Rattle.text.specs.Byte.{symbol}
+use Rattle.refusal.specs.declared.Reason.the-variants.{NotThere, WrongSymbol}
+use Rattle.refusal.specs.Table.{because, verdictOf, Verdict}
+use Rattle.check_characters.specs.Symbol.{valueOf}
+use Rattle.check_characters.specs.Mod37.{step}
+use Rattle.check_characters.specs.declared.carry.CarryAnswer.{CarryAnswer}
+use Rattle.check_characters.specs.declared.carry.CarryAnswer.the-variants.{Next, Refused}
+
+-- "carries 1 to 36"
+abbrev pub isCarry : ℕ → Bool
+isCarry carry = leb 1 carry && leb carry 36
+
+-- the carry after one more symbol; a number that is no carry is 15, then a byte that is no symbol 17
+unfoldable pub nextCarry : ℕ → ℕ → CarryAnswer
+nextCarry carry key =
+    if not (isCarry carry) then Refused (because NotThere 0)
+    else if not (symbol key) then Refused (because WrongSymbol 0)
+    else Next (step carry (valueOf key))
+
+-- the paper's number and place for each answer
+abbrev pub carryVerdict : CarryAnswer → Verdict
+carryVerdict (Next carry) = Verdict.passes
+carryVerdict (Refused refusal) = verdictOf refusal
