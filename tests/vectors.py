@@ -16,6 +16,30 @@ def carry(text):
     return p
 
 
+def next_carry(before, key):
+    """The carry after one more key; there are carries 1 to 36, and no other."""
+    if not 1 <= before <= 36:
+        return "no 15 0"
+    if len(key) != 1 or key not in SYMBOLS:
+        return "no 17 0"
+    s = (before + SYMBOLS.index(key)) % 36
+    return str((s or 36) * 2 % 37)
+
+
+def asked(text):
+    before, _, key = text.partition(" ")
+    return next_carry(int(before), key)
+
+
+def typed(text):
+    """The carry after each key. Who overlooks a refusal goes on with 0."""
+    answers, before = [], 36
+    for key in text:
+        answers.append(next_carry(before, key))
+        before = int(answers[-1]) if answers[-1].isdigit() else 0
+    return " ".join(answers)
+
+
 def check_character(text):
     (found,) = [c for c in SYMBOLS if (carry(text) + SYMBOLS.index(c)) % 36 == 1]
     return found
@@ -102,7 +126,17 @@ def issued_identcode(body):
     return not_digits(body, 21) or (body + check_digit(body)).ljust(30, ".")
 
 
-ANSWERS = {"N": number, "B": issued, "C": check_character, "I": iban, "D": identcode, "P": parts, "J": issued_identcode}
+ANSWERS = {
+    "N": number,
+    "B": issued,
+    "C": check_character,
+    "I": iban,
+    "D": identcode,
+    "P": parts,
+    "J": issued_identcode,
+    "K": asked,
+    "T": typed,
+}
 
 if __name__ == "__main__":
     for line in sys.stdin.read().splitlines():

@@ -1,6 +1,8 @@
 // Runs vectors: each line of the input is a letter, a space and a text, and each gives a line with the text and its answer.
 // N: a DPD number is checked. B: one is issued from this body. C: the check character is given. I: an IBAN is checked. D: an identcode
-// is checked. P: its parts are read. J: one is issued from these digits.
+// is checked. P: its parts are read. J: one is issued from these digits. K: the carry after one more key is given, where the text is the
+// carry before it, a space and the key. T: the text is typed key by key, and the carry after each key is given.
+use check_characters::CarryAnswer;
 use check_characters::CheckAnswer;
 use check_characters::IssueAnswer;
 use check_characters::Kind;
@@ -48,6 +50,8 @@ fn say(line: &[u8]) {
         b'D' => say_identcode(text),
         b'P' => say_parts(text),
         b'J' => say_issued_identcode(text),
+        b'K' => say_next(text),
+        b'T' => say_typed(text),
         _ => say_unknown(),
     }
 }
@@ -57,12 +61,16 @@ fn say_unknown() {
 }
 
 fn say_no(refusal: Refusal) {
+    say_refused(refusal);
+    streams::say(b"\n");
+}
+
+fn say_refused(refusal: Refusal) {
     let why = refusal.why;
     streams::say(b" no ");
     streams::say_decimal(refusal::number(why) as u64);
     streams::say(b" ");
     streams::say_decimal(refusal.place as u64);
-    streams::say(b"\n");
 }
 
 fn say_number(s: &[u8]) {
@@ -152,4 +160,40 @@ fn say_each(s: &[u8], parts: Parts) {
 fn say_part(s: &[u8], part: Part) {
     streams::say(b" ");
     streams::say(text::clip(s, part.start, part.length));
+}
+
+fn say_next(s: &[u8]) {
+    let carry = test_input::number(s, 0);
+    let at = carry.next;
+    if s.len() <= at {
+        say_unknown();
+        return;
+    }
+    say_carry(check_characters::next_carry(carry.value as u32, s[at]));
+    streams::say(b"\n");
+}
+
+fn say_typed(keys: &[u8]) {
+    let mut carry: u32 = 36;
+    let mut i: usize = 0;
+    while i < keys.len() {
+        carry = say_carry(check_characters::next_carry(carry, keys[i]));
+        i += 1;
+    }
+    streams::say(b"\n");
+}
+
+// Says a carry and answers it, or says the refusal and answers 0, which is no carry.
+fn say_carry(answer: CarryAnswer) -> u32 {
+    match answer {
+        CarryAnswer::Next(carry) => {
+            streams::say(b" ");
+            streams::say_decimal(carry as u64);
+            carry
+        }
+        CarryAnswer::Refused(refusal) => {
+            say_refused(refusal);
+            0
+        }
+    }
 }
