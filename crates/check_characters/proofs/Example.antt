@@ -2,11 +2,14 @@
 use Prim.Native.Nat.{ℕ, _%_}
 use mathlib.Core.Path.{_≡_, refl}
 use mathlib.Core.List.{List, [], _∷_}
+use lib.ListN.{getD}
 use Rattle.text.specs.Quoted.{byte, bytes}
 use Rattle.check_characters.specs.Symbol.{valueOf, symbolOf}
 use Rattle.check_characters.specs.Mod37.{step, carry, checkOf}
-use Rattle.check_characters.specs.Steps.{entryFor}
+use Rattle.check_characters.specs.Steps.{steps, entryFor}
+use Rattle.check_characters.specs.Wedge.{nextCarry, carryPassed}
 use Rattle.check_characters.specs.Iban.{digitsOf, spread, decimalFrom, ibanNumber}
+use Rattle.check_characters.specs.declared.carry.CarryAnswer.the-variants.{Next}
 use Rattle.check_characters.specs.Identcode.{weightAt, weighed, checkDigit, checkDigitOf}
 
 -- the carry behind each symbol
@@ -19,14 +22,13 @@ pub example-tracking : (carries 36 (bytes "09980000020041") ≡ 35 ∷ 16 ∷ 13
 unfolding valueOf symbolOf step checkOf
 example-tracking = (refl, refl, refl)
 
--- the carry behind a number that passes, and an entry of the table
-pub example-typed : carry (bytes "09980000020041F") ≡ 2
-unfolding valueOf step
-example-typed = refl
-
-pub example-entry : (entryFor 36 0 ≡ 1260) × (step 36 0 ≡ 35)
-unfolding step
+pub example-entry : (entryFor 36 0 ≡ 1260) × (getD steps 1260 0 ≡ 35)
+unfolding step steps
 example-entry = (refl, refl)
+
+pub example-keyed : (nextCarry 36 (byte "0") ≡ Next 35) × (nextCarry 22 (byte "F") ≡ Next carryPassed) × (carry (bytes "09980000020041F") ≡ 2)
+unfolding valueOf step nextCarry
+example-keyed = (refl, refl, refl)
 
 pub example-label : (carry (bytes "000280009980000020037155056") ≡ 31) × (checkOf (bytes "000280009980000020037155056") ≡ byte "6")
 unfolding valueOf symbolOf step checkOf

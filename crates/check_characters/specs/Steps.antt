@@ -4,12 +4,12 @@
 -- that is 72, which leaves 35 modulo 37 (`example-entry`).
 use Prim.Native.Nat.{ℕ, _+_, _-_, _*_, _/_, _%_}
 use mathlib.Core.List.{List}
-use Rattle.text.specs.Values.{values}
+use Rattle.text.specs.Tabled.{tabled}
 use Rattle.check_characters.specs.Mod37.{step}
 
 -- "Hold the step for carries 1 to 36 and values 0 to 35 as a table of 1,296 numbers, carry by carry."
 unfoldable pub steps : List ℕ
-steps = values (λ place. step (place / 36 + 1) (place % 36)) 0 1296
+steps = tabled (λ entry. step (entry / 36 + 1) (entry % 36)) 0 1296
 
 -- which of them is for a carry and a value
 abbrev pub entryFor : ℕ → ℕ → ℕ

@@ -1,5 +1,5 @@
-// The carry of ISO/IEC 7064 MOD 37,36, after one symbol more and after a run of them, and the check character that it leaves. Each step is
-// read from the table of steps, which who calls lays out once.
+// The carry of ISO/IEC 7064 MOD 37,36, after one more symbol and after a run of them, and the check character that it asks for. Each step is
+// read from the table of steps, which the caller lends.
 ghost use mathlib.Core.Path.{_≡_};
 ghost use Prim.Native.Nat.{_-_, _%_, _<_, _≤_};
 ghost use Rattle.check_characters.specs.Symbol.{symbolOf};
@@ -12,14 +12,15 @@ use refusal::Reason;
 use refusal::Refusal;
 
 pub enum CarryAnswer {
-    // The carry after the symbol.
+    // The carry after the key.
     Next(u32),
     Refused(Refusal),
 }
 
-// The carry after one more symbol, for who takes a number key by key: the first call gets 36, each other the carry of the one before.
-pub fn next_carry(carry: u32, symbol: u8) -> CarryAnswer
-    ensures { λ r. ⌜ r ≡ nextCarry carry symbol ⌝ }
+// The carry after one more symbol, for a caller who takes a number key by key: the first call is given 36, each later one the carry that the
+// call before it answered.
+pub fn next_carry(carry: u32, key: u8) -> CarryAnswer
+    ensures { λ r. ⌜ r ≡ nextCarry carry key ⌝ }
 {
     if !is_carry(carry) {
         return CarryAnswer::Refused(Refusal {
@@ -27,14 +28,14 @@ pub fn next_carry(carry: u32, symbol: u8) -> CarryAnswer
             place: 0,
         });
     }
-    if !text::is_symbol(symbol) {
+    if !text::is_symbol(key) {
         return CarryAnswer::Refused(Refusal {
             why: Reason::WrongSymbol,
             place: 0,
         });
     }
     let table = steps::laid_out();
-    let value = symbol::value(symbol);
+    let value = symbol::value(key);
     CarryAnswer::Next(next(&table, carry as u8, value) as u32)
 }
 
@@ -60,6 +61,16 @@ pub fn check_of(symbols: &[u8]) -> u8
     closing(carry_after(symbols))
 }
 
+// Whether a number is a carry.
+fn is_carry(number: u32) -> bool
+    ensures { λ r. ⌜ r ≡ isCarry number ⌝ }
+{
+    if number < 1 {
+        return false;
+    }
+    number <= 36
+}
+
 // The carry after one more value, as the table has it.
 pub fn next(table: &[u8; 1296], carry: u8, value: u8) -> u8
     requires { ⌜ (now table ≡ steps) × (1 ≤ carry) × (carry ≤ 36) × (value < 36) ⌝ }
@@ -74,14 +85,4 @@ pub fn closing(carry: u8) -> u8
     ensures { λ r. ⌜ r ≡ symbolOf ((37 - carry) % 36) ⌝ }
 {
     symbol::symbol_of((37 - carry) % 36)
-}
-
-// Whether a number is a carry.
-fn is_carry(number: u32) -> bool
-    ensures { λ r. ⌜ r ≡ isCarry number ⌝ }
-{
-    if number < 1 {
-        return false;
-    }
-    number <= 36
 }

@@ -77,8 +77,8 @@ pub fn issue_number(body: &[u8], output: &mut [u8]) -> IssueAnswer
     })
 }
 
-// Checks a number that has the length of its kind. The check is a symbol like the others, and behind it the carry of a number that
-// passes is 2.
+// Checks a number that has the length of its kind. Its check is walked over like the other symbols: it makes the sum leave 1 modulo 36, so
+// that the carry behind it is 2.
 fn check_as(table: &[u8; 1296], kind: Kind, symbols: &[u8]) -> NumberAnswer
     requires { ⌜ (now table ≡ steps) × (length (now symbols) ≡ lengthOf kind) ⌝ }
     ensures { λ r. ⌜ r ≡ checkedAs kind (now (symbols .entry)) ⌝ }

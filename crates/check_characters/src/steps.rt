@@ -4,8 +4,8 @@
 //
 //     (carry - 1) * 36 + value
 //
-// counted from 0. The first entry of each carry, that for the value 0, names it. For the carry 36 and the value 0 it is entry 1260: 35. The
-// formatter lays out one entry a line; docs/carry-table.txt has them as the printer maker prints them, 36 to a line, and is made from here.
+// counted from 0. The entry for the carry 36 and the value 0 is number 1260: 35. A comment names the carry at its first entry, that for the
+// value 0. The formatter lays out one entry a line; docs/carry-table.txt, which is made from here, has the 36 of a carry on one.
 ghost use mathlib.Core.Path.{_≡_};
 ghost use Rattle.check_characters.specs.Steps.{steps};
 
@@ -1308,8 +1308,8 @@ const STEPS: [u8; 1296] = [
     33,
 ];
 
-// The table, for a call to lend to all that it calls: a constant is laid out anew wherever it is read, and that costs more than a
-// number's steps.
+// The table, for a call to lend to all that it calls. A constant is laid out anew wherever it is read, and that takes as long as the steps
+// of a number: so it is done once.
 pub fn laid_out() -> [u8; 1296]
     ensures { λ r. ⌜ r ≡ steps ⌝ }
 {

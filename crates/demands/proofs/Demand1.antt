@@ -147,7 +147,7 @@ issue-number-call-unique body output n bytes place n₂ bytes₂ place₂ x y p 
     (p .0 .0 ∙ sym (q .0 .0), p .1 ∙ sym (q .1), p .0 .1 ∙ sym (q .0 .1), p .2 ∙ sym (q .2))
 
 pub next-carry-call-unique : NextCarryCallUnique
-next-carry-call-unique carry symbol n next place n₂ next₂ place₂ p q =
+next-carry-call-unique carry key n next place n₂ next₂ place₂ p q =
     (p .0 .0 ∙ sym (q .0 .0), p .1 ∙ sym (q .1), p .0 .1 ∙ sym (q .0 .1))
 
 pub check-iban-call-unique : CheckIbanCallUnique

@@ -1,7 +1,7 @@
 -- Proofs of the statements in specs/Wedge.
 use Prim.Native.Nat.{ℕ}
 use mathlib.Core.Path.{_≡_, refl, sym, ap, _∙_}
-use Rattle.refusal.specs.Table.{because, numberOf}
+use Rattle.refusal.specs.Table.{because}
 use Rattle.refusal.specs.declared.Reason.the-variants.{NotThere}
 use Rattle.check_characters.specs.Steps.{steps}
 use Rattle.check_characters.specs.Wedge.{nextCarry, carryVerdict}
@@ -11,8 +11,7 @@ use Rattle.check_characters.proofs.Entries.{entry-step}
 use Rattle.check_characters.proofs.Keying.{next-no-carry}
 use Rattle.slips.proofs.Typing as typing
 use Rattle.refused.proofs.Keys as keys
-use Rattle.peliranopi.specs.Told.{numberTold, carryTold}
-use Rattle.peliranopi.specs.Calls.{CarryTells}
+use Rattle.peliranopi.specs.Told.{numberTold, placeTold, carryTold}
 use Rattle.demands.specs.Wedge.{
   EachEntry,
   KeyExactly,
@@ -48,7 +47,10 @@ none-told (Next carry) number e n = absurd (n e)
 none-told (Refused refusal) number e n = refl
 
 pub overlooked-stays-refused : OverlookedStaysRefused
-overlooked-stays-refused carry symbol number next place p n key number₂ next₂ place₂ q =
-    let zero : next ≡ 0 = p .1 ∙ none-told (nextCarry carry symbol) number (p .0 .0) n in
-    let refused : nextCarry next key ≡ Refused (because NotThere 0) = ap (λ (c : ℕ). nextCarry c key) zero ∙ next-no-carry 0 key refl in
-    (q .0 .0 ∙ ap (λ (a : CarryAnswer). numberTold (carryVerdict a)) refused, q .1 ∙ ap carryTold refused)
+overlooked-stays-refused start key number next place p n key₂ number₂ next₂ place₂ q =
+    let none : next ≡ 0 = p .1 ∙ none-told (nextCarry start key) number (p .0 .0) n in
+    let refused : nextCarry next key₂ ≡ Refused (because NotThere 0) = ap (λ (c : ℕ). nextCarry c key₂) none ∙ next-no-carry 0 key₂ refl in (
+      q .0 .0 ∙ ap (λ (a : CarryAnswer). numberTold (carryVerdict a)) refused,
+      q .1 ∙ ap carryTold refused,
+      q .0 .1 ∙ ap (λ (a : CarryAnswer). placeTold (carryVerdict a)) refused,
+    )

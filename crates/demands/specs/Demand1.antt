@@ -49,7 +49,7 @@ IssueNumberUnique =
 
 abbrev pub NextCarryUnique : Type 0
 NextCarryUnique =
-    (carry symbol : ℕ) (a b : CarryAnswer) → a ≡ nextCarry carry symbol → b ≡ nextCarry carry symbol → a ≡ b
+    (carry key : ℕ) (a b : CarryAnswer) → a ≡ nextCarry carry key → b ≡ nextCarry carry key → a ≡ b
 
 abbrev pub CheckIbanUnique : Type 0
 CheckIbanUnique =
@@ -154,7 +154,7 @@ IssueNumberCallUnique =
 
 abbrev pub NextCarryCallUnique : Type 0
 NextCarryCallUnique =
-    (carry symbol n next place n₂ next₂ place₂ : ℕ) → CarryTells carry symbol n next place → CarryTells carry symbol n₂ next₂ place₂ →
+    (carry key n next place n₂ next₂ place₂ : ℕ) → CarryTells carry key n next place → CarryTells carry key n₂ next₂ place₂ →
     (n ≡ n₂) × (next ≡ next₂) × (place ≡ place₂)
 
 abbrev pub CheckIbanCallUnique : Type 0

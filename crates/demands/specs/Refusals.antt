@@ -15,7 +15,7 @@ use Rattle.check_characters.specs.Wedge.{nextCarry}
 use Rattle.check_characters.specs.Iban.{checkedIban}
 use Rattle.check_characters.specs.Identcode.{checkedIdentcode, partsAnswer, IssuesIdentcode}
 use Rattle.check_characters.specs.declared.identcode.PartsAnswer.the-variants.{Refused as NotRead}
-use Rattle.check_characters.specs.declared.carry.CarryAnswer.the-variants.{Refused as NoCarry}
+use Rattle.check_characters.specs.declared.carry.CarryAnswer.the-variants.{Refused as NoNext}
 use Rattle.check_characters.specs.declared.number.Kind.{Kind}
 use Rattle.check_characters.specs.declared.number.NumberAnswer.the-variants.{Refused as RefusedAsNumber}
 use Rattle.check_characters.specs.declared.answer.IssueAnswer.the-variants.{Refused as NotIssued}
@@ -136,7 +136,7 @@ IssueRefusedExactly =
 abbrev pub KeyRefusedExactly : Type 0
 KeyRefusedExactly =
     (carry key : ℕ) (refusal : Refusal) →
-    (nextCarry carry key ≡ NoCarry refusal) ↔ RefusedKey carry key refusal
+    (nextCarry carry key ≡ NoNext refusal) ↔ RefusedKey carry key refusal
 
 -- Document 02, request 2. An identcode, its parts, and the 21 digits of one to be issued: "with nothing written".
 abbrev pub IdentcodeRefusedExactly : Type 0

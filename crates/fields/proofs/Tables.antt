@@ -9,10 +9,10 @@ use lib.Dec.{leb, eqb}
 use lib.ListN.{getD}
 use borrow.Author.Tests.{leb-true, lt-leb, eq-eqb, ne-eqb}
 use Rattle.text.specs.Choice.{if_then_else_}
-use Rattle.text.specs.Values.{values}
+use Rattle.text.specs.Tabled.{tabled}
 use Rattle.text.proofs.Numbers.{eq-or-ne}
 use Rattle.text.proofs.Choices.{and-left, and-right}
-use Rattle.text.proofs.Tables.{values-at}
+use Rattle.text.proofs.Tables.{tabled-at}
 use Rattle.fields.specs.Record.{rowOf, recordAt, oneOf}
 use Rattle.fields.specs.Profile.{Asked, anything, only, But, always, instead, narrowed, widthOf, Row, names, rowIn, noField}
 use Rattle.fields.specs.Profile.{profile, meets, widthInTable, isRequired, hasForm}
@@ -22,16 +22,16 @@ use Rattle.fields.proofs.Records.{at-row}
 
 -- a table of six records, five lines of ten fields each, each entry what a rule gives it
 abbrev pub table : {A : Type 0} → (ℕ → ℕ → A) → List (List (List A))
-table rule = values (λ row. values (λ ten. values (λ one. rule row (ten * 10 + one)) 0 10) 0 5) 0 6
+table rule = tabled (λ row. tabled (λ ten. tabled (λ one. rule row (ten * 10 + one)) 0 10) 0 5) 0 6
 
 pub table-at : {A : Type 0} (rule : ℕ → ℕ → A) (d : A) (row n : ℕ) → row < 6 → n < 50 →
     getD (getD (getD (table rule) row []) (n / 10) []) (n % 10) d ≡ rule row n
 table-at rule d row n l h =
     let back : n / 10 * 10 + n % 10 ≡ n = omega arith in
     ap (λ (t : List (List _)). getD (getD t (n / 10) []) (n % 10) d)
-    (values-at (λ row. values (λ ten. values (λ one. rule row (ten * 10 + one)) 0 10) 0 5) 6 row [] l)
-    ∙ ap (λ (t : List _). getD t (n % 10) d) (values-at (λ ten. values (λ one. rule row (ten * 10 + one)) 0 10) 5 (n / 10) [] (omega arith))
-    ∙ values-at (λ one. rule row (n / 10 * 10 + one)) 10 (n % 10) d (omega arith)
+    (tabled-at (λ row. tabled (λ ten. tabled (λ one. rule row (ten * 10 + one)) 0 10) 0 5) 6 row [] l)
+    ∙ ap (λ (t : List _). getD t (n % 10) d) (tabled-at (λ ten. tabled (λ one. rule row (ten * 10 + one)) 0 10) 5 (n / 10) [] (omega arith))
+    ∙ tabled-at (λ one. rule row (n / 10 * 10 + one)) 10 (n % 10) d (omega arith)
     ∙ ap (rule row) back
 
 -- from a row to its record

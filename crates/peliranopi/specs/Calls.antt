@@ -80,8 +80,8 @@ IssueTells body output number bytes place after =
 
 -- the carry after one more symbol
 abbrev pub CarryTells : ℕ → ℕ → ℕ → ℕ → ℕ → Type 0
-CarryTells carry symbol number next place =
-    let answer = nextCarry carry symbol in
+CarryTells carry key number next place =
+    let answer = nextCarry carry key in
     Tells (carryVerdict answer) number place × (next ≡ carryTold answer)
 
 -- checking an IBAN

@@ -104,7 +104,7 @@ abbrev pub kindTold : NumberAnswer → ℕ
 kindTold (checked.Accepted kind) = kindNumber kind
 kindTold (checked.Refused refusal) = 0
 
--- of a symbol keyed: the carry after it
+-- of a key: the carry after it
 abbrev pub carryTold : CarryAnswer → ℕ
 carryTold (keyed.Next carry) = carry
 carryTold (keyed.Refused refusal) = 0

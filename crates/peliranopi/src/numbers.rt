@@ -45,13 +45,13 @@ pub extern "C" fn peliranopi_issue_number(
 #[no_mangle]
 pub extern "C" fn peliranopi_next_carry(
     carry: u32,
-    symbol: u8,
+    key: u8,
     next: &mut u32,
     place: &mut usize,
 ) -> u32
-    ensures { λ r. ⌜ CarryTells carry symbol r (now (next .exit)) (now (place .exit)) ⌝ }
+    ensures { λ r. ⌜ CarryTells carry key r (now (next .exit)) (now (place .exit)) ⌝ }
 {
-    let answer = check_characters::next_carry(carry, symbol);
+    let answer = check_characters::next_carry(carry, key);
     match answer {
         CarryAnswer::Next(after) => {
             *next = after;

@@ -1,4 +1,4 @@
--- Document 02, request 4: when the wedge is refused the carry after a key. Neither has a place of its own in a number: it is 0.
+-- Document 02, request 4: when the wedge is refused the carry after a key. The call sees no number, so that the place is 0.
 use Prim.Native.Nat.{ℕ, _≤_}
 use mathlib.Core.Path.{_≡_}
 use mathlib.Core.Bool.{false}

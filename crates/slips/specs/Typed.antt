@@ -18,7 +18,7 @@ pub record Leads (carry key next : ℕ) : Type 0 where
   pub allowed : symbol key ≡ true
   pub stepped : next ≡ step carry (valueOf key)
 
--- behind an answer each key gets the next one, with the carry of the answer in front of it; a refusal ends it
+-- each key is asked for with the carry of the answer in front of it; a refusal ends the typing
 abbrev pub typedOn : CarryAnswer → List ℕ → CarryAnswer
 typedOn answer [] = answer
 typedOn (Next carry) (key ∷ keys) = typedOn (nextCarry carry key) keys

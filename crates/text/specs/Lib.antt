@@ -1,6 +1,6 @@
 pub mod Choice
 pub mod Quoted
-pub mod Values
+pub mod Tabled
 pub mod Scan
 pub mod Byte
 pub mod Decimal
