@@ -49,6 +49,18 @@ pub fn issue_number(body: &[u8], out: &mut [u8]) -> Result<usize, Refusal> {
     Ok(body.len() + 1)
 }
 
+/// "The scanning wedge asks for the carry after each keystroke" (document 02, request 4). There is no
+/// such carry outside 1 to 36, which is 15 and comes first; no symbol is 17. Both are at 0.
+pub fn next_carry(carry: u32, symbol: u8) -> Result<u32, Refusal> {
+    if !(1..=36).contains(&carry) {
+        return refuse(15, 0);
+    }
+    match value(symbol) {
+        Some(value) => Ok(step(carry, value)),
+        None => refuse(17, 0),
+    }
+}
+
 /// "IBAN: 15 to 34 long, two capitals, two digits, then capitals or digits. The first four move to
 /// the end, letters become two digits, and the remainder by 97 is 1. Check digits 00, 01 and 99 are
 /// 18." The place of 18 is 2 "for an IBAN".
@@ -114,17 +126,20 @@ fn check_fits(body: &[u8], check: u8) -> bool {
     value(check).is_some_and(|value| (carry(body) + value) % 36 == 1)
 }
 
-/// "The carry starts at 36. For each symbol add its value, reduce modulo 36 with 0 read as 36,
-/// double, reduce modulo 37."
+/// "The carry starts at 36."
 fn carry(symbols: &[u8]) -> u32 {
     symbols.iter().fold(36, |carry, symbol| {
-        let value = value(*symbol).expect("the symbols were tested");
-        let sum = match (carry + value) % 36 {
-            0 => 36,
-            sum => sum,
-        };
-        2 * sum % 37
+        step(carry, value(*symbol).expect("the symbols were tested"))
     })
+}
+
+/// "For each symbol add its value, reduce modulo 36 with 0 read as 36, double, reduce modulo 37."
+fn step(carry: u32, value: u32) -> u32 {
+    let sum = match (carry + value) % 36 {
+        0 => 36,
+        sum => sum,
+    };
+    2 * sum % 37
 }
 
 /// "Digits have values 0 to 9, A to Z 10 to 35."
