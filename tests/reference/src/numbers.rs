@@ -49,8 +49,9 @@ pub fn issue_number(body: &[u8], out: &mut [u8]) -> Result<usize, Refusal> {
     Ok(body.len() + 1)
 }
 
-/// "The scanning wedge asks for the carry after each keystroke" (document 02, request 4). There is no
-/// such carry outside 1 to 36, which is 15 and comes first; no symbol is 17. Both are at 0.
+/// "The scanning wedge asks for the carry after each keystroke" (document 02, request 4). Outside 1
+/// to 36 there is "no such" carry: 15. Then "symbol not allowed at its place": 17. Both are at 0,
+/// where the one symbol stands.
 pub fn next_carry(carry: u32, symbol: u8) -> Result<u32, Refusal> {
     if !(1..=36).contains(&carry) {
         return refuse(15, 0);
