@@ -21,7 +21,7 @@ pub fn check_number(number: &[u8]) -> Result<Kind, Refusal> {
     };
     first_wrong_symbol(kind, number)?;
     let last = number.len() - 1;
-    if !check_fits(&number[..last], number[last]) {
+    if !check_fits(carry(&number[..last]), number[last]) {
         return refuse(18, last);
     }
     Ok(kind)
@@ -39,10 +39,11 @@ pub fn issue_number(body: &[u8], out: &mut [u8]) -> Result<usize, Refusal> {
     if out.len() < body.len() + 1 {
         return refuse(13, 0);
     }
+    let carry = carry(body);
     let check = SYMBOLS
         .iter()
         .copied()
-        .find(|symbol| check_fits(body, *symbol))
+        .find(|symbol| check_fits(carry, *symbol))
         .expect("36 values leave every remainder modulo 36");
     out[..body.len()].copy_from_slice(body);
     out[body.len()] = check;
@@ -123,8 +124,8 @@ fn first_wrong_symbol(kind: Kind, symbols: &[u8]) -> Result<(), Refusal> {
 }
 
 /// "The check character makes carry plus its value leave 1 modulo 36."
-fn check_fits(body: &[u8], check: u8) -> bool {
-    value(check).is_some_and(|value| (carry(body) + value) % 36 == 1)
+fn check_fits(carry: u32, check: u8) -> bool {
+    value(check).is_some_and(|value| (carry + value) % 36 == 1)
 }
 
 /// "The carry starts at 36."
