@@ -19,9 +19,9 @@ extern "C" {
 
 /* The version of this interface. CONTRIBUTING.md says how it is counted. */
 #define PELIRANOPI_VERSION_MAJOR 0
-#define PELIRANOPI_VERSION_MINOR 3
-#define PELIRANOPI_VERSION_PATCH 1
-#define PELIRANOPI_VERSION "0.3.1"
+#define PELIRANOPI_VERSION_MINOR 4
+#define PELIRANOPI_VERSION_PATCH 0
+#define PELIRANOPI_VERSION "0.4.0"
 
 /* The refusals. README.md has the table with their places. Later versions may have more: an answer that is not 0 is a refusal, also
  * where its number is not among these. */
@@ -42,7 +42,7 @@ enum {
     PELIRANOPI_FILE_ENDS = 12,          /* the file ends where a record is due */
     PELIRANOPI_OUTPUT_TOO_SHORT = 13,   /* the lent output has too few bytes */
     PELIRANOPI_FIELD_ENDS = 14,         /* the ends of the writer's fields do not fit its text */
-    PELIRANOPI_NOT_THERE = 15,          /* there is no such field or line, or it is not a 006 line */
+    PELIRANOPI_NOT_THERE = 15,          /* there is no such field, line or carry, or it is not a 006 line */
     PELIRANOPI_WRONG_LENGTH = 16,       /* a number has a wrong length */
     PELIRANOPI_WRONG_SYMBOL = 17,       /* a symbol may not stand where it stands */
     PELIRANOPI_WRONG_CHECK = 18,        /* the check is wrong */
@@ -76,6 +76,12 @@ enum {
     PELIRANOPI_IBAN_LEN_MIN = 15,    /* an IBAN at least */
     PELIRANOPI_IBAN_LEN_MAX = 34,    /* an IBAN at most */
     PELIRANOPI_IDENTCODE_LEN = 22    /* an identcode */
+};
+
+/* The carries at the two ends of a DPD number. */
+enum {
+    PELIRANOPI_CARRY_START = 36, /* before the first symbol */
+    PELIRANOPI_CARRY_PASSED = 2  /* behind the last symbol of a number that passes */
 };
 
 /* Judges a whole file: its lines, its 040 lines (parcels), and the cash to collect in cents.
@@ -129,6 +135,14 @@ uint32_t peliranopi_check_number(const uint8_t *symbols, size_t symbols_len, uin
 uint32_t peliranopi_issue_number(const uint8_t *body, size_t body_len,
                                  uint8_t *output, size_t output_len,
                                  size_t *written, size_t *place);
+
+/* Tells the carry after one more symbol (0-9 or A-Z), for who takes a DPD number key by key (ISO/IEC 7064, MOD 37,36). The first
+ * symbol comes with the carry PELIRANOPI_CARRY_START, each other one with the `next` of the call before. A number of the right shape
+ * passes exactly where the carry behind its last symbol is PELIRANOPI_CARRY_PASSED. A carry outside 1 to 36 is PELIRANOPI_NOT_THERE,
+ * whatever the symbol.
+ * next: the carry after the symbol, 1 to 36. The 0 of a refusal is no carry: who goes on with it is refused at every further key.
+ * place: always 0, since there is one symbol. */
+uint32_t peliranopi_next_carry(uint32_t carry, uint8_t symbol, uint32_t *next, size_t *place);
 
 /* Checks an IBAN. */
 uint32_t peliranopi_check_iban(const uint8_t *symbols, size_t symbols_len, size_t *place);

@@ -312,6 +312,59 @@ static void issue_number(const char *body, size_t length, uint32_t refusal, cons
     output_is(output, sizeof output, number, 0);
 }
 
+/* "For each symbol add its value, reduce modulo 36 with 0 read as 36, double, reduce modulo 37." */
+static uint32_t step(uint32_t carry, uint32_t value)
+{
+    uint32_t left = (carry + value) % 36;
+    return (left == 0 ? 36 : left) * 2 % 37;
+}
+
+/* The carry after one more symbol; what is refused leaves none. */
+static void next_carry(uint32_t carry, uint8_t symbol, uint32_t refusal, uint32_t due)
+{
+    static char input[64];
+    snprintf(input, sizeof input, "carry %" PRIu32 ", byte %u", carry, symbol);
+    open_case("next_carry", input);
+    uint32_t next = NONSENSE;
+    size_t at = NONSENSE;
+    is("the answer", peliranopi_next_carry(carry, symbol, &next, &at), refusal);
+    is("the next carry", next, due);
+    is("the place", at, 0);
+}
+
+/* A number that is typed and passes: the carry behind each of its symbols. */
+static void keyed(const char *symbols, const uint32_t *carries)
+{
+    uint32_t carry = PELIRANOPI_CARRY_START;
+    for (size_t key = 0; symbols[key] != '\0'; key++) {
+        next_carry(carry, (uint8_t)symbols[key], PELIRANOPI_ACCEPTED, carries[key]);
+        carry = carries[key];
+    }
+    is("the last carry", carry, PELIRANOPI_CARRY_PASSED);
+}
+
+static void next_carry_cases(void)
+{
+    static const uint32_t tracking[15] = {35, 16, 13, 5, 10, 20, 3, 6, 12, 28, 19, 1, 10, 22, 2};
+    keyed("09980000020041F", tracking);
+    static const uint32_t zeros[15] = {35, 33, 29, 21, 5, 10, 20, 3, 6, 12, 24, 11, 22, 7, 2};
+    keyed("00000000000000U", zeros);
+    static const char symbols[] = "0123456789ABCDEFGHIJKLMNOPQRSTUVWXYZ";
+    /* No carries, though some would be if they were cut to 8 or 16 bits. */
+    static const uint32_t none[7] = {0, 37, 255, 256, 256 + 36, 65536 + 36, UINT32_MAX};
+    for (int byte = 0; byte < 256; byte++) {
+        const char *symbol = memchr(symbols, byte, 36);
+        for (uint32_t carry = 1; carry <= 36; carry++) {
+            if (symbol)
+                next_carry(carry, (uint8_t)byte, PELIRANOPI_ACCEPTED, step(carry, (uint32_t)(symbol - symbols)));
+            else
+                next_carry(carry, (uint8_t)byte, PELIRANOPI_WRONG_SYMBOL, 0);
+        }
+        for (size_t which = 0; which < 7; which++)
+            next_carry(none[which], (uint8_t)byte, PELIRANOPI_NOT_THERE, 0);
+    }
+}
+
 static void check_iban(const char *symbols, uint32_t refusal, size_t place)
 {
     open_case("check_iban", symbols);
@@ -442,6 +495,7 @@ int main(int argc, char **argv)
     find_field_cases();
     write_line_cases();
     write_purpose_cases();
+    next_carry_cases();
     vector_cases(argv[2]);
     printf("test: %d calls from C: answered as they should be\n", cases);
     return 0;

@@ -1,5 +1,5 @@
-"""Holds numbers, IBANs and identcodes against stdnum: /usr/bin/python3 tests/outside.py COUNT SEED PROGRAM..., where the program answers
-requests as tests/compare/src/bin/numbers.rs does. COUNT requests of each kind are made, whole and damaged.
+"""Holds numbers, carries, IBANs and identcodes against stdnum: /usr/bin/python3 tests/outside.py COUNT SEED PROGRAM..., where the program
+answers requests as tests/compare/src/bin/numbers.rs does. COUNT requests of each kind are made, whole and damaged.
 
 stdnum knows the check characters, not our profile of them (document 01). So:
 - MOD 37,36 knows neither lengths nor where a letter may stand. Where length and symbols are right, stdnum's verdict is compared;
@@ -9,6 +9,8 @@ stdnum knows the check characters, not our profile of them (document 01). So:
   out of it only MOD 97-10 is compared.
 - stdnum takes check digits 00, 01 and 99 where the remainder is 1. The profile bars them: the library must answer 18.
 - stdnum.iban takes spaces and small letters. The library must refuse what stdnum takes there, by 17 or by 16.
+- stdnum knows no carries, but the checksum of a run of symbols: the sum that is left modulo 36 behind the last of them, with 0 as it is.
+  The carry is that sum with 0 read as 36, doubled and reduced modulo 37, as stdnum does it with the next symbol.
 - stdnum knows no identcodes, but the check digit of EAN numbers: stdnum.ean weighs with 3, 1, 3, 1 from the right. Over 21 digits that
   is the same as from the left (document 000, 4.1.6), since 21 is odd; so it is the same check digit, by an implementation of others."""
 import collections
@@ -48,6 +50,13 @@ def expected_issue(body):
     if wrong is not None:
         return f"no 17 {wrong}"
     return body + mod_37_36.calc_check_digit(body)
+
+
+def expected_carry(run):
+    """Each call gets one symbol, so that a wrong one is always at 0."""
+    if first_wrong(run, [SYMBOLS] * len(run)) is not None:
+        return "no 17 0"
+    return str((mod_37_36.checksum(run, SYMBOLS) or 36) * 2 % 37)
 
 
 def expected_iban(text):
@@ -136,6 +145,11 @@ def body(rng):
     return whole if rng.random() < 0.8 else misshaped(rng, whole)
 
 
+def run_of_symbols(rng):
+    run = drawn(rng, SYMBOLS, rng.randint(1, 40))
+    return run if rng.random() < 0.9 else misshaped(rng, run)
+
+
 def identcode(rng):
     whole = drawn(rng, DIGITS, 21)
     whole += ean.calc_check_digit(whole)
@@ -218,6 +232,7 @@ def kinds(count, rng, known):
         ("IBANs by stdnum.iban", "iban", lambda: national_iban(rng, known), expected_national),
         ("identcodes by stdnum.ean", "identcode", lambda: identcode(rng), expected_identcode),
         ("identcodes to issue", "issue-identcode", lambda: identcode_body(rng), expected_identcode_issue),
+        ("runs of symbols, keyed", "key", lambda: run_of_symbols(rng), expected_carry),
     )
     for name, call, draw, expected in plan:
         texts = [draw() for _ in range(count)]

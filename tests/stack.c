@@ -69,7 +69,7 @@ static void print(const char *name, any *function, uint32_t due, const word *arg
 int main(int argc, char **argv)
 {
     static uint8_t file[PELIRANOPI_FILE_LEN_MAX], output[128];
-    static uint32_t list[16], kind;
+    static uint32_t list[16], kind, next;
     static size_t one, two, place;
     static uint64_t cents;
     static peliranopi_identcode_parts parts;
@@ -90,6 +90,7 @@ int main(int argc, char **argv)
     PRINT(write_purpose, PELIRANOPI_ACCEPTED, AT(file), length, TEXT("CH"), 5, AT(list), 16, AT(output), 128, AT(&one), AT(&place));
     PRINT(check_number, PELIRANOPI_ACCEPTED, TEXT("0002800099800000200371550566"), AT(&kind), AT(&place));
     PRINT(issue_number, PELIRANOPI_ACCEPTED, TEXT("000280009980000020037155056"), AT(output), 128, AT(&one), AT(&place));
+    PRINT(next_carry, PELIRANOPI_ACCEPTED, PELIRANOPI_CARRY_START, 'Z', AT(&next), AT(&place));
     PRINT(check_iban, PELIRANOPI_ACCEPTED, TEXT("AT611904300234573201"), AT(&place));
     PRINT(check_iban, PELIRANOPI_ACCEPTED, TEXT("HR38X13MXFE93T97YPN5GULXIZPWM6OZ39"), AT(&place));
     PRINT(check_iban, PELIRANOPI_WRONG_CHECK, TEXT("AT161904300234573201"), AT(&place));

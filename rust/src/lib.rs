@@ -1,6 +1,6 @@
 //! The dispatch core of a carrier desk: judges, reads and writes Austrian Post pre-advice flat
 //! files (version 5), works out payment purposes, checks, reads and issues identcodes, checks
-//! and issues DPD parcel numbers, and checks IBANs.
+//! and issues DPD parcel numbers, tells their carry key by key, and checks IBANs.
 //!
 //! These are safe functions over the static library of Peliranopi, which is for x86-64 and whose
 //! code is proved. Each takes every input, ends, and answers or refuses; a refusal has its number in
@@ -36,6 +36,7 @@
 #![deny(missing_docs)]
 #![deny(unsafe_op_in_unsafe_fn)]
 
+mod carry;
 mod fields;
 mod file;
 mod identcode;
@@ -44,6 +45,7 @@ mod named;
 mod numbers;
 mod refusal;
 
+pub use carry::{next_carry, CARRY_PASSED, CARRY_START};
 pub use fields::{find_fields, Fields};
 pub use file::{find_field, judge, read_line, write_line, write_purpose, Line, Record, Totals};
 pub use identcode::{check_identcode, issue_identcode, read_identcode, IdentcodeParts};

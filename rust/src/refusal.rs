@@ -83,7 +83,7 @@ refusals! {
     12 FileEnds: "the file ends where a record is due", "file length";
     13 OutputTooShort: "the lent output has too few bytes", "0";
     14 FieldEnds: "the ends of the writer's fields do not fit its text", "0";
-    15 NotThere: "there is no such field or line, or it is not a 006 line", "0";
+    15 NotThere: "there is no such field, line or carry, or it is not a 006 line", "0";
     16 WrongLength: "a number has a wrong length", "0";
     17 WrongSymbol: "a symbol may not stand where it stands", "first such symbol";
     18 WrongCheck: "the check is wrong", "last symbol; for an IBAN 2";

@@ -225,6 +225,64 @@ fn an_identcode_is_issued_and_nothing_else_is_written() {
     assert_eq!(output, [b'.'; 30]);
 }
 
+/// The carries behind the symbols of a number that is typed.
+fn carries(symbols: &[u8]) -> Result<Vec<u32>, Refusal> {
+    let mut carry = CARRY_START;
+    let carries = symbols.iter().map(|symbol| {
+        carry = next_carry(carry, *symbol)?;
+        Ok(carry)
+    });
+    carries.collect()
+}
+
+#[test]
+fn a_number_is_typed_key_by_key() {
+    let due = [35, 16, 13, 5, 10, 20, 3, 6, 12, 28, 19, 1, 10, 22, 2];
+    assert_eq!(carries(b"09980000020041F"), Ok(due.to_vec()));
+    for number in ["00000000000000U", "0002800099800000200371550566"] {
+        let carries = carries(number.as_bytes()).unwrap();
+        assert_eq!(carries.last(), Some(&CARRY_PASSED));
+    }
+    assert_eq!(refusal(carries(b"09980000020041f")), (17, 0));
+}
+
+/// Of the symbols behind a body exactly one passes, whole and key by key.
+#[test]
+fn a_number_passes_where_its_last_carry_says_so() {
+    let bodies: [&[u8]; 3] = [
+        b"09980000020041",
+        b"00000000000000",
+        b"ZZZZZZZ99999999999999999999",
+    ];
+    for body in bodies {
+        let mut passed = 0;
+        for check in (b'0'..=b'9').chain(b'A'..=b'Z') {
+            let number = [body, &[check]].concat();
+            let passes = carries(&number).unwrap().last() == Some(&CARRY_PASSED);
+            assert_eq!(check_number(&number).is_ok(), passes);
+            passed += usize::from(passes);
+        }
+        assert_eq!(passed, 1);
+    }
+}
+
+#[test]
+fn a_carry_that_is_none_is_refused_before_a_key_that_is_no_symbol() {
+    for byte in 0..=255_u8 {
+        let is_symbol = byte.is_ascii_digit() || byte.is_ascii_uppercase();
+        for carry in 1..=36 {
+            match next_carry(carry, byte) {
+                Ok(next) => assert!(is_symbol && (1..=36).contains(&next)),
+                Err(refused) => assert!(!is_symbol && told(refused) == (17, 0)),
+            }
+        }
+        // Cut to 6, 8 or 16 bits, some of these would be carries.
+        for carry in [0, 37, 64 + 36, 255, 256, 256 + 36, 65_536 + 36, u32::MAX] {
+            assert_eq!(refusal(next_carry(carry, byte)), (15, 0));
+        }
+    }
+}
+
 /// A refusal of each number, with its place.
 fn one_of_each() -> Vec<(Refusal, usize)> {
     let parcel_twice = [&EXAMPLE[..208], &EXAMPLE[178..]].concat();

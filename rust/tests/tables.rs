@@ -1,6 +1,6 @@
 //! What stands in more than one place, held together: the refusals, the other constants of the C
-//! header, its functions and structs, and the version. A test fails with the name of the place that
-//! lacks a row.
+//! header, its functions and structs, the version, and the printed table of the carry. A test fails
+//! with the name of the place that lacks a row.
 
 use std::fmt::Debug;
 
@@ -9,6 +9,7 @@ use peliranopi::*;
 const README: &str = include_str!("../../README.md");
 const CHANGELOG: &str = include_str!("../../CHANGELOG.md");
 const HEADER: &str = include_str!("../../c/peliranopi.h");
+const PRINTED: &str = include_str!("../../docs/carry-table.txt");
 const PROVED: &str = include_str!("../../crates/refusal/src/lib.rt");
 const CRATE: &str = include_str!("../src/refusal.rs");
 const IDENTCODE: &str = include_str!("../src/identcode.rs");
@@ -181,7 +182,7 @@ fn the_c_header_has_the_words_of_the_crate() {
 }
 
 #[test]
-fn the_c_header_has_the_records_the_kinds_and_the_limits() {
+fn the_c_header_has_the_records_the_kinds_the_limits_and_the_carries() {
     let records = Record::ALL
         .iter()
         .map(|record| (format!("{record:?}"), record.number()));
@@ -202,9 +203,15 @@ fn the_c_header_has_the_records_the_kinds_and_the_limits() {
     ];
     let limits = limits.map(|(name, limit)| (name.to_string(), limit));
     hold("c/peliranopi.h", &numbers(3), &limits);
+    let carries = [
+        ("CARRY_START", CARRY_START as usize),
+        ("CARRY_PASSED", CARRY_PASSED as usize),
+    ];
+    let carries = carries.map(|(name, carry)| (name.to_string(), carry));
+    hold("c/peliranopi.h", &numbers(4), &carries);
     assert_eq!(
         constants().len(),
-        4,
+        5,
         "an enum of the header that no test knows"
     );
 }
@@ -353,4 +360,35 @@ fn the_version_is_one() {
         CHANGELOG.contains(&heading),
         "CHANGELOG.md has no heading for {version}"
     );
+}
+
+/// The rows of the printed table: what stands in front of the bar, and the entries behind it.
+fn printed() -> Vec<(&'static str, Vec<&'static str>)> {
+    let rows = PRINTED.lines().filter_map(|line| {
+        let (name, entries) = line.split_once('|')?;
+        Some((name.trim(), entries.split_whitespace().collect()))
+    });
+    rows.collect()
+}
+
+/// Each entry is what the call says for the carry of its row and the symbol of its column.
+#[test]
+fn the_printed_table_has_the_carries_of_the_call() {
+    let rows = printed();
+    let [("symbol", symbols), ("value", values), carries @ ..] = &rows[..] else {
+        panic!("docs/carry-table.txt has other rows at its head");
+    };
+    let all = ('0'..='9').chain('A'..='Z').map(String::from);
+    assert!(symbols.iter().copied().eq(all), "{symbols:?}");
+    let all = (0..36).map(|value| value.to_string());
+    assert!(values.iter().copied().eq(all), "{values:?}");
+    assert_eq!(carries.len(), 36);
+    for (carry, (name, entries)) in (1..=36).zip(carries) {
+        assert_eq!(*name, carry.to_string());
+        assert_eq!(entries.len(), symbols.len(), "carry {carry}");
+        for (symbol, entry) in symbols.iter().zip(entries) {
+            let next = next_carry(carry, symbol.as_bytes()[0]).unwrap();
+            assert_eq!(*entry, next.to_string(), "carry {carry}, symbol {symbol}");
+        }
+    }
 }

@@ -6,7 +6,7 @@ mod splitting;
 mod timing;
 
 use files::{file, Codes, Kind, SEED};
-use peliranopi::IDENTCODE_LEN;
+use peliranopi::{CARRY_PASSED, CARRY_START, IDENTCODE_LEN, LABEL_LEN, TRACKING_LEN};
 use reference::generate::{valid_iban, valid_identcode, valid_number, Rng};
 use splitting::Splitter;
 use std::hint::black_box;
@@ -339,10 +339,11 @@ fn with_other_count(record: &[u8]) -> [u8; 3] {
     }
 }
 
-/// A million numbers of each kind, each checked or issued by its own call.
+/// A million numbers of each kind, each checked or issued by its own call, or keyed by one for each symbol.
 fn measure_numbers() {
     println!();
-    println!("A million numbers that pass, each checked by its own call, or issued. Best of {ROUNDS_OF_A_MILLION} runs or more.");
+    println!("A million numbers that pass, each checked by its own call, or issued; keyed, by a call for each symbol.");
+    println!("Best of {ROUNDS_OF_A_MILLION} runs or more.");
     head(&[
         "Numbers",
         "Library ns each",
@@ -351,18 +352,33 @@ fn measure_numbers() {
     ]);
     let passes = |number: &[u8]| peliranopi::check_number(number).is_ok();
     let passes_there = |number: &[u8]| reference::numbers::check_number(number).is_ok();
-    print_numbers(
-        "tracking numbers",
-        |rng| number_of(rng, 15),
-        passes,
-        passes_there,
-    );
-    print_numbers(
-        "label codes",
-        |rng| number_of(rng, 28),
-        passes,
-        passes_there,
-    );
+    let tracking = |rng: &mut Rng| number_of(rng, TRACKING_LEN);
+    let label = |rng: &mut Rng| number_of(rng, LABEL_LEN);
+    print_numbers("tracking numbers", tracking, passes, passes_there);
+    print_numbers("label codes", label, passes, passes_there);
+    let issues = |number: &[u8]| {
+        let body = &number[..number.len() - 1];
+        peliranopi::issue_number(body, black_box(&mut [0; LABEL_LEN])).is_ok()
+    };
+    let issues_there = |number: &[u8]| {
+        let body = &number[..number.len() - 1];
+        reference::numbers::issue_number(body, black_box(&mut [0; LABEL_LEN])).is_ok()
+    };
+    print_numbers("tracking numbers, issued", tracking, issues, issues_there);
+    print_numbers("label codes, issued", label, issues, issues_there);
+    let passes = |number: &[u8]| {
+        let mut keys = number.iter();
+        let carry = keys.try_fold(CARRY_START, |carry, key| {
+            peliranopi::next_carry(carry, *key)
+        });
+        carry == Ok(CARRY_PASSED)
+    };
+    let passes_there = |number: &[u8]| {
+        let mut keys = number.iter();
+        let carry = keys.try_fold(36, |carry, key| reference::numbers::next_carry(carry, *key));
+        carry == Ok(2)
+    };
+    print_numbers("tracking numbers, keyed", tracking, passes, passes_there);
     let passes = |iban: &[u8]| peliranopi::check_iban(iban).is_ok();
     let passes_there = |iban: &[u8]| reference::numbers::check_iban(iban).is_ok();
     print_numbers("IBANs", valid_iban, passes, passes_there);

@@ -2,9 +2,9 @@
 
 use crate::Call;
 use reference::generate::{
-    countries, damaged_iban, damaged_identcode, damaged_number, file_case, identcode_issue_call,
-    issue_call, line_call, purpose_call, valid_iban, valid_identcode, valid_number, writer_call,
-    Rng,
+    carry_call, countries, damaged_iban, damaged_identcode, damaged_number, file_case,
+    identcode_issue_call, issue_call, line_call, purpose_call, valid_iban, valid_identcode,
+    valid_number, writer_call, Rng,
 };
 
 /// The calls of the library.
@@ -21,6 +21,7 @@ pub enum Kind {
     CheckIdentcode,
     ReadIdentcode,
     IssueIdentcode,
+    Carry,
 }
 
 /// A call of this kind.
@@ -47,6 +48,7 @@ pub fn call(kind: Kind, rng: &mut Rng) -> Call {
             Call::ReadIdentcode(symbols(rng, valid_identcode, damaged_identcode))
         }
         Kind::IssueIdentcode => Call::IssueIdentcode(identcode_issue_call(rng)),
+        Kind::Carry => Call::Carry(carry_call(rng)),
     }
 }
 

@@ -5,7 +5,7 @@ pub mod draw;
 pub mod library;
 pub mod promised;
 
-use reference::generate::{IssueCall, LineCall, PurposeCall, Rng, WriterCall};
+use reference::generate::{CarryCall, IssueCall, LineCall, PurposeCall, Rng, WriterCall};
 
 /// A call with all that goes into it.
 #[derive(Clone, Debug)]
@@ -28,6 +28,7 @@ pub enum Call {
     CheckIdentcode(Vec<u8>),
     ReadIdentcode(Vec<u8>),
     IssueIdentcode(IssueCall),
+    Carry(CarryCall),
 }
 
 impl Call {
@@ -41,6 +42,7 @@ impl Call {
             Call::Check(symbols) | Call::Iban(symbols) => symbols,
             Call::CheckIdentcode(code) | Call::ReadIdentcode(code) => code,
             Call::Issue(call) | Call::IssueIdentcode(call) => &call.body,
+            Call::Carry(_) => &[],
         }
     }
 
@@ -106,6 +108,7 @@ impl Call {
             Call::Check(_) | Call::Iban(_) | Call::CheckIdentcode(_) | Call::ReadIdentcode(_) => {
                 "nothing else".to_string()
             }
+            Call::Carry(call) => format!("carry {}, byte {}", call.carry, call.symbol),
         }
     }
 }

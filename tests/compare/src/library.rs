@@ -2,7 +2,7 @@
 
 use crate::{lent, Call, Left, NONSENSE};
 use peliranopi::sys;
-use reference::generate::WriterCall;
+use reference::generate::{CarryCall, WriterCall};
 
 /// What the library leaves of what was there before the call.
 pub fn left(call: &Call, mut left: Left) -> Left {
@@ -18,6 +18,7 @@ pub fn left(call: &Call, mut left: Left) -> Left {
         Call::CheckIdentcode(_) => check_identcode(&mut left),
         Call::ReadIdentcode(_) => read_identcode(&mut left),
         Call::IssueIdentcode(_) => issue_identcode(&mut left),
+        Call::Carry(call) => next_carry(&mut left, call),
     }
     left
 }
@@ -218,4 +219,12 @@ fn issue_identcode(left: &mut Left) {
         )
     };
     left.values = vec![written as u64];
+}
+
+fn next_carry(left: &mut Left, call: &CarryCall) {
+    let mut next = NONSENSE as u32;
+    // SAFETY: as said above.
+    left.answer =
+        unsafe { sys::peliranopi_next_carry(call.carry, call.symbol, &mut next, &mut left.place) };
+    left.values = vec![u64::from(next)];
 }

@@ -21,7 +21,7 @@ struct Share {
     refusals: &'static [u32],
 }
 
-const SHARES: [Share; 11] = [
+const SHARES: [Share; 12] = [
     Share {
         kind: Kind::File,
         name: "files",
@@ -61,7 +61,7 @@ const SHARES: [Share; 11] = [
     Share {
         kind: Kind::Issue,
         name: "issued numbers",
-        share: 150,
+        share: 110,
         refusals: &[13, 16, 17],
     },
     Share {
@@ -87,6 +87,12 @@ const SHARES: [Share; 11] = [
         name: "issued identcodes",
         share: 75,
         refusals: &[13, 16, 17],
+    },
+    Share {
+        kind: Kind::Carry,
+        name: "carries",
+        share: 40,
+        refusals: &[15, 17],
     },
 ];
 

@@ -29,6 +29,7 @@ pub fn all(rng: &mut Rng) -> Vec<Call> {
     writings(rng, &mut calls);
     generated_writings(rng, &mut calls);
     purposes(rng, &mut calls);
+    carries(rng, &mut calls);
     calls
 }
 
@@ -322,5 +323,17 @@ fn purposes(rng: &mut Rng, calls: &mut Vec<Call>) {
     }
     for _ in 0..300 {
         calls.push(Call::WritePurpose(purpose_call(rng)));
+    }
+}
+
+/// Every carry and the numbers beside them, with symbols and the bytes beside these.
+fn carries(rng: &mut Rng, calls: &mut Vec<Call>) {
+    for carry in (0..=37).chain([u32::MAX]) {
+        for symbol in *b"/09:@AZ[`az{" {
+            calls.push(Call::NextCarry(CarryCall { carry, symbol }));
+        }
+    }
+    for _ in 0..500 {
+        calls.push(Call::NextCarry(carry_call(rng)));
     }
 }

@@ -3,7 +3,7 @@
 use crate::call::{Answer, Call, BYTE, WORD};
 use crate::pages::{Lent, Room, Side};
 use peliranopi::sys;
-use reference::generate::{IssueCall, LineCall, PurposeCall, WriterCall};
+use reference::generate::{CarryCall, IssueCall, LineCall, PurposeCall, WriterCall};
 
 /// A room for each buffer of a call: seven at most, the single numbers among them.
 pub struct Desk {
@@ -38,6 +38,7 @@ impl Desk {
             Call::WritePurpose(call) => self.write_purpose(call),
             Call::CheckNumber { symbols } => self.check_number(symbols),
             Call::IssueNumber(call) => self.issue_number(call),
+            Call::NextCarry(call) => self.next_carry(call),
             Call::CheckIban { symbols } => self.check_iban(symbols),
             Call::CheckIdentcode { code } => self.check_identcode(code),
             Call::ReadIdentcode { code } => self.read_identcode(code),
@@ -207,6 +208,15 @@ impl Desk {
         };
         stayed(&body, &call.body);
         answer("issue_number", refusal, place, vec![value(written)]).with_output(output)
+    }
+
+    fn next_carry(&mut self, call: &CarryCall) -> Answer {
+        let (next, place) = (self.lay(&[WORD]), self.number());
+        // SAFETY: as in `judge`.
+        let refusal =
+            unsafe { sys::peliranopi_next_carry(call.carry, call.symbol, next.start, place.start) };
+        let numbers = vec![next.content()[0].into()];
+        answer("next_carry", refusal, place, numbers)
     }
 
     fn check_iban(&mut self, bytes: &[u8]) -> Answer {

@@ -12,12 +12,15 @@ type Row = (&'static str, Side, &'static [u8], Try);
 type Try = fn(Lent<u8>);
 
 const BODY: &[u8] = b"09980000020041";
+/// Room for a carry, and for a place.
+const CARRY: &[u8] = &[0; size_of::<u32>()];
+const PLACE: &[u8] = &[0; size_of::<usize>()];
 const IDENTCODE: &[u8] = b"1000000000000000000007";
 /// Room for the parts of an identcode, which are twelve numbers, and for eleven.
 const PARTS: &[u8] = &[0; 12 * size_of::<usize>()];
 const FEWER_PARTS: &[u8] = PARTS.split_at(11 * size_of::<usize>()).0;
 
-const INSIDE: [Row; 8] = [
+const INSIDE: [Row; 10] = [
     ("reads the last byte", Side::Behind, BODY, |lent| {
         read(lent.start.wrapping_add(13))
     }),
@@ -33,6 +36,12 @@ const INSIDE: [Row; 8] = [
     ("lends 7 countries", Side::Behind, BODY, |lent| {
         lend_countries(lent.start, 14)
     }),
+    ("tells a carry", Side::Behind, CARRY, |lent| {
+        tell_carry(lent.start)
+    }),
+    ("tells a place", Side::Behind, PLACE, |lent| {
+        tell_place(lent.start)
+    }),
     ("checks an identcode", Side::Behind, IDENTCODE, |lent| {
         check_identcode(lent.start, 22)
     }),
@@ -44,7 +53,7 @@ const INSIDE: [Row; 8] = [
     }),
 ];
 
-const OUTSIDE: [Row; 14] = [
+const OUTSIDE: [Row; 18] = [
     ("reads one byte past", Side::Behind, BODY, |lent| {
         read(lent.start.wrapping_add(14))
     }),
@@ -71,6 +80,18 @@ const OUTSIDE: [Row; 14] = [
     }),
     ("lends one country before", Side::Before, BODY, |lent| {
         lend_countries(lent.start.wrapping_sub(2), 16)
+    }),
+    ("tells a carry past", Side::Behind, CARRY, |lent| {
+        tell_carry(lent.start.wrapping_add(CARRY.len()))
+    }),
+    ("tells a carry before", Side::Before, CARRY, |lent| {
+        tell_carry(lent.start.wrapping_sub(CARRY.len()))
+    }),
+    ("tells a place past", Side::Behind, PLACE, |lent| {
+        tell_place(lent.start.wrapping_add(PLACE.len()))
+    }),
+    ("tells a place before", Side::Before, PLACE, |lent| {
+        tell_place(lent.start.wrapping_sub(PLACE.len()))
     }),
     ("checks one digit past", Side::Behind, IDENTCODE, |lent| {
         check_identcode(lent.start.wrapping_add(1), 22)
@@ -138,6 +159,18 @@ fn issue(output: *mut u8, length: usize) {
             &mut place,
         )
     };
+}
+
+fn tell_carry(next: *mut u8) {
+    let mut place = 0;
+    // SAFETY: as for `read`, where the carry is not in the buffer.
+    unsafe { sys::peliranopi_next_carry(36, b'Z', next.cast(), &mut place) };
+}
+
+fn tell_place(place: *mut u8) {
+    let mut next = 0;
+    // SAFETY: as for `read`, where the place is not in the buffer.
+    unsafe { sys::peliranopi_next_carry(36, b'Z', &mut next, place.cast()) };
 }
 
 fn check_identcode(code: *const u8, length: usize) {

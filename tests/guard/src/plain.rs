@@ -75,6 +75,10 @@ fn result(call: &Call, list: &mut [u32], output: &mut [u8]) -> Named {
             let written = peliranopi::issue_number(&call.body, output);
             named("issue_number", written.map(|count| [count as u64]))
         }
+        Call::NextCarry(call) => {
+            let next = peliranopi::next_carry(call.carry, call.symbol);
+            named("next_carry", next.map(|next| [next.into()]))
+        }
         Call::CheckIban { symbols } => {
             let passed = peliranopi::check_iban(symbols);
             named("check_iban", passed.map(|()| []))

@@ -21,7 +21,7 @@ pub fn check_number(number: &[u8]) -> Result<Kind, Refusal> {
     };
     first_wrong_symbol(kind, number)?;
     let last = number.len() - 1;
-    if !check_fits(&number[..last], number[last]) {
+    if !check_fits(carry(&number[..last]), number[last]) {
         return refuse(18, last);
     }
     Ok(kind)
@@ -39,14 +39,28 @@ pub fn issue_number(body: &[u8], out: &mut [u8]) -> Result<usize, Refusal> {
     if out.len() < body.len() + 1 {
         return refuse(13, 0);
     }
+    let carry = carry(body);
     let check = SYMBOLS
         .iter()
         .copied()
-        .find(|symbol| check_fits(body, *symbol))
+        .find(|symbol| check_fits(carry, *symbol))
         .expect("36 values leave every remainder modulo 36");
     out[..body.len()].copy_from_slice(body);
     out[body.len()] = check;
     Ok(body.len() + 1)
+}
+
+/// "The scanning wedge asks for the carry after each keystroke" (document 02, request 4). Outside 1
+/// to 36 there is "no such" carry: 15. Then "symbol not allowed at its place": 17. Both are at 0,
+/// where the one symbol stands.
+pub fn next_carry(carry: u32, symbol: u8) -> Result<u32, Refusal> {
+    if !(1..=36).contains(&carry) {
+        return refuse(15, 0);
+    }
+    match value(symbol) {
+        Some(value) => Ok(step(carry, value)),
+        None => refuse(17, 0),
+    }
 }
 
 /// "IBAN: 15 to 34 long, two capitals, two digits, then capitals or digits. The first four move to
@@ -110,21 +124,24 @@ fn first_wrong_symbol(kind: Kind, symbols: &[u8]) -> Result<(), Refusal> {
 }
 
 /// "The check character makes carry plus its value leave 1 modulo 36."
-fn check_fits(body: &[u8], check: u8) -> bool {
-    value(check).is_some_and(|value| (carry(body) + value) % 36 == 1)
+fn check_fits(carry: u32, check: u8) -> bool {
+    value(check).is_some_and(|value| (carry + value) % 36 == 1)
 }
 
-/// "The carry starts at 36. For each symbol add its value, reduce modulo 36 with 0 read as 36,
-/// double, reduce modulo 37."
+/// "The carry starts at 36."
 fn carry(symbols: &[u8]) -> u32 {
     symbols.iter().fold(36, |carry, symbol| {
-        let value = value(*symbol).expect("the symbols were tested");
-        let sum = match (carry + value) % 36 {
-            0 => 36,
-            sum => sum,
-        };
-        2 * sum % 37
+        step(carry, value(*symbol).expect("the symbols were tested"))
     })
+}
+
+/// "For each symbol add its value, reduce modulo 36 with 0 read as 36, double, reduce modulo 37."
+fn step(carry: u32, value: u32) -> u32 {
+    let sum = match (carry + value) % 36 {
+        0 => 36,
+        sum => sum,
+    };
+    2 * sum % 37
 }
 
 /// "Digits have values 0 to 9, A to Z 10 to 35."

@@ -6,7 +6,7 @@ use reference::file::{judge, Totals};
 use reference::generate::*;
 use reference::identcode::{check_identcode, issue_identcode, read_identcode};
 use reference::line::{find_field, read_line};
-use reference::numbers::{check_iban, check_number, issue_number, Kind};
+use reference::numbers::{check_iban, check_number, issue_number, next_carry, Kind};
 use reference::purpose::purpose;
 use reference::writer::write_line;
 use reference::Refusal;
@@ -629,19 +629,21 @@ fn slips_in_identcodes() {
     assert!(passed > 5_000 && stopped > 50_000, "{passed} {stopped}");
 }
 
-/// The C function that 001 prints, in its own steps.
-fn check_of_001(body: &[u8]) -> u8 {
-    let mut p = 36;
-    for symbol in body {
-        p += (*symbol as char).to_digit(36).unwrap();
-        if p > 36 {
-            p -= 36;
-        }
-        p *= 2;
-        if p >= 37 {
-            p -= 37;
-        }
+/// The C function that 001 prints, in its own steps: one of them, and all.
+fn step_of_001(mut p: u32, symbol: u8) -> u32 {
+    p += (symbol as char).to_digit(36).unwrap();
+    if p > 36 {
+        p -= 36;
     }
+    p *= 2;
+    if p >= 37 {
+        p -= 37;
+    }
+    p
+}
+
+fn check_of_001(body: &[u8]) -> u8 {
+    let mut p = body.iter().fold(36, |p, symbol| step_of_001(p, *symbol));
     p = 37 - p;
     let value = if p == 36 { 0 } else { p };
     char::from_digit(value, 36).unwrap().to_ascii_uppercase() as u8
@@ -655,6 +657,49 @@ fn checks_are_those_of_001() {
         let (check, body) = number.split_last().unwrap();
         assert_eq!(*check, check_of_001(body));
     }
+}
+
+#[test]
+fn carries() {
+    let mut rng = Rng::new(21);
+    let (mut counts, mut met) = (Counts::new(), HashSet::new());
+    for _ in 0..40_000 {
+        let CarryCall { carry, symbol } = carry_call(&mut rng);
+        let answer = next_carry(carry, symbol);
+        if let Ok(next) = answer {
+            assert_eq!(next, step_of_001(carry, symbol));
+            met.insert((carry, symbol));
+        }
+        count(&mut counts, &answer);
+    }
+    assert_each(&counts, &[0, 15, 17]);
+    assert!(counts.values().all(|count| *count >= 1_000), "{counts:?}");
+    assert_eq!(met.len(), 36 * 36, "every carry with every symbol");
+    println!("{counts:?}");
+}
+
+/// A number of the right shape passes exactly where the carry behind its check is 2.
+#[test]
+fn numbers_that_are_keyed() {
+    let keyed = |number: &[u8]| {
+        let mut symbols = number.iter();
+        symbols.try_fold(36, |carry, symbol| next_carry(carry, *symbol))
+    };
+    let mut rng = Rng::new(22);
+    let mut stopped = 0;
+    for _ in 0..20_000 {
+        assert_eq!(keyed(&valid_number(&mut rng)), Ok(2));
+        let damaged = damaged_number(&mut rng);
+        match check_number(&damaged) {
+            Ok(_) => assert_eq!(keyed(&damaged), Ok(2)),
+            Err(refusal) if refusal.number == 18 => {
+                assert!(keyed(&damaged).is_ok_and(|carry| carry != 2));
+                stopped += 1;
+            }
+            Err(_) => {}
+        }
+    }
+    assert!(stopped > 1_000, "{stopped}");
 }
 
 /// The remainder by 97, one symbol after the other.

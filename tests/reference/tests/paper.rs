@@ -4,7 +4,7 @@
 use reference::file::{judge, Totals};
 use reference::identcode::{check_identcode, issue_identcode, read_identcode};
 use reference::line::{find_field, read_line, Line};
-use reference::numbers::{check_iban, check_number, issue_number, Kind};
+use reference::numbers::{check_iban, check_number, issue_number, next_carry, Kind};
 use reference::purpose::purpose;
 use reference::writer::write_line;
 use reference::Refusal;
@@ -189,6 +189,55 @@ fn refusals_of_numbers() {
     assert_eq!(issue_number(b"09980000020041", &mut out), Ok(15));
     assert_eq!(&out[..15], b"09980000020041F");
     assert_eq!(out[15..], [9; 5]);
+}
+
+/// "The carry starts at 36"; behind the check, "carry plus its value leave 1 modulo 36", and twice 1
+/// is 2.
+#[test]
+fn carries_of_a_number_that_is_keyed() {
+    let numbers = [
+        ("09980000020041F", "35 16 13 5 10 20 3 6 12 28 19 1 10 22 2"),
+        ("00000000000000U", "35 33 29 21 5 10 20 3 6 12 24 11 22 7 2"),
+    ];
+    for (number, due) in numbers {
+        let mut carry = 36;
+        let carries = number.bytes().map(|symbol| {
+            carry = next_carry(carry, symbol).unwrap();
+            carry.to_string()
+        });
+        assert_eq!(carries.collect::<Vec<_>>().join(" "), due);
+    }
+}
+
+/// "Add its value, reduce modulo 36 with 0 read as 36" is the one number of 1 to 36 that leaves the
+/// same modulo 36; "double, reduce modulo 37" is its double, or that less 37.
+#[test]
+fn every_carry_and_every_symbol() {
+    let symbols = (b'0'..=b'9').chain(b'A'..=b'Z');
+    for (value, symbol) in symbols.enumerate() {
+        for carry in 1..=36 {
+            let mut read = (1..=36).filter(|sum| (carry + value as u32).abs_diff(*sum) % 36 == 0);
+            let sum = read.next().unwrap();
+            assert_eq!(read.next(), None);
+            let next = next_carry(carry, symbol).unwrap();
+            assert!(next <= 36 && (next == 2 * sum || next + 37 == 2 * sum));
+        }
+    }
+}
+
+/// 15 before 17, both at 0.
+#[test]
+fn refusals_of_carries() {
+    for symbol in 0..=255 {
+        let is_symbol = matches!(symbol, b'0'..=b'9' | b'A'..=b'Z');
+        for carry in 1..=36 {
+            let answer = next_carry(carry, symbol);
+            assert!(answer.is_ok() == is_symbol && (is_symbol || answer == no(17, 0)));
+        }
+        for carry in [0, 37, 255, 256, 292, 65_572, u32::MAX] {
+            assert_eq!(next_carry(carry, symbol), no(15, 0));
+        }
+    }
 }
 
 /// d stands for a digit, c for a capital, s for either.

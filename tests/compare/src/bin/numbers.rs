@@ -1,8 +1,9 @@
 //! Answers requests on standard input by the static library, one a line: `number SYMBOLS`, `issue BODY`, `iban SYMBOLS`,
-//! `identcode CODE` or `issue-identcode BODY`. Prints for each `tracking`, `label`, the number issued, `iban` or `identcode`; refused,
-//! `no NUMBER PLACE`. tests/outside.py asks.
+//! `identcode CODE`, `issue-identcode BODY` or `key SYMBOLS`. Prints for each `tracking`, `label`, the number issued, `iban`,
+//! `identcode` or the carry behind the symbols; refused, `no NUMBER PLACE`. tests/outside.py asks.
 
 use compare::{lent, library, Call, Left};
+use peliranopi::{next_carry, CARRY_START};
 use reference::generate::{IssueCall, Rng};
 use std::io::{BufRead, Write};
 
@@ -11,14 +12,32 @@ fn main() -> std::io::Result<()> {
     let mut out = std::io::BufWriter::new(std::io::stdout().lock());
     for line in std::io::stdin().lock().split(b'\n') {
         let line = line?;
-        let Some(call) = request(&line) else {
+        let Some(said) = said(&line, &mut rng) else {
             eprintln!("numbers: no request: {}", String::from_utf8_lossy(&line));
             std::process::exit(2);
         };
-        let before = Left::before(&call, &mut rng);
-        writeln!(out, "{}", answer(&call, library::left(&call, before)))?;
+        writeln!(out, "{said}")?;
     }
     out.flush()
+}
+
+/// The answer to a line; none where it asks for none.
+fn said(line: &[u8], rng: &mut Rng) -> Option<String> {
+    if let Some(symbols) = line.strip_prefix(b"key ") {
+        return Some(keyed(symbols));
+    }
+    let call = request(line)?;
+    let before = Left::before(&call, rng);
+    Some(answer(&call, library::left(&call, before)))
+}
+
+/// The carry behind symbols that the library gets one by one.
+fn keyed(symbols: &[u8]) -> String {
+    let mut symbols = symbols.iter();
+    match symbols.try_fold(CARRY_START, |carry, symbol| next_carry(carry, *symbol)) {
+        Ok(carry) => carry.to_string(),
+        Err(refused) => format!("no {} {}", refused.why.number(), refused.place),
+    }
 }
 
 /// The call that a line asks for; none where it asks for none.

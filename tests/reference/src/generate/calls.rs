@@ -1,4 +1,5 @@
-//! Calls of the other entry points: one line, one field, the writer, the purpose and issuing.
+//! Calls of the other entry points: one line, one field, the writer, the purpose, issuing and the
+//! carry.
 
 use super::countries::countries;
 use super::damage::{damage, file_case, Damage};
@@ -341,4 +342,29 @@ fn issue_call_of(rng: &mut Rng, mut body: Vec<u8>) -> IssueCall {
         _ => body.len() + rng.between(1, 20),
     };
     IssueCall { body, output }
+}
+
+/// A call of the carry after one more symbol.
+#[derive(Clone, Copy, Debug)]
+pub struct CarryCall {
+    pub carry: u32,
+    pub symbol: u8,
+}
+
+/// Mostly a carry and a symbol; sometimes numbers beside the carries, or that are carries once they
+/// are cut to fewer bits, and bytes beside the symbols.
+pub fn carry_call(rng: &mut Rng) -> CarryCall {
+    const BESIDE: &[u32] = &[0, 1, 36, 37, 255, 256, 257, 292, 65_572, u32::MAX];
+    let carry = match rng.below(10) {
+        0..=1 => rng.pick(BESIDE),
+        2 => rng.word() as u32,
+        _ => rng.between(1, 36) as u32,
+    };
+    let symbol = match rng.below(10) {
+        0..=3 => rng.digit(),
+        4..=7 => rng.capital(),
+        8 => rng.pick(b"/09:@AZ[`az{"),
+        _ => rng.byte(),
+    };
+    CarryCall { carry, symbol }
 }

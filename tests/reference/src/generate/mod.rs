@@ -12,8 +12,8 @@ mod files;
 mod values;
 
 pub use calls::{
-    identcode_issue_call, issue_call, line_call, purpose_call, valid_writer_call, writer_call,
-    IssueCall, LineCall, PurposeCall, WriterCall,
+    carry_call, identcode_issue_call, issue_call, line_call, purpose_call, valid_writer_call,
+    writer_call, CarryCall, IssueCall, LineCall, PurposeCall, WriterCall,
 };
 pub use countries::{countries, own};
 pub use damage::{damage, file_case, Damage, FileCase};
