@@ -136,13 +136,13 @@ uint32_t peliranopi_issue_number(const uint8_t *body, size_t body_len,
                                  uint8_t *output, size_t output_len,
                                  size_t *written, size_t *place);
 
-/* Tells the carry after one more symbol (0-9 or A-Z), for who takes a DPD number key by key (ISO/IEC 7064, MOD 37,36). The first
- * symbol comes with the carry PELIRANOPI_CARRY_START, each other one with the `next` of the call before. A number of the right shape
- * passes exactly where the carry behind its last symbol is PELIRANOPI_CARRY_PASSED. A carry outside 1 to 36 is PELIRANOPI_NOT_THERE,
- * whatever the symbol.
- * next: the carry after the symbol, 1 to 36. The 0 of a refusal is no carry: who goes on with it is refused at every further key.
- * place: always 0, since there is one symbol. */
-uint32_t peliranopi_next_carry(uint32_t carry, uint8_t symbol, uint32_t *next, size_t *place);
+/* Tells the carry after one more symbol (0-9 or A-Z), for a caller who takes a DPD number key by key (ISO/IEC 7064, MOD 37,36). The first
+ * call is given PELIRANOPI_CARRY_START, each later one the `next` of the call before. A number of the right shape passes exactly where
+ * the carry behind its last symbol is PELIRANOPI_CARRY_PASSED. A carry outside 1 to 36 is refused by PELIRANOPI_NOT_THERE, whatever the
+ * key; then a key that is no symbol by PELIRANOPI_WRONG_SYMBOL.
+ * next: the carry after the key, 1 to 36. The 0 of a refusal is no carry: a caller who goes on with it is refused at every further key.
+ * place: always 0, since the call sees one key. */
+uint32_t peliranopi_next_carry(uint32_t carry, uint8_t key, uint32_t *next, size_t *place);
 
 /* Checks an IBAN. */
 uint32_t peliranopi_check_iban(const uint8_t *symbols, size_t symbols_len, size_t *place);

@@ -138,7 +138,7 @@ extern "C" {
     ) -> u32;
 
     /// Tells the carry of a DPD number after one more symbol.
-    pub fn peliranopi_next_carry(carry: u32, symbol: u8, next: *mut u32, place: *mut usize) -> u32;
+    pub fn peliranopi_next_carry(carry: u32, key: u8, next: *mut u32, place: *mut usize) -> u32;
 
     /// Checks an IBAN.
     pub fn peliranopi_check_iban(symbols: *const u8, symbols_len: usize, place: *mut usize) -> u32;
