@@ -417,6 +417,39 @@ static void issue_identcode(const char *body, size_t length, uint32_t refusal, c
     output_is(output, sizeof output, code, 0);
 }
 
+/* One answer in words to a key: a carry, or `no`, the refusal's number and 0. Gives what follows it. */
+static const char *answered_key(uint32_t carry, char key, const char *due, uint32_t *next)
+{
+    uint32_t refusal = PELIRANOPI_ACCEPTED;
+    int length = 0;
+    *next = 0;
+    if (sscanf(due, "no %" SCNu32 " 0%n", &refusal, &length) < 1)
+        sscanf(due, "%" SCNu32 "%n", next, &length);
+    next_carry(carry, (uint8_t)key, refusal, *next);
+    return due + length;
+}
+
+/* A carry, a space and a key. */
+static void asked_key(const char *text, const char *due)
+{
+    char *key;
+    uint32_t carry = (uint32_t)strtoul(text, &key, 10), next;
+    if (*answered_key(carry, key[1], due, &next))
+        fail(text);
+}
+
+/* Keys one behind the other, from the first carry on; behind a refusal the carry is the 0 that it tells. */
+static void typed_keys(const char *keys, const char *due)
+{
+    uint32_t carry = PELIRANOPI_CARRY_START;
+    for (const char *key = keys; *key; key++) {
+        due = answered_key(carry, *key, due, &carry);
+        due += *due == ' ';
+    }
+    if (*due)
+        fail(keys);
+}
+
 /* One stored vector: what is asked, the symbols, and the answer in words. The answer of `C` comes from no call. */
 static void vector(char asked, const char *symbols, const char *due)
 {
@@ -439,6 +472,10 @@ static void vector(char asked, const char *symbols, const char *due)
         read_identcode(symbols, refusal, refusal ? "" : due, place);
     else if (asked == 'J')
         issue_identcode(symbols, 30, refusal, number, place);
+    else if (asked == 'K')
+        asked_key(symbols, due);
+    else if (asked == 'T')
+        typed_keys(symbols, due);
     else if (asked != 'C')
         fail("no such vector");
 }
@@ -446,7 +483,7 @@ static void vector(char asked, const char *symbols, const char *due)
 /* The stored vectors: a row of stdin is a letter and symbols, and that of stdout the symbols and the answer. */
 static void vector_cases(const char *folder)
 {
-    char request[256], answer[256];
+    char request[2048], answer[8192];
     FILE *requests = open_in(folder, "stdin"), *answers = open_in(folder, "stdout");
     while (read_row(requests, request, sizeof request)) {
         const char *symbols = request + 2;

@@ -71,8 +71,25 @@ fn answer(request: &str) -> String {
             let written = issue_identcode(symbols, &mut output);
             said(written, |_| String::from_utf8_lossy(&output).into_owned())
         }
+        "K" => {
+            let (carry, key) = request[2..].split_once(' ').expect("a carry and a key");
+            let next = next_carry(carry.parse().expect("a number"), key.as_bytes()[0]);
+            said(next, |next| next.to_string())
+        }
+        "T" => typed(symbols),
         asked => panic!("no call answers {asked}"),
     }
+}
+
+/// The answer to each key, from the first carry on. Behind a refusal there is none: 0 stands for it.
+fn typed(keys: &[u8]) -> String {
+    let mut carry = CARRY_START;
+    let answers = keys.iter().map(|key| {
+        let next = next_carry(carry, *key);
+        carry = *next.as_ref().unwrap_or(&0);
+        said(next, |next| next.to_string())
+    });
+    answers.collect::<Vec<_>>().join(" ")
 }
 
 /// Check characters (`C`) come from no call.
