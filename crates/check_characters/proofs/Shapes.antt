@@ -5,7 +5,7 @@ use mathlib.Core.Bool.{Bool, false}
 use mathlib.Core.List.{List, [], _∷_, _++_}
 use native.Mathlib.Nat.{add-zero, add-suc, not-suc-le-zero, le-of-suc-le-suc}
 use native.Mathlib.Omega.{arith}
-use lib.ListN.{length, getD, replicate}
+use lib.ListN.{getD, replicate}
 use Rattle.text.specs.Byte.{digit, symbol}
 use Rattle.check_characters.specs.Number.{shapeOf, lengthOf, allowedInNumber}
 use Rattle.check_characters.specs.declared.number.Kind.{Kind}

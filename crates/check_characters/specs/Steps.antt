@@ -7,7 +7,7 @@ use mathlib.Core.List.{List}
 use Rattle.text.specs.Tabled.{tabled}
 use Rattle.check_characters.specs.Mod37.{step}
 
--- "Hold the step for carries 1 to 36 and values 0 to 35 as a table of 1,296 numbers, carry by carry."
+-- "Hold the step for carries 1 to 36 and values 0 to 35 as a table of 1,296 numbers, carry by carry": 36 entries have one carry in common
 unfoldable pub steps : List ℕ
 steps = tabled (λ entry. step (entry / 36 + 1) (entry % 36)) 0 1296
 

@@ -1,5 +1,5 @@
 // The carry of ISO/IEC 7064 MOD 37,36, after one more symbol and after a run of them, and the check character that it asks for. Each step is
-// read from the table of steps, which the caller lends.
+// read from the table of steps, which a call lays out once and lends to all below it.
 ghost use mathlib.Core.Path.{_≡_};
 ghost use Prim.Native.Nat.{_-_, _%_, _<_, _≤_};
 ghost use Rattle.check_characters.specs.Symbol.{symbolOf};

@@ -8,7 +8,7 @@
 //     carry   36  35  16  13   5  10  20   3   6  12  28  19   1  10  22
 //
 // First 36 + 0 leaves 0, read as 36; twice that is 72, which leaves 35. Then 35 + 9 leaves 8, and twice that is 16. At the end the
-// check's value makes 22 + value leave 1 modulo 36: it is 15, the value of `F`.
+// check's value makes 22 + value leave 1 modulo 36: it is 15, the value of `F`. Twice 1 is 2, the carry behind it.
 ghost use mathlib.Core.Path.{_≡_};
 ghost use Prim.Native.Nat.{_+_, _<_, _≤_};
 ghost use lib.ListN.{length, take};

@@ -1,6 +1,6 @@
 -- Proofs of the statements in specs/Wedge.
 use Prim.Native.Nat.{ℕ}
-use mathlib.Core.Path.{_≡_, refl, sym, ap, _∙_}
+use mathlib.Core.Path.{_≡_, refl, ap, _∙_}
 use Rattle.refusal.specs.Table.{because}
 use Rattle.refusal.specs.declared.Reason.the-variants.{NotThere}
 use Rattle.check_characters.specs.Steps.{steps}

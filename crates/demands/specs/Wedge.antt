@@ -51,7 +51,8 @@ CheckLeavesTwo =
 abbrev pub AcceptedLeavesTwo : Type 0
 AcceptedLeavesTwo =
     (kind : Kind) (symbols : List ℕ) →
-    (checkedNumber symbols ≡ Accepted kind) ↔ ((length symbols ≡ lengthOf kind) × Shaped (allowedInNumber kind) symbols × (typed symbols ≡ Next carryPassed))
+    (checkedNumber symbols ≡ Accepted kind) ↔
+    ((length symbols ≡ lengthOf kind) × Shaped (allowedInNumber kind) symbols × (typed symbols ≡ Next carryPassed))
 
 -- A caller from C who overlooks a refusal and goes on with what it told as the next carry is refused by 15 at the key behind it, and told
 -- the same again: so at every key from there on.

@@ -1,6 +1,6 @@
 -- The step of the carry, tested at every carry and value: one to one in the value and in the carry, and when two values may be
 -- swapped.
-use Prim.Native.Nat.{ℕ, suc, _+_, _-_, _*_, _%_, _<_}
+use Prim.Native.Nat.{ℕ, suc, _+_, _-_, _%_, _<_}
 use mathlib.Core.Path.{_≡_, refl, sym, _∙_}
 use mathlib.Core.Bool.{Bool, true, false, _&&_, _||_, Bool·beq}
 use mathlib.Core.Logic.{_⊎_, inl, inr, ⊎-elim}
@@ -8,8 +8,8 @@ use native.Mathlib.Omega.{arith}
 use lib.Dec.{eqb}
 use borrow.Author.Tests.{eqb-true, eq-eqb, ne-eqb}
 use Rattle.text.proofs.Choices.{and-left, and-right, and-both, or-cases}
-use Rattle.text.proofs.Finite.{every, every-at, told-apart}
-use Rattle.check_characters.specs.Mod37.{thirtySixFor0, step}
+use Rattle.text.proofs.Finite.{every, every-at}
+use Rattle.check_characters.specs.Mod37.{step}
 use Rattle.check_characters.proofs.Carries.{Carry, step-sum}
 use Rattle.slips.specs.Slips.{Follows, OneFollows}
 

@@ -16,16 +16,16 @@ use Rattle.text.proofs.Choices.{and-left, and-right, and-both, true-or-false, c
 use Rattle.text.proofs.Scans.{all-of}
 use Rattle.check_characters.specs.Symbol.{valueOf}
 use Rattle.check_characters.specs.Mod37.{step, carryFrom, carry, checkOf}
-use Rattle.check_characters.specs.Wedge.{nextCarry, carryVerdict}
+use Rattle.check_characters.specs.Wedge.{carryVerdict}
 use Rattle.check_characters.specs.Number.{lengthOf, allowedInNumber, checkedNumber}
 use Rattle.check_characters.specs.declared.carry.CarryAnswer.{CarryAnswer}
 use Rattle.check_characters.specs.declared.carry.CarryAnswer.the-variants.{Next, Refused}
 use Rattle.check_characters.specs.declared.number.Kind.{Kind}
 use Rattle.check_characters.specs.declared.number.NumberAnswer.the-variants.{Accepted}
-use Rattle.check_characters.proofs.Carries.{Carry, step-carry, carry-of, carry-append, two-of-one, one-of-two, passes-two, two-passes}
+use Rattle.check_characters.proofs.Carries.{Carry, step-carry, carry-append, two-of-one, one-of-two, passes-two, two-passes}
 use Rattle.check_characters.proofs.Keying.{next-step, next-no-symbol}
 use Rattle.check_characters.proofs.Shapes.{has-last}
-use Rattle.slips.specs.Exactly.{Shaped, SoundNumber}
+use Rattle.slips.specs.Exactly.{Shaped}
 use Rattle.slips.specs.Typed.{typedOn, typed}
 use Rattle.slips.proofs.Numbers.{symbol-of, value-one, below, accepted-sound, sound-accepted}
 use Rattle.slips.proofs.Issues.{check-symbol, check-closes}

@@ -3,7 +3,6 @@ use Prim.Native.Nat.{_≤_, _-_}
 use mathlib.Core.Path.{_≡_}
 use lib.ListN.{length, take}
 use Rattle.check_characters.specs.Mod37.{carry as carryOf}
-use Rattle.check_characters.specs.Steps.{steps}
 use Rattle.check_characters.proofs.Symbols.{value-below}
 use Rattle.check_characters.proofs.Carries.{step-low, step-high, carry-on, carry-ends}
 use borrow.Author.Needs.{needs}
