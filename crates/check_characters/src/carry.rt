@@ -1,9 +1,9 @@
 // The carry of ISO/IEC 7064 MOD 37,36, after one more symbol and after a run of them, and the check character that it asks for. Each step is
 // read from the table of steps, which a call lays out once and lends to all below it.
 ghost use mathlib.Core.Path.{_≡_};
-ghost use Prim.Native.Nat.{_-_, _%_, _<_, _≤_};
+ghost use Prim.Native.Nat.{_<_, _≤_};
 ghost use Rattle.check_characters.specs.Symbol.{symbolOf};
-ghost use Rattle.check_characters.specs.Mod37.{step, carry, checkOf};
+ghost use Rattle.check_characters.specs.Mod37.{step, carry, closes, firstValue, checkOf};
 ghost use Rattle.check_characters.specs.Steps.{steps};
 ghost use Rattle.check_characters.specs.Wedge.{isCarry, nextCarry};
 use crate::steps;
@@ -82,7 +82,7 @@ pub fn next(table: &[u8; 1296], carry: u8, value: u8) -> u8
 // The check character that closes a carry.
 pub fn closing(carry: u8) -> u8
     requires { ⌜ (1 ≤ carry) × (carry ≤ 36) ⌝ }
-    ensures { λ r. ⌜ r ≡ symbolOf ((37 - carry) % 36) ⌝ }
+    ensures { λ r. ⌜ r ≡ symbolOf (firstValue (closes carry) 0 36) ⌝ }
 {
     symbol::symbol_of((37 - carry) % 36)
 }

@@ -31,7 +31,8 @@ module _ (carry key : ℕ) where
     unfolding nextCarry
     key-refused e =
         choice (not (isCarry carry)) (Refused (because NotThere 0)) _ (Refused refusal)
-        (λ t q. is (because NotThere 0) (RefusedKey.no-carry (λ low high. clash (there-carry carry (record { low = low; high = high })) (not-true (isCarry carry) t))) q)
+        (λ t q. is (because NotThere 0)
+        (RefusedKey.no-carry (λ low high. clash (there-carry carry (record { low = low; high = high })) (not-true (isCarry carry) t))) q)
         (λ t. let there = not-false (isCarry carry) t in
         choice (not (symbol key)) (Refused (because WrongSymbol 0)) (Next (step carry (valueOf key))) (Refused refusal)
         (λ u q. is (because WrongSymbol 0) (RefusedKey.no-symbol (range there .0) (range there .1) (not-true (symbol key) u)) q)
