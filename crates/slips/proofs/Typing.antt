@@ -1,7 +1,7 @@
 -- A number typed key by key: its carry is that of the whole, and behind its check it is 2.
 use Prim.Native.Nat.{ℕ, _+_, _%_}
 use mathlib.Core.Path.{_≡_, refl, sym, ap, _∙_}
-use mathlib.Core.Bool.{Bool, true, false, _&&_}
+use mathlib.Core.Bool.{true, false}
 use mathlib.Core.List.{List, [], _∷_, _++_}
 use mathlib.Core.Logic.{_↔_, ⊎-elim}
 use native.Mathlib.Omega.{arith}
@@ -14,6 +14,7 @@ use Rattle.text.specs.Byte.{symbol}
 use Rattle.text.specs.Scan.{all}
 use Rattle.text.proofs.Choices.{and-left, and-right, and-both, true-or-false, clash}
 use Rattle.text.proofs.Scans.{all-of}
+use Rattle.text.proofs.Runs.{all-append, all-apart}
 use Rattle.check_characters.specs.Symbol.{valueOf}
 use Rattle.check_characters.specs.Mod37.{step, carryFrom, carry, checkOf}
 use Rattle.check_characters.specs.Wedge.{carryVerdict}
@@ -22,7 +23,7 @@ use Rattle.check_characters.specs.declared.carry.CarryAnswer.{CarryAnswer}
 use Rattle.check_characters.specs.declared.carry.CarryAnswer.the-variants.{Next, Refused}
 use Rattle.check_characters.specs.declared.number.Kind.{Kind}
 use Rattle.check_characters.specs.declared.number.NumberAnswer.the-variants.{Accepted}
-use Rattle.check_characters.proofs.Carries.{Carry, step-carry, carry-append, two-of-one, one-of-two, passes-two, two-passes}
+use Rattle.check_characters.proofs.Carries.{Carry, step-carry, carry-of, carry-append, two-of-one, one-of-two, passes-two, two-passes}
 use Rattle.check_characters.proofs.Keying.{next-step, next-no-symbol}
 use Rattle.check_characters.proofs.Shapes.{has-last}
 use Rattle.slips.specs.Exactly.{Shaped}
@@ -49,47 +50,36 @@ typed-stops c (b ∷ keys) h e =
     (λ (f : symbol b ≡ false). ap (λ (a : CarryAnswer). typedOn a keys) (next-no-symbol c b h f) ∙ refused-stays (because WrongSymbol 0) keys)
     (true-or-false (symbol b))
 
-starts : Carry 36
-starts = record { low = omega arith; high = omega arith }
-
 module _ (keys : List ℕ) where
   pub typed-exactly : (c : ℕ) → (typed keys ≡ Next c) ↔ ((all symbol keys ≡ true) × (c ≡ carry keys))
   typed-exactly c = (there, back)
     where
       there : typed keys ≡ Next c → (all symbol keys ≡ true) × (c ≡ carry keys)
       there e =
-          ⊎-elim (λ (t : all symbol keys ≡ true). let q = sym e ∙ typed-from 36 keys starts t in let same : c ≡ carry keys = cc in (t, same))
-          (λ (f : all symbol keys ≡ false). absurd (no-pass carryVerdict refl refl (sym (typed-stops 36 keys starts f) ∙ e)))
+          ⊎-elim (λ (t : all symbol keys ≡ true). let q = sym e ∙ typed-from 36 keys (carry-of []) t in let same : c ≡ carry keys = cc in (t, same))
+          (λ (f : all symbol keys ≡ false). absurd (no-pass carryVerdict refl refl (sym (typed-stops 36 keys (carry-of []) f) ∙ e)))
           (true-or-false (all symbol keys))
 
       back : (all symbol keys ≡ true) × (c ≡ carry keys) → typed keys ≡ Next c
-      back (t, e) = typed-from 36 keys starts t ∙ ap Next (sym e)
+      back (t, e) = typed-from 36 keys (carry-of []) t ∙ ap Next (sym e)
 
   pub typed-refused-exactly : (refusal : Refusal) → (typed keys ≡ Refused refusal) ↔ ((all symbol keys ≡ false) × (refusal ≡ because WrongSymbol 0))
   typed-refused-exactly refusal = (there, back)
     where
       there : typed keys ≡ Refused refusal → (all symbol keys ≡ false) × (refusal ≡ because WrongSymbol 0)
       there e =
-          ⊎-elim (λ (t : all symbol keys ≡ true). absurd (no-pass carryVerdict refl refl (sym e ∙ typed-from 36 keys starts t)))
+          ⊎-elim (λ (t : all symbol keys ≡ true). absurd (no-pass carryVerdict refl refl (sym e ∙ typed-from 36 keys (carry-of []) t)))
           (λ (f : all symbol keys ≡ false).
-          let q = sym e ∙ typed-stops 36 keys starts f in let same : refusal ≡ because WrongSymbol 0 = cc in (f, same))
+          let q = sym e ∙ typed-stops 36 keys (carry-of []) f in let same : refusal ≡ because WrongSymbol 0 = cc in (f, same))
           (true-or-false (all symbol keys))
 
       back : (all symbol keys ≡ false) × (refusal ≡ because WrongSymbol 0) → typed keys ≡ Refused refusal
-      back (f, e) = typed-stops 36 keys starts f ∙ ap Refused (sym e)
+      back (f, e) = typed-stops 36 keys (carry-of []) f ∙ ap Refused (sym e)
 
 -- one key behind a body of symbols
 module _ (body : List ℕ) (key : ℕ) where
   carry-behind : carry (body ++ (key ∷ [])) ≡ step (carry body) (valueOf key)
   carry-behind = carry-append 36 body (key ∷ [])
-
-all-append : (p q : List ℕ) → all symbol (p ++ q) ≡ (all symbol p && all symbol q)
-all-append [] q = refl
-all-append (b ∷ p) q = go (symbol b) (all-append p q)
-  where
-    go : (t : Bool) → all symbol (p ++ q) ≡ (all symbol p && all symbol q) → (t && all symbol (p ++ q)) ≡ ((t && all symbol p) && all symbol q)
-    go true e = e
-    go false e = refl
 
 -- the check is the one key that leaves 2
 pub check-leaves-two : (body : List ℕ) (key : ℕ) → all symbol body ≡ true → (typed (body ++ (key ∷ [])) ≡ Next 2) ↔ (key ≡ checkOf body)
@@ -98,8 +88,7 @@ check-leaves-two body key t = (there, back)
     there : typed (body ++ (key ∷ [])) ≡ Next 2 → key ≡ checkOf body
     there e =
         let r = typed-exactly (body ++ (key ∷ [])) 2 .0 e in
-        let all-of-it = sym (all-append body (key ∷ [])) ∙ r .0 in
-        let s = and-left (symbol key) true (and-right (all symbol body) (symbol key && true) all-of-it) in
+        let s = and-left (symbol key) true (all-apart symbol body (key ∷ []) (r .0) .1) in
         let one = one-of-two (carry body) (valueOf key) (sym (carry-behind body key) ∙ sym (r .1)) in
         let closed = check-closes body in
         let value : valueOf key ≡ valueOf (checkOf body) = omega (arith, one, closed, below key, below (checkOf body)) in
@@ -108,8 +97,7 @@ check-leaves-two body key t = (there, back)
     back : key ≡ checkOf body → typed (body ++ (key ∷ [])) ≡ Next 2
     back e =
         let s : symbol key ≡ true = ap symbol e ∙ check-symbol body in
-        let whole : all symbol (body ++ (key ∷ [])) ≡ true =
-        all-append body (key ∷ []) ∙ and-both (all symbol body) (symbol key && true) t (and-both (symbol key) true s refl) in
+        let whole = all-append symbol body (key ∷ []) t (and-both (symbol key) true s refl) in
         let one : (carry body + valueOf key) % 36 ≡ 1 = rw e (check-closes body) in
         typed-exactly (body ++ (key ∷ [])) 2 .1 (whole, sym (carry-behind body key ∙ two-of-one (carry body) (valueOf key) one))
 
