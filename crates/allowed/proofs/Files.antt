@@ -1,6 +1,6 @@
 -- A file is accepted exactly when it is allowed and the list has a word for each line; list, parcels and cash are its own lines'.
 use Prim.Native.Nat.{ℕ, suc, _+_, _≤_}
-use mathlib.Core.Path.{_≡_, refl, sym, ap, _∙_}
+use mathlib.Core.Path.{_≡_, refl, sym, ap, subst, _∙_}
 use mathlib.Core.Bool.{Bool, true, not}
 use mathlib.Core.List.{List, [], _∷_, _++_, append-assoc, append-nil}
 use native.Mathlib.Nat.{zero-add}
@@ -20,7 +20,10 @@ use Rattle.fields.specs.declared.record.Due.the-variants.{First, After}
 use Rattle.line.proofs.Plain.{render-long}
 use Rattle.grammar.proofs.Lines.{one-line}
 use Rattle.countries.specs.List.{isPaired}
+use Rattle.fields.specs.Profile.{Rules, profile}
+use Rattle.fields.specs.declared.version.Version.{Version}
 use Rattle.file.specs.Lent.{Lent}
+use Rattle.file.specs.Version.{versionOf}
 use Rattle.file.specs.Contact.{contactsBehind}
 use Rattle.file.specs.File.{Judged, begin, fileFrom, judged, fileVerdict}
 use Rattle.file.specs.declared.whole.Totals.{Totals}
@@ -29,20 +32,21 @@ use Rattle.allowed.specs.Allowed.{FileLine, lineBytes, fileBytes, LinesO
 use Rattle.allowed.specs.Allowed.{AllowedFile, parcelCount, cashTotal, totalsOf, lineStarts}
 use Rattle.allowed.proofs.Contacts.{partsOf, Asked, asked-all, all-asked}
 use Rattle.allowed.proofs.Twice.{none-more, fresh-before}
+use Rattle.allowed.proofs.Versions.{version-on, version-found}
 use Rattle.allowed.proofs.Runs.{AllowedFrom, judgedWith, ran, runs}
 use Rattle.line.specs.Line.{fileLimit}
 
 -- the lines that are left, asked of each as it comes or of all of them
-record Whole (countries left : List ℕ) (codes : List (List ℕ)) (due : Due) (contacts : Bool) (ls : List FileLine) : Type 0 where
+record Whole (version : Version) (countries left : List ℕ) (codes : List (List ℕ)) (due : Due) (contacts : Bool) (ls : List FileLine) : Type 0 where
   bytes : left ≡ fileBytes ls
-  lines : LinesOk ls
+  lines : LinesOk (profile version) ls
   order : InOrder due ls
   none : NoneTwice (codes ++ identcodes ls)
   asked : Asked countries contacts ls
 
-module _ (countries : List ℕ) where
+module _ (version : Version) (countries : List ℕ) where
   whole : (ls : List FileLine) (left : List ℕ) (codes : List (List ℕ)) (due : Due) (contacts : Bool) → NoneTwice codes →
-      AllowedFrom countries left codes due contacts ls → Whole countries left codes due contacts ls
+      AllowedFrom version countries left codes due contacts ls → Whole version countries left codes due contacts ls
   whole [] left codes due contacts n a = record { bytes = a .0; lines = tt; order = a .1; none = rw (append-nil codes) n; asked = tt }
   whole (l ∷ ls) left codes due contacts n a =
       let c = codesOn (l .kind) (l .fields) in
@@ -57,7 +61,7 @@ module _ (countries : List ℕ) where
       }
 
   each : (ls : List FileLine) (left : List ℕ) (codes : List (List ℕ)) (due : Due) (contacts : Bool) →
-      Whole countries left codes due contacts ls → AllowedFrom countries left codes due contacts ls
+      Whole version countries left codes due contacts ls → AllowedFrom version countries left codes due contacts ls
   each [] left codes due contacts w = (w .bytes, w .order)
   each (l ∷ ls) left codes due contacts w =
       let c = codesOn (l .kind) (l .fields) in (
@@ -92,8 +96,8 @@ pub record AllowedWith (s : List ℕ) (lent : Lent) (totals : Totals) (starts : 
   pub counts : totals ≡ totalsOf lines
   pub list : starts ≡ lineStarts 0 lines
 
-from-begin : (ls : List FileLine) → judgedWith [] begin ls ≡ record { answer = Accepted (totalsOf ls); starts = lineStarts 0 ls }
-from-begin ls = rw (zero-add (length ls), zero-add (parcelCount ls), zero-add (cashTotal ls))
+from-begin : (version : Version) (ls : List FileLine) → judgedWith [] (begin version) ls ≡ record { answer = Accepted (totalsOf ls); starts = lineStarts 0 ls }
+from-begin version ls = rw (zero-add (length ls), zero-add (parcelCount ls), zero-add (cashTotal ls))
 
 -- a file of which this is said is refused, not accepted
 abbrev refused : Refusal → Judged
@@ -111,10 +115,10 @@ module _ (s : List ℕ) (lent : Lent) (totals : Totals) (starts : List ℕ) wher
 
   -- neither 1 nor 20
   came-on : judged s lent ≡ result →
-      (length s ≤ fileLimit) × (isPaired (lent .countries) ≡ true) × (fileFrom (length s + 1) s lent [] begin ≡ result)
+      (length s ≤ fileLimit) × (isPaired (lent .countries) ≡ true) × (fileFrom (length s + 1) s lent [] (begin (versionOf s)) ≡ result)
   unfolding judged
   came-on e =
-      let on = fileFrom (length s + 1) s lent [] begin in
+      let on = fileFrom (length s + 1) s lent [] (begin (versionOf s)) in
       let odd = not (isPaired (lent .countries)) in
       let a = came-else (ltb fileLimit (length s)) (refused (because FileTooLong fileLimit))
       (if odd then refused (because CountriesOdd 0) else on) result not-refused e in
@@ -124,16 +128,17 @@ module _ (s : List ℕ) (lent : Lent) (totals : Totals) (starts : List ℕ) wher
   pub accepted-allowed : judged s lent ≡ result → AllowedWith s lent totals starts
   accepted-allowed e =
       let c = came-on e in
-      let r = ran s lent (c .0) totals starts (length s + 1) [] [] begin (omega arith) (omega arith) (omega arith) (λ at. refl) (c .2) in
-      let w = whole (lent .countries) (r .lines) s [] First true tt (r .allowed) in
-      let same = r .same ∙ from-begin (r .lines) in
+      let r = ran s lent (c .0) totals starts (length s + 1) [] [] (begin (versionOf s)) (omega arith) (omega arith) (omega arith) (λ at. refl) (c .2) in
+      let w = whole (versionOf s) (lent .countries) (r .lines) s [] First true tt (r .allowed) in
+      let same = r .same ∙ from-begin (versionOf s) (r .lines) in
+      let on = version-on (versionOf s) (r .lines) (w .lines) (w .order) in
       record {
         lines = r .lines;
         allowed = record {
           paired = c .1;
           bytes = w .bytes;
           in-limit = c .0;
-          lines = w .lines;
+          lines = subst (λ (v : Version). LinesOk (profile v) (r .lines)) (sym on) (w .lines);
           order = w .order;
           codes = w .none;
           contacts = asked-all (lent .countries) (r .lines) (w .asked);
@@ -149,16 +154,16 @@ module _ (s : List ℕ) (lent : Lent) (totals : Totals) (starts : List ℕ) wher
       let ls = g .lines in
       let a = g .allowed in
       rw (le-ltb fileLimit (length s) (a .in-limit), a .paired)
-      (runs s lent (a .in-limit) ls (length s + 1) [] [] begin (omega (arith, few-lines ls, ap length (a .bytes))) (omega arith)
+      (runs s lent (a .in-limit) ls (length s + 1) [] [] (begin (versionOf s)) (omega (arith, few-lines ls, ap length (a .bytes))) (omega arith)
       (omega (arith, g .room)) (λ at. refl)
-      (each (lent .countries) ls s [] First true (record {
+      (each (versionOf s) (lent .countries) ls s [] First true (record {
         bytes = a .bytes;
-        lines = a .lines;
+        lines = subst (λ (v : Version). LinesOk (profile v) ls) (sym (version-found a)) (a .lines);
         order = a .order;
         none = a .codes;
         asked = all-asked (lent .countries) ls (a .contacts);
       }))
-      ∙ from-begin ls
+      ∙ from-begin (versionOf s) ls
       ∙ ap (λ (t : Totals). record { answer = Accepted t; starts = lineStarts 0 ls }) (sym (g .counts))
       ∙ ap (λ (l : List ℕ). record { answer = Accepted totals; starts = l }) (sym (g .list)))
 
@@ -169,16 +174,16 @@ empty-not l rest e = omega (arith, ap length e, length-append (lineBytes l) rest
 line-with : List (List ℕ) → Record → FileLine
 line-with fs kind = record { kind = kind; fields = fs }
 
-pub one-division : (ls ks : List FileLine) → LinesOk ls → LinesOk ks → fileBytes ls ≡ fileBytes ks → ls ≡ ks
+pub one-division : (rules others : Rules) (ls ks : List FileLine) → LinesOk rules ls → LinesOk others ks → fileBytes ls ≡ fileBytes ks → ls ≡ ks
 unfolding line-with
-one-division [] [] p q e = refl
-one-division [] (k ∷ ks) p q e = absurd (empty-not k (fileBytes ks) e)
-one-division (l ∷ ls) [] p q e = absurd (empty-not l (fileBytes ls) (sym e))
-one-division (l ∷ ls) (k ∷ ks) p q e =
+one-division rules others [] [] p q e = refl
+one-division rules others [] (k ∷ ks) p q e = absurd (empty-not k (fileBytes ks) e)
+one-division rules others (l ∷ ls) [] p q e = absurd (empty-not l (fileBytes ls) (sym e))
+one-division rules others (l ∷ ls) (k ∷ ks) p q e =
     let o = one-line (l .kind) (k .kind) (l .fields) (k .fields) (fileBytes ls) (fileBytes ks) (p .0) (q .0) e in
     let first : l ≡ k = ap (line-with (l .fields)) (o .0) ∙ ap (λ (fs : List (List ℕ)). line-with fs (k .kind)) (o .1 .0) in
-    let others = one-division ls ks (p .1) (q .1) (o .1 .1) in
-    ap (λ (x : FileLine). x ∷ ls) first ∙ ap (λ (xs : List FileLine). k ∷ xs) others
+    let more = one-division rules others ls ks (p .1) (q .1) (o .1 .1) in
+    ap (λ (x : FileLine). x ∷ ls) first ∙ ap (λ (xs : List FileLine). k ∷ xs) more
 
 -- the list has a word for each line
 pub starts-count : (at : ℕ) (ls : List FileLine) → length (lineStarts at ls) ≡ length ls

@@ -3,9 +3,11 @@ pub mod Countries
 pub mod Codes
 pub mod Twice
 pub mod Cash
+pub mod Placed
+pub mod Versions
 pub mod Runs
 pub mod Files
-pub mod Placed
 pub mod Paying
 pub mod Naming
 pub mod Order
+pub mod Saying

@@ -13,14 +13,14 @@ use Rattle.text.proofs.Choices.{true-or-false}
 use Rattle.text.proofs.Scans.{same-eq, same-refl}
 use Rattle.fields.specs.Record.{typeOf, mayCome}
 use Rattle.fields.specs.declared.record.Record.{Record}
-use Rattle.fields.specs.Profile.{profile}
+use Rattle.fields.specs.Profile.{Rules, profile}
 use Rattle.line.specs.Parts.{split}
 use Rattle.line.specs.Line.{textAt, alone, fileLimit}
 use Rattle.line.specs.declared.read.Line.{Line}
 use Rattle.grammar.specs.Grammar.{LineOk, Reads}
 use Rattle.fields.proofs.Types.{type-tells}
 use Rattle.grammar.proofs.Lines.{read-parts}
-use Rattle.allowed.specs.Allowed.{FileLine, lineBytes, fileBytes, LinesOk, AllowedFile, lineStarts}
+use Rattle.allowed.specs.Allowed.{FileLine, lineBytes, fileBytes, LinesOk, versionOn, AllowedFile, lineStarts}
 use Rattle.line.specs.At.{isTyped}
 use Rattle.allowed.specs.Sentence.{LineNo}
 
@@ -34,8 +34,8 @@ line-counted [] i l h = absurd h
 line-counted (k ∷ ls) zero l h = omega arith
 line-counted (k ∷ ls) (suc i) l h = omega (arith, line-counted ls i l h)
 
-module _ (s : List ℕ) (in-limit : length s ≤ fileLimit) where
-  first-parts : (at : ℕ) (l : FileLine) (rest : List ℕ) → LineOk profile (l .kind) (l .fields) → drop at s ≡ lineBytes l ++ rest →
+module _ (rules : Rules) (s : List ℕ) (in-limit : length s ≤ fileLimit) where
+  pub first-parts : (at : ℕ) (l : FileLine) (rest : List ℕ) → LineOk rules (l .kind) (l .fields) → drop at s ≡ lineBytes l ++ rest →
       split (textAt s at) ≡ typeOf (l .kind) ∷ l .fields
   unfolding mayCome
   first-parts at l rest ok e = read-parts reads
@@ -43,12 +43,12 @@ module _ (s : List ℕ) (in-limit : length s ≤ fileLimit) where
       line : Line
       line = record { kind = l .kind; count = length (l .fields); next = at + length (lineBytes l) }
 
-      reads : Reads (alone profile) s at line (l .fields)
+      reads : Reads (alone rules) s at line (l .fields)
       reads = record { in-limit = in-limit; comes = refl; allowed = ok; rest = rest; stands = e; count = refl; next = refl }
 
   -- lines that stand from here on
   parts-from :
-      (ls : List FileLine) (at : ℕ) → LinesOk ls → drop at s ≡ fileBytes ls → (i : ℕ) (l : FileLine) → LineNo ls i l →
+      (ls : List FileLine) (at : ℕ) → LinesOk rules ls → drop at s ≡ fileBytes ls → (i : ℕ) (l : FileLine) → LineNo ls i l →
       split (textAt s (getD (lineStarts at ls) i 0)) ≡ typeOf (l .kind) ∷ l .fields
   parts-from [] at ok e i l h = absurd h
   parts-from (k ∷ ls) at ok e zero l h = first-parts at k (fileBytes ls) (ok .0) e ∙ ap (λ (x : FileLine). typeOf (x .kind) ∷ x .fields) h
@@ -58,7 +58,7 @@ module _ (s : List ℕ) (in-limit : length s ≤ fileLimit) where
 
 module _ {countries : List ℕ} (s : List ℕ) (ls : List FileLine) (g : AllowedFile countries s ls) where
   pub parts-at : (i : ℕ) (l : FileLine) → LineNo ls i l → split (textAt s (getD (lineStarts 0 ls) i 0)) ≡ typeOf (l .kind) ∷ l .fields
-  parts-at i l h = parts-from s (g .in-limit) ls 0 (g .lines) (g .bytes) i l h
+  parts-at i l h = parts-from (profile (versionOn ls)) s (g .in-limit) ls 0 (g .lines) (g .bytes) i l h
 
   module _ (i : ℕ) (l : FileLine) (h : LineNo ls i l) (kind : Record) where
     typed : isTyped s (getD (lineStarts 0 ls) i 0) (typeOf kind) ≡ same (typeOf (l .kind)) (typeOf kind)

@@ -1,5 +1,5 @@
 -- The judge from a state on: what it accepts is what is allowed from there on, and the other way round.
-use Prim.Native.Nat.{ℕ, zero, suc, _+_, _-_, _≤_, _<_}
+use Prim.Native.Nat.{ℕ, zero, suc, _+_, _≤_, _<_}
 use mathlib.Core.Path.{_≡_, refl, sym, ap, subst, _∙_}
 use mathlib.Core.Bool.{Bool, true, false}
 use mathlib.Core.List.{List, [], _∷_, _++_, append-nil}
@@ -18,6 +18,8 @@ use Rattle.fields.specs.Record.{typeOf, mayCome, mayEnd}
 use Rattle.fields.specs.declared.record.Due.{Due}
 use Rattle.fields.specs.declared.record.Due.the-variants.{After}
 use Rattle.fields.specs.Profile.{profile}
+use Rattle.fields.specs.declared.version.Version.{Version}
+use Rattle.fields.proofs.Rules.{sound}
 use Rattle.line.specs.Parts.{fieldsOf}
 use Rattle.line.specs.Line.{textAt, fileLimit}
 use Rattle.line.specs.declared.read.Line.{Line}
@@ -41,13 +43,13 @@ use Rattle.allowed.proofs.Cash.{line-cash}
 use Rattle.allowed.proofs.Codes.{Seen, seen-more, Fresh, fresh-not, not-fresh}
 
 -- the lines that are left, behind lines with these codes, where this record is due, under a sender that has both contacts or has not
-abbrev pub AllowedFrom : List ℕ → List ℕ → List (List ℕ) → Due → Bool → List FileLine → Type 0
-AllowedFrom countries left codes due contacts [] = (left ≡ []) × (mayEnd due ≡ true)
-AllowedFrom countries left codes due contacts (l ∷ ls) =
-    (rest : List ℕ) × (left ≡ lineBytes l ++ rest) × LineOk profile (l .kind) (l .fields) × (mayCome due (l .kind) ≡ true) ×
+abbrev pub AllowedFrom : Version → List ℕ → List ℕ → List (List ℕ) → Due → Bool → List FileLine → Type 0
+AllowedFrom version countries left codes due contacts [] = (left ≡ []) × (mayEnd due ≡ true)
+AllowedFrom version countries left codes due contacts (l ∷ ls) =
+    (rest : List ℕ) × (left ≡ lineBytes l ++ rest) × LineOk (profile version) (l .kind) (l .fields) × (mayCome due (l .kind) ≡ true) ×
     (lacksContact (l .kind) (partsOf l) countries contacts ≡ false) ×
     Fresh codes (codesOn (l .kind) (l .fields)) ×
-    AllowedFrom countries rest (codes ++ codesOn (l .kind) (l .fields)) (After (l .kind)) (contactsBehind (l .kind) (partsOf l) contacts) ls
+    AllowedFrom version countries rest (codes ++ codesOn (l .kind) (l .fields)) (After (l .kind)) (contactsBehind (l .kind) (partsOf l) contacts) ls
 
 -- what is then said of the file
 abbrev pub totalsWith : State → List FileLine → Totals
@@ -86,13 +88,13 @@ module _ (s starts : List ℕ) (state : State) (line : Line) (fs : List (List �
   unfolding said
   judged-more =
       said-same (omega arith) (omega arith)
-      (omega (arith, ap (cashOf (line .kind)) (read-parts g), line-cash (line .kind) fs (g .allowed)))
+      (omega (arith, ap (cashOf (line .kind)) (read-parts g), line-cash (sound (state .version)) (line .kind) fs (g .allowed)))
       (append-snoc starts (state .at) (lineStarts (line .next) ls) ∙ ap (λ (n : ℕ). starts ++ (state .at ∷ lineStarts n ls)) (g .next))
 
 -- what is accepted is allowed
 pub record Ran (s : List ℕ) (lent : Lent) (starts : List ℕ) (codes : List (List ℕ)) (state : State) (said : Judged) : Type 0 where
   pub lines : List FileLine
-  pub allowed : AllowedFrom (lent .countries) (drop (state .at) s) codes (state .due) (state .contacts) lines
+  pub allowed : AllowedFrom (state .version) (lent .countries) (drop (state .at) s) codes (state .due) (state .contacts) lines
   pub room : state .lines + length lines ≤ lent .words
   pub same : said ≡ judgedWith starts state lines
 
@@ -137,7 +139,7 @@ module _ (s : List ℕ) (lent : Lent) (in-limit : length s ≤ fileLimit) (total
       let kept = contactsBehind (line .kind) (typeOf (line .kind) ∷ fs) (state .contacts) in
       let r = more (starts ++ (state .at ∷ [])) codes′ (behind s state line) (omega (arith, next-far g)) (next-inside g)
       (omega (arith, word-left (lent .words) (state .lines) (w .room)))
-      (seen-more s starts codes (state .at) (line .kind) fs (g .rest) seen (g .stands) (g .allowed)) (rw
+      (seen-more (sound (state .version)) s starts codes (state .at) (line .kind) fs (g .rest) seen (g .stands) (g .allowed)) (rw
       (← w .there) at e) in
       record {
         lines = record { kind = line .kind; fields = fs } ∷ r .lines;
@@ -147,10 +149,10 @@ module _ (s : List ℕ) (lent : Lent) (in-limit : length s ≤ fileLimit) (total
           g .allowed,
           g .comes,
           ap (λ (parts : List (List ℕ)). lacksContact (line .kind) parts (lent .countries) (state .contacts)) (sym (read-parts g)) ∙ w .reached,
-          fresh-not s starts codes (state .at) fs (g .rest) seen
+          fresh-not s starts codes (state .at) fs (g .rest) seen (sound (state .version))
               (line .kind) (g .stands) (g .allowed) (w .fresh),
-          subst (λ (left : List ℕ). AllowedFrom (lent .countries) left codes′ (After (line .kind)) kept (r .lines)) (sym (rest-is g))
-              (subst (λ (parts : List (List ℕ)). AllowedFrom (lent .countries) (drop (line .next) s) codes′ (After (line .kind))
+          subst (λ (left : List ℕ). AllowedFrom (state .version) (lent .countries) left codes′ (After (line .kind)) kept (r .lines)) (sym (rest-is g))
+              (subst (λ (parts : List (List ℕ)). AllowedFrom (state .version) (lent .countries) (drop (line .next) s) codes′ (After (line .kind))
               (contactsBehind (line .kind) parts (state .contacts)) (r .lines)) (read-parts g) (r .allowed)),
         );
         room = omega (arith, r .room);
@@ -184,13 +186,13 @@ module _ (s : List ℕ) (lent : Lent) (in-limit : length s ≤ fileLimit) where
       rw (
         reads-accepted g,
         ap (λ (parts : List (List ℕ)). lacksContact (line .kind) parts (lent .countries) (state .contacts)) (read-parts g) ∙ reached,
-        not-fresh s starts codes (state .at) fs (g .rest) seen (line .kind) (g .stands) (g .allowed) fresh,
+        not-fresh s starts codes (state .at) fs (g .rest) seen (sound (state .version)) (line .kind) (g .stands) (g .allowed) fresh,
         left-word (lent .words) (state .lines) room,
       )
 
   pub runs : (ls : List FileLine) (turns : ℕ) (starts : List ℕ) (codes : List (List ℕ)) (state : State) → length ls ≤ turns →
       state .at ≤ length s → state .lines + length ls ≤ lent .words → Seen s starts codes →
-      AllowedFrom (lent .countries) (drop (state .at) s) codes (state .due) (state .contacts) ls →
+      AllowedFrom (state .version) (lent .countries) (drop (state .at) s) codes (state .due) (state .contacts) ls →
       fileFrom turns s lent starts state ≡ judgedWith starts state ls
   runs [] turns starts codes state few inside room seen a = end-there turns starts state
       (omega (arith, length-drop (state .at) s, ap length (a .0))) (a .1)
@@ -207,7 +209,7 @@ module _ (s : List ℕ) (lent : Lent) (in-limit : length s ≤ fileLimit) where
       let far = next-far g in
       let in-file = next-inside g in
       let on = runs ls turns (starts ++ (state .at ∷ [])) (codes ++ codesOn (l .kind) (l .fields)) (behind s state line)
-      (omega arith) in-file (omega arith) (seen-more s starts codes (state .at) (l .kind) (l .fields) (a .0) seen (a .1) (a .2))
+      (omega arith) in-file (omega arith) (seen-more (sound (state .version)) s starts codes (state .at) (l .kind) (l .fields) (a .0) seen (a .1) (a .2))
       (rw (← rest-is g, read-parts g) (a .6)) in
       rw (
         lt-ltb (state .at) (length s) (omega (arith, far, in-file)),

@@ -1,6 +1,6 @@
 -- Demand 2: "A file is accepted exactly when our profile of the pre-advice manual allows it. Line list, parcel count and cash total
--- are those of the file's own lines." Document 02, request 1: "demand 2 reads with the list as part of the file's rules". What an
--- allowed file is, as a list of lines, apart from any way of judging it.
+-- are those of the file's own lines." Document 02, request 1: "demand 2 reads with the list as part of the file's rules"; request 5:
+-- "Demand 2 reads per version". What an allowed file is, as a list of lines, apart from any way of judging it.
 use Prim.Native.Nat.{ℕ, _+_, _≤_}
 use mathlib.Core.Path.{_≡_}
 use mathlib.Core.Bool.{Bool, true, false, _&&_, _||_}
@@ -13,10 +13,13 @@ use Rattle.forms.specs.Amount.{cents}
 use Rattle.fields.specs.Record.{_isA_, mayCome, mayEnd}
 use Rattle.fields.specs.Form.{isCash}
 use Rattle.fields.specs.declared.record.Record.{Record}
-use Rattle.fields.specs.declared.record.Record.the-variants.{Sender, Shipment, Parcel, Feature}
+use Rattle.fields.specs.declared.record.Record.the-variants.{Header, Sender, Shipment, Parcel, Feature}
 use Rattle.fields.specs.declared.record.Due.{Due}
 use Rattle.fields.specs.declared.record.Due.the-variants.{First, After}
-use Rattle.fields.specs.Profile.{profile}
+use Rattle.fields.specs.Profile.{Rules, profile}
+use Rattle.fields.specs.Version.{isVersion}
+use Rattle.fields.specs.declared.version.Version.{Version}
+use Rattle.fields.specs.declared.version.Version.the-variants.{Five, Seven}
 use Rattle.line.specs.Parts.{fieldNo}
 use Rattle.line.specs.Render.{render}
 use Rattle.grammar.specs.Grammar.{AllFilled, LineOk}
@@ -39,10 +42,15 @@ abbrev pub fileBytes : List FileLine → List ℕ
 fileBytes [] = []
 fileBytes (l ∷ ls) = lineBytes l ++ fileBytes ls
 
--- each line keeps its rules
-abbrev pub LinesOk : List FileLine → Type 0
-LinesOk [] = Unit {0}
-LinesOk (l ∷ ls) = LineOk profile (l .kind) (l .fields) × LinesOk ls
+-- each line keeps the rules
+abbrev pub LinesOk : Rules → List FileLine → Type 0
+LinesOk rules [] = Unit {0}
+LinesOk rules (l ∷ ls) = LineOk rules (l .kind) (l .fields) × LinesOk rules ls
+
+-- document 02, request 5: "The version on the header decides for the whole file which field rules hold": 7 where 010.6 is `7`
+abbrev pub versionOn : List FileLine → Version
+versionOn [] = Five
+versionOn (l ∷ ls) = if l .kind isA Header && isVersion Seven (fieldNo (l .fields) 6) then Seven else Five
 
 -- "Record order": each record may come where it comes, and "The end is allowed only there."
 abbrev pub InOrder : Due → List FileLine → Type 0
@@ -90,17 +98,21 @@ ContactsKept countries [] = Unit {0}
 ContactsKept countries (l ∷ ls) =
     (l .kind ≡ Sender → someInto countries (shipmentsUnder ls) ≡ true → HasContacts l) × ContactsKept countries ls
 
--- a file that is allowed with a list of countries, and its lines
-pub record AllowedFile (countries file : List ℕ) (ls : List FileLine) : Type 0 where
+-- a file that is allowed by the rules of a version with a list of countries, and its lines
+pub record AllowedUnder (version : Version) (countries file : List ℕ) (ls : List FileLine) : Type 0 where
   -- else 20: "the list's length is odd"
   pub paired : isPaired countries ≡ true
   pub bytes : file ≡ fileBytes ls
   -- "At most 65,535 bytes."
   pub in-limit : length file ≤ fileLimit
-  pub lines : LinesOk ls
+  pub lines : LinesOk (profile version) ls
   pub order : InOrder First ls
   pub codes : NoneTwice (identcodes ls)
   pub contacts : ContactsKept countries ls
+
+-- a file that is allowed: by the rules of its own header's version
+abbrev pub AllowedFile : List ℕ → List ℕ → List FileLine → Type 0
+AllowedFile countries file ls = AllowedUnder (versionOn ls) countries file ls
 
 -- "number of 040 lines": each counts one
 abbrev pub parcelCount : List FileLine → ℕ

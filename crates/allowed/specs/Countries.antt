@@ -6,6 +6,8 @@ use mathlib.Core.List.{List, [], _∷_, _++_}
 use lib.ListN.{length}
 use Rattle.countries.specs.List.{isPaired}
 use Rattle.fields.specs.declared.record.Record.the-variants.{Sender}
+use Rattle.fields.specs.Profile.{profile}
+use Rattle.file.specs.Version.{versionOf}
 use Rattle.allowed.specs.Allowed.{FileLine, fileBytes, LinesOk, HasContacts}
 
 -- a country stands in a list: two bytes, with whole pairs in front of them
@@ -29,4 +31,4 @@ AllReachable (l ∷ ls) = (l .kind ≡ Sender → HasContacts l) × AllReachable
 
 -- so has each sender of a file: with whichever allowed lines it begins
 abbrev pub SendersReachable : List ℕ → Type 0
-SendersReachable file = (ls : List FileLine) (left : List ℕ) → file ≡ fileBytes ls ++ left → LinesOk ls → AllReachable ls
+SendersReachable file = (ls : List FileLine) (left : List ℕ) → file ≡ fileBytes ls ++ left → LinesOk (profile (versionOf file)) ls → AllReachable ls

@@ -1,3 +1,4 @@
 pub mod Allowed
 pub mod Countries
 pub mod Sentence
+pub mod Version

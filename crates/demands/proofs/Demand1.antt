@@ -13,8 +13,8 @@ use Rattle.check_characters.specs.Identcode.{checkDigitOf, checkedIdentcode, pa
 use Rattle.check_characters.specs.declared.answer.IssueAnswer.{IssueAnswer}
 use Rattle.fields.specs.Profile.{profile}
 use Rattle.fields.specs.Field.{tested}
-use Rattle.line.specs.Line.{lineAnswer, alone}
-use Rattle.line.specs.Find.{fieldAnswer}
+use Rattle.line.specs.Line.{readAnswer}
+use Rattle.line.specs.Find.{findAnswer}
 use Rattle.file.specs.File.{judged}
 use Rattle.writer.specs.Write.{recordNumbered, between, writtenTo}
 use Rattle.writer.specs.declared.write.WriteAnswer.{WriteAnswer}
@@ -85,13 +85,13 @@ pub issue-identcode-unique : IssueIdentcodeUnique
 issue-identcode-unique body out = one-output (issueIdentcodeAnswer body) body out (checkDigitOf body)
 
 pub read-line-unique : ReadLineUnique
-read-line-unique s = one-answer (lineAnswer (alone profile) s)
+read-line-unique told s = one-answer (readAnswer told s)
 
 pub find-field-unique : FindFieldUnique
-find-field-unique s at = one-answer (fieldAnswer profile s at)
+find-field-unique told s at = one-answer (findAnswer told s at)
 
 pub test-field-unique : TestFieldUnique
-test-field-unique kind n beside = one-answer (tested (profile kind) n beside)
+test-field-unique version kind n beside = one-answer (tested (profile version kind) n beside)
 
 pub judge-unique : JudgeUnique
 judge-unique s words a b x y p q = (p .0 ∙ sym (q .0), p .1 ∙ sym (q .1))
@@ -106,7 +106,7 @@ pub clear-unique : ClearUnique
 clear-unique words = one-answer (λ (w : List ℕ). replicate (length w) 0) words
 
 pub write-line-unique : WriteLineUnique
-write-line-unique number text ends out fill a b x y p q =
+write-line-unique told number text ends out fill a b x y p q =
     let same : a ≡ b = p .0 ∙ sym (q .0) in
     (same, p .1 ∙ ap (λ (r : WriteAnswer). writtenTo r (recordNumbered number) (between text ends) out fill) same ∙ sym (q .1))
 
@@ -123,15 +123,15 @@ judge-call-unique file words n lines parcels cents place n₂ lines₂ parcels�
     (p .0 .0 ∙ sym (q .0 .0), p .1 ∙ sym (q .1), p .2 ∙ sym (q .2), p .3 ∙ sym (q .3), p .0 .1 ∙ sym (q .0 .1), p .4 ∙ sym (q .4))
 
 pub read-line-call-unique : ReadLineCallUnique
-read-line-call-unique file offset n kind fields next place n₂ kind₂ fields₂ next₂ place₂ p q =
+read-line-call-unique told file offset n kind fields next place n₂ kind₂ fields₂ next₂ place₂ p q =
     (p .0 .0 ∙ sym (q .0 .0), p .1 ∙ sym (q .1), p .2 ∙ sym (q .2), p .3 ∙ sym (q .3), p .0 .1 ∙ sym (q .0 .1))
 
 pub find-field-call-unique : FindFieldCallUnique
-find-field-call-unique file offset field n start long place n₂ start₂ long₂ place₂ p q =
+find-field-call-unique told file offset field n start long place n₂ start₂ long₂ place₂ p q =
     (p .0 .0 ∙ sym (q .0 .0), p .1 ∙ sym (q .1), p .2 ∙ sym (q .2), p .0 .1 ∙ sym (q .0 .1))
 
 pub write-line-call-unique : WriteLineCallUnique
-write-line-call-unique kind text ends output fill n bytes place n₂ bytes₂ place₂ x y p q =
+write-line-call-unique told kind text ends output fill n bytes place n₂ bytes₂ place₂ x y p q =
     (p .0 .0 ∙ sym (q .0 .0), p .1 ∙ sym (q .1), p .0 .1 ∙ sym (q .0 .1), p .2 ∙ sym (q .2))
 
 pub write-purpose-call-unique : WritePurposeCallUnique

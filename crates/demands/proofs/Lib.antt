@@ -1,6 +1,7 @@
 pub mod Demand1
 pub mod Refusals
 pub mod Demand2
+pub mod Versions
 pub mod Countries
 pub mod Purpose
 pub mod Demand3

@@ -1,7 +1,19 @@
 -- Proofs of the statements in specs/Refusals.
-use mathlib.Core.Path.{refl}
+use Prim.Native.Nat.{ℕ}
+use mathlib.Core.Path.{_≡_, refl}
+use mathlib.Core.List.{List}
+use Rattle.refusal.specs.declared.Refusal.{Refusal}
+use Rattle.line.specs.Find.{fieldAnswer, findAnswer}
+use Rattle.line.specs.declared.read.Line.{Line}
+use Rattle.line.specs.declared.read.LineAnswer.the-variants.{Refused as NotRead}
+use Rattle.line.specs.declared.find.FieldAnswer.the-variants.{Refused as NotFound}
+use Rattle.grammar.specs.Grammar.{Reads, StandsInLine}
+use Rattle.grammar.specs.Written.{Writable}
+use Rattle.refused.specs.Line.{RefusedAt, RefusedFind}
+use Rattle.refused.specs.Write.{RefusedWrite}
+use Rattle.refused.proofs.Told.{told-refused-exactly, told-always-one, told-never-both}
 use Rattle.fields.specs.Profile.{profile}
-use Rattle.line.specs.Line.{alone}
+use Rattle.line.specs.Line.{alone, lineAnswer, readAnswer}
 use Rattle.refused.proofs.Lines as lines
 use Rattle.refused.proofs.Seeking as seeking
 use Rattle.refused.proofs.Files as files
@@ -68,10 +80,22 @@ pub allowed-begins : AllowedBegins
 allowed-begins = deciding.allowed-begins
 
 pub line-refused-exactly : LineRefusedExactly
-line-refused-exactly = lines.line-refused-exactly (alone profile)
+unfolding readAnswer
+line-refused-exactly told s at refusal =
+    told-refused-exactly told (λ version. RefusedAt (alone (profile version)) s at) NotRead (λ version. lineAnswer (alone (profile version)) s at)
+    (λ a b e. line-told e) (λ version. lines.line-refused-exactly (alone (profile version)) s at) refusal
+  where
+    line-told : {a b : Refusal} → NotRead a ≡ NotRead b → a ≡ b
+    line-told e = cc
 
 pub field-refused-exactly : FieldRefusedExactly
-field-refused-exactly = seeking.field-refused-exactly profile
+unfolding findAnswer
+field-refused-exactly told s at n refusal =
+    told-refused-exactly told (λ version. RefusedFind (profile version) s at n) NotFound (λ version. fieldAnswer (profile version) s at n)
+    (λ a b e. field-told e) (λ version. seeking.field-refused-exactly (profile version) s at n) refusal
+  where
+    field-told : {a b : Refusal} → NotFound a ≡ NotFound b → a ≡ b
+    field-told e = cc
 
 pub write-refused-exactly : WriteRefusedExactly
 write-refused-exactly = writing.write-refused-exactly
@@ -108,22 +132,40 @@ failing-code-refuses-file s lent ls left code more begins room counted filled na
     files.refused-exactly s lent _ _ .1 (parcels.failing-file s lent ls left code more begins room counted filled narrow fails, refl)
 
 pub line-always-one : LineAlwaysOne
-line-always-one = either.line-always-one (alone profile)
+line-always-one told s at =
+    told-always-one told (λ version. RefusedAt (alone (profile version)) s at)
+    (λ version. (line : Line) × ((fs : List (List ℕ)) × Reads (alone (profile version)) s at line fs))
+    (λ version. either.line-always-one (alone (profile version)) s at)
 
 pub line-never-both : LineNeverBoth
-line-never-both = either.line-never-both (alone profile)
+line-never-both told s at refusal =
+    told-never-both told (λ version. RefusedAt (alone (profile version)) s at)
+    (λ version. (line : Line) × ((fs : List (List ℕ)) × Reads (alone (profile version)) s at line fs))
+    (λ version why. either.line-never-both (alone (profile version)) s at why) refusal
 
 pub field-always-one : FieldAlwaysOne
-field-always-one = either.field-always-one profile
+field-always-one told s at n =
+    told-always-one told (λ version. RefusedFind (profile version) s at n)
+    (λ version. (start : ℕ) × ((long : ℕ) × StandsInLine (profile version) s at n start long))
+    (λ version. either.field-always-one (profile version) s at n)
 
 pub field-never-both : FieldNeverBoth
-field-never-both = either.field-never-both profile
+field-never-both told s at n refusal =
+    told-never-both told (λ version. RefusedFind (profile version) s at n)
+    (λ version. (start : ℕ) × ((long : ℕ) × StandsInLine (profile version) s at n start long))
+    (λ version why g. either.field-never-both (profile version) s at n (g .0) (g .1 .0) why (g .1 .1)) refusal
 
 pub write-always-one : WriteAlwaysOne
-write-always-one = either.write-always-one
+write-always-one told number text ends size fill =
+    told-always-one told (λ version. RefusedWrite (profile version) number text ends size fill)
+    (λ version. (n : ℕ) × Writable (profile version) number text ends size fill n)
+    (λ version. either.write-always-one (profile version) number text ends size fill)
 
 pub write-never-both : WriteNeverBoth
-write-never-both = either.write-never-both
+write-never-both told number text ends size fill refusal =
+    told-never-both told (λ version. RefusedWrite (profile version) number text ends size fill)
+    (λ version. (n : ℕ) × Writable (profile version) number text ends size fill n)
+    (λ version why g. either.write-never-both (profile version) number text ends size fill (g .0) why (g .1)) refusal
 
 pub number-always-one : NumberAlwaysOne
 number-always-one = either.number-always-one

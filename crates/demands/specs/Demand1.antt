@@ -20,10 +20,11 @@ use Rattle.identcodes.specs.Tree.{Finds}
 use Rattle.identcodes.specs.declared.CodeAnswer.{CodeAnswer}
 use Rattle.fields.specs.Profile.{profile}
 use Rattle.fields.specs.Field.{tested}
+use Rattle.fields.specs.declared.version.Version.{Version}
 use Rattle.fields.specs.declared.record.Record.{Record}
 use Rattle.fields.specs.declared.field.Tested.{Tested}
-use Rattle.line.specs.Line.{lineAnswer, alone}
-use Rattle.line.specs.Find.{fieldAnswer}
+use Rattle.line.specs.Line.{readAnswer}
+use Rattle.line.specs.Find.{findAnswer}
 use Rattle.line.specs.declared.read.LineAnswer.{LineAnswer}
 use Rattle.line.specs.declared.find.FieldAnswer.{FieldAnswer}
 use Rattle.file.specs.Lent.{Lent}
@@ -70,16 +71,16 @@ IssueIdentcodeUnique =
 
 abbrev pub ReadLineUnique : Type 0
 ReadLineUnique =
-    (file : List ℕ) (offset : ℕ) (a b : LineAnswer) → a ≡ lineAnswer (alone profile) file offset → b ≡ lineAnswer (alone profile) file offset → a ≡ b
+    (told : ℕ) (file : List ℕ) (offset : ℕ) (a b : LineAnswer) → a ≡ readAnswer told file offset → b ≡ readAnswer told file offset → a ≡ b
 
 abbrev pub FindFieldUnique : Type 0
 FindFieldUnique =
-    (file : List ℕ) (offset n : ℕ) (a b : FieldAnswer) → a ≡ fieldAnswer profile file offset n → b ≡ fieldAnswer profile file offset n → a ≡ b
+    (told : ℕ) (file : List ℕ) (offset n : ℕ) (a b : FieldAnswer) → a ≡ findAnswer told file offset n → b ≡ findAnswer told file offset n → a ≡ b
 
 abbrev pub TestFieldUnique : Type 0
 TestFieldUnique =
-    (kind : Record) (n : ℕ) (beside f : List ℕ) (a b : Tested) → a ≡ tested (profile kind) n beside f →
-    b ≡ tested (profile kind) n beside f → a ≡ b
+    (version : Version) (kind : Record) (n : ℕ) (beside f : List ℕ) (a b : Tested) → a ≡ tested (profile version kind) n beside f →
+    b ≡ tested (profile version kind) n beside f → a ≡ b
 
 abbrev pub JudgeUnique : Type 0
 JudgeUnique =
@@ -103,8 +104,8 @@ ClearUnique =
 
 abbrev pub WriteLineUnique : Type 0
 WriteLineUnique =
-    (number : ℕ) (text ends output : List ℕ) (fill : ℕ) (a b : WriteAnswer) (x y : List ℕ) →
-    Writes number text ends output fill a x → Writes number text ends output fill b y → (a ≡ b) × (x ≡ y)
+    (told number : ℕ) (text ends output : List ℕ) (fill : ℕ) (a b : WriteAnswer) (x y : List ℕ) →
+    Writes told number text ends output fill a x → Writes told number text ends output fill b y → (a ≡ b) × (x ≡ y)
 
 abbrev pub WritePurposeUnique : Type 0
 WritePurposeUnique =
@@ -120,20 +121,20 @@ JudgeCallUnique =
 
 abbrev pub ReadLineCallUnique : Type 0
 ReadLineCallUnique =
-    (file : List ℕ) (offset n kind fields next place n₂ kind₂ fields₂ next₂ place₂ : ℕ) →
-    LineTells file offset n kind fields next place → LineTells file offset n₂ kind₂ fields₂ next₂ place₂ →
+    (told : ℕ) (file : List ℕ) (offset n kind fields next place n₂ kind₂ fields₂ next₂ place₂ : ℕ) →
+    LineTells told file offset n kind fields next place → LineTells told file offset n₂ kind₂ fields₂ next₂ place₂ →
     (n ≡ n₂) × (kind ≡ kind₂) × (fields ≡ fields₂) × (next ≡ next₂) × (place ≡ place₂)
 
 abbrev pub FindFieldCallUnique : Type 0
 FindFieldCallUnique =
-    (file : List ℕ) (offset field n start long place n₂ start₂ long₂ place₂ : ℕ) →
-    FieldTells file offset field n start long place → FieldTells file offset field n₂ start₂ long₂ place₂ →
+    (told : ℕ) (file : List ℕ) (offset field n start long place n₂ start₂ long₂ place₂ : ℕ) →
+    FieldTells told file offset field n start long place → FieldTells told file offset field n₂ start₂ long₂ place₂ →
     (n ≡ n₂) × (start ≡ start₂) × (long ≡ long₂) × (place ≡ place₂)
 
 abbrev pub WriteLineCallUnique : Type 0
 WriteLineCallUnique =
-    (kind : ℕ) (text ends output : List ℕ) (fill n bytes place n₂ bytes₂ place₂ : ℕ) (x y : List ℕ) →
-    WriteTells kind text ends output fill n bytes place x → WriteTells kind text ends output fill n₂ bytes₂ place₂ y →
+    (told kind : ℕ) (text ends output : List ℕ) (fill n bytes place n₂ bytes₂ place₂ : ℕ) (x y : List ℕ) →
+    WriteTells told kind text ends output fill n bytes place x → WriteTells told kind text ends output fill n₂ bytes₂ place₂ y →
     (n ≡ n₂) × (bytes ≡ bytes₂) × (place ≡ place₂) × (x ≡ y)
 
 abbrev pub WritePurposeCallUnique : Type 0

@@ -18,8 +18,11 @@ use Rattle.check_characters.specs.declared.answer.CheckAnswer.the-variants.{Acc
 use Rattle.check_characters.specs.declared.identcode.Parts.{Parts}
 use Rattle.check_characters.specs.declared.identcode.PartsAnswer.the-variants.{Read}
 use Rattle.fields.specs.Profile.{profile}
-use Rattle.line.specs.Line.{lineAnswer, alone}
-use Rattle.line.specs.Find.{fieldAnswer}
+use Rattle.fields.specs.Version.{versionNumbered, UnderVersion}
+use Rattle.fields.specs.declared.version.Version.{Version}
+use Rattle.fields.specs.declared.version.VersionTold.the-variants.{Either}
+use Rattle.line.specs.Line.{alone, readAnswer}
+use Rattle.line.specs.Find.{findAnswer}
 use Rattle.line.specs.declared.read.Line.{Line}
 use Rattle.line.specs.declared.read.LineAnswer.the-variants.{Accepted as AcceptedLine}
 use Rattle.line.specs.declared.find.FieldAnswer.the-variants.{Found}
@@ -51,54 +54,56 @@ abbrev pub OneDivisionIntoLines : Type 0
 OneDivisionIntoLines =
     (countries others file : List ℕ) (ls ks : List FileLine) → AllowedFile countries file ls → AllowedFile others file ks → ls ≡ ks
 
--- A line alone is accepted exactly when the bytes from the offset on are the rendering of an allowed line; the answer names its
--- record, its count and where the next line starts.
+-- A line alone is accepted exactly when a version was told and the bytes from the offset on are the rendering of a line that its rules
+-- allow; the answer names its record, its count and where the next line starts.
 abbrev pub LineExactly : Type 0
 LineExactly =
-    (file : List ℕ) (offset : ℕ) (line : Line) → (lineAnswer (alone profile) file offset ≡ AcceptedLine line) ↔
-    ((fs : List (List ℕ)) × Reads (alone profile) file offset line fs)
+    (told : ℕ) (file : List ℕ) (offset : ℕ) (line : Line) → (readAnswer told file offset ≡ AcceptedLine line) ↔
+    UnderVersion told (λ version. (fs : List (List ℕ)) × Reads (alone (profile version)) file offset line fs)
 
 -- Of an accepted line each field is found where it stands, and no other.
 abbrev pub FieldExactly : Type 0
 FieldExactly =
-    (file : List ℕ) (offset : ℕ) (line : Line) (fs : List (List ℕ)) (n start long : ℕ) → Reads (alone profile) file offset line fs →
-    (fieldAnswer profile file offset n ≡ Found start long) ↔ FieldStands (line .kind) fs file offset n start long
+    (told : ℕ) (version : Version) → versionNumbered told ≡ Either version →
+    (file : List ℕ) (offset : ℕ) (line : Line) (fs : List (List ℕ)) (n start long : ℕ) → Reads (alone (profile version)) file offset line fs →
+    (findAnswer told file offset n ≡ Found start long) ↔ FieldStands (line .kind) fs file offset n start long
 
 -- A field is found exactly when an allowed line stands at the offset and the field stands in it.
 abbrev pub FoundExactly : Type 0
 FoundExactly =
-    (file : List ℕ) (offset n start long : ℕ) → (fieldAnswer profile file offset n ≡ Found start long) ↔
-    StandsInLine profile file offset n start long
+    (told : ℕ) (file : List ℕ) (offset n start long : ℕ) → (findAnswer told file offset n ≡ Found start long) ↔
+    UnderVersion told (λ version. StandsInLine (profile version) file offset n start long)
 
--- At one offset stands one line with one list of fields, whichever record is due.
+-- At one offset stands one line with one list of fields, whichever record is due and under whichever version.
 abbrev pub OneReading : Type 0
 OneReading =
-    (due late : Due) (file : List ℕ) (offset : ℕ) (line other : Line) (fs gs : List (List ℕ)) →
-    Reads (record { rules = profile; due = due }) file offset line fs → Reads (record { rules = profile; due = late }) file offset other gs →
+    (version another : Version) (due late : Due) (file : List ℕ) (offset : ℕ) (line other : Line) (fs gs : List (List ℕ)) →
+    Reads (record { rules = profile version; due = due }) file offset line fs →
+    Reads (record { rules = profile another; due = late }) file offset other gs →
     (line ≡ other) × (fs ≡ gs)
 
--- "A written line reads back to its fields": the bytes that were written, by themselves, are accepted as the line of that record and
--- of those fields, and each field is found again.
+-- "A written line reads back to its fields": the bytes that were written, by themselves and under the version that the writer was told,
+-- are accepted as the line of that record and of those fields, and each field is found again.
 abbrev pub WrittenReadsBack : Type 0
 WrittenReadsBack =
-    (number : ℕ) (text ends output : List ℕ) (fill n : ℕ) (after : List ℕ) → Writes number text ends output fill (Written n) after →
-    (kind : Record) × ((recordNumbered number ≡ Known kind) × ((length (take n (drop fill after)) ≡ n) ×
-    ReadsBack kind (between text ends) (take n (drop fill after))))
+    (told number : ℕ) (text ends output : List ℕ) (fill n : ℕ) (after : List ℕ) → Writes told number text ends output fill (Written n) after →
+    UnderVersion told (λ version. (kind : Record) × ((recordNumbered number ≡ Known kind) × ((length (take n (drop fill after)) ≡ n) ×
+    ReadsBack told version kind (between text ends) (take n (drop fill after)))))
 
--- "an accepted line written again gives its own bytes", wherever there is room for it
+-- "an accepted line written again gives its own bytes", under the version by which it was accepted, wherever there is room for it
 abbrev pub AcceptedWritesAgain : Type 0
 AcceptedWritesAgain =
-    (file : List ℕ) (offset : ℕ) (line : Line) (fs : List (List ℕ)) → Reads (alone profile) file offset line fs →
-    (number : ℕ) (output : List ℕ) (fill : ℕ) → recordNumbered number ≡ Known (line .kind) → fill + (line .next - offset) ≤ length output →
-    (answer : WriteAnswer) (after : List ℕ) → Writes number (inOne fs) (endsFrom 0 fs) output fill answer after →
+    (version : Version) (file : List ℕ) (offset : ℕ) (line : Line) (fs : List (List ℕ)) → Reads (alone (profile version)) file offset line fs →
+    (told : ℕ) → versionNumbered told ≡ Either version → (number : ℕ) (output : List ℕ) (fill : ℕ) → recordNumbered number ≡ Known (line .kind) → fill + (line .next - offset) ≤ length output →
+    (answer : WriteAnswer) (after : List ℕ) → Writes told number (inOne fs) (endsFrom 0 fs) output fill answer after →
     (answer ≡ Written (line .next - offset)) × (after ≡ written output fill (take (line .next - offset) (drop offset file)))
 
--- a line is written exactly when its record is known, its ends hold, it is allowed and there is room; so a writer that writes nothing
--- is shut out
+-- a line is written exactly when a version was told, its record is known, its ends hold, the version's rules allow it and there is room;
+-- so a writer that writes nothing is shut out
 abbrev pub WrittenExactly : Type 0
 WrittenExactly =
-    (number : ℕ) (text ends : List ℕ) (size fill n : ℕ) → (writeAnswer number text ends size fill ≡ Written n) ↔
-    Writable number text ends size fill n
+    (told number : ℕ) (text ends : List ℕ) (size fill n : ℕ) → (writeAnswer told number text ends size fill ≡ Written n) ↔
+    UnderVersion told (λ version. Writable (profile version) number text ends size fill n)
 
 -- a tracking number or label code is accepted exactly when it has its kind's length and shape and its check closes the carry
 abbrev pub NumberExactly : Type 0

@@ -6,7 +6,7 @@ use mathlib.Core.Bool.{Bool, true, false}
 use mathlib.Core.List.{List, [], _∷_, _++_, map}
 use lib.ListN.{replicate}
 use Rattle.refusal.specs.Table.{because, Verdict}
-use Rattle.refusal.specs.declared.Reason.the-variants.{UnknownRecord, FieldCount, FieldForm, FileEnds, ContactMissing, CountriesOdd}
+use Rattle.refusal.specs.declared.Reason.the-variants.{UnknownRecord, FieldCount, FieldEmpty, FieldForm, FileEnds, ContactMissing, CountriesOdd}
 use Rattle.text.specs.Quoted.{bytes}
 use Rattle.forms.specs.Amount.{amount}
 use Rattle.forms.specs.Date.{dateTime}
@@ -22,19 +22,23 @@ use Rattle.file.specs.File.{judged}
 use Rattle.file.specs.declared.whole.FileAnswer.{FileAnswer}
 use Rattle.file.specs.declared.whole.FileAnswer.the-variants.{Accepted, Refused}
 use Rattle.purpose.specs.Purpose.{purposeOf}
-use Rattle.allowed.specs.Allowed.{FileLine, AllowedFile}
+use Rattle.fields.specs.declared.version.Version.the-variants.{Seven}
+use Rattle.allowed.specs.Allowed.{FileLine, AllowedUnder, AllowedFile}
 
 -- "This file (each line ended by CR LF)"
 abbrev pub lines : List String → List ℕ
 lines [] = []
 lines (text ∷ more) = bytes text ++ bytes "\r\n" ++ lines more
 
-abbrev pub exampleOf : String → String → List ℕ
-exampleOf sender parcel =
+abbrev pub fileOf : String → String → String → List ℕ
+fileOf header sender parcel =
     lines
-    ("010;0012345678;Muster;2021-02-23T13:37:50;2021-02-24T14:20:55;1005;5;;;;" ∷ sender ∷
+    (header ∷ sender ∷
     "030;;;;;;;;;;;;;;;;B;;;;AT;1020;Wien;;Gasse;;2;;;;;;;;;;;;;;" ∷ parcel ∷ "050;10" ∷
     "060;006;;12.50;EUR;Muster;AT611904300234573201;ABCDATWW;;;" ∷ [])
+
+abbrev pub exampleOf : String → String → List ℕ
+exampleOf sender parcel = fileOf "010;0012345678;Muster;2021-02-23T13:37:50;2021-02-24T14:20:55;1005;5;;;;" sender parcel
 
 -- document 02, request 2: "Our example file's identcode is exchanged for a valid one."
 abbrev pub example : List ℕ
@@ -47,6 +51,16 @@ unreachable = exampleOf "020;A;;;;AT;1010;Wien;;Gasse;;1;;a@b;;;" "040;100000000
 -- the example with the identcode that it had, which fails
 abbrev pub failing : List ℕ
 failing = exampleOf "020;A;;;;AT;1010;Wien;;Gasse;;1;1;a@b;;;" "040;1000000000000000000001;;"
+
+-- document 02, request 5: the example without what version 7 calls optional, with this version and this parcel
+abbrev pub versioned : String → String → List ℕ
+versioned header parcel = fileOf header "020;A;;;;AT;1010;Wien;;Gasse;;1;1;a@b;;;" parcel
+
+abbrev pub five : String
+five = "010;0012345678;;2021-02-23T13:37:50;2021-02-24T14:20:55;;5;;;;"
+
+abbrev pub seven : String
+seven = "010;0012345678;;2021-02-23T13:37:50;2021-02-24T14:20:55;;7;;;;"
 
 -- "lends 4,096 words"; document 02, request 1: "an empty list, which the program lends"
 abbrev pub lentWith : String → Lent
@@ -131,11 +145,22 @@ marked =
     ∷ Case.parts "1012345123456781212349" ("10" ∷ "12345" ∷ "12345678" ∷ "12" ∷ "1234" ∷ "9" ∷ [])
     -- "a failing code in a file is 8"
     ∷ Case.file failing "" (Refused (because FieldForm 182)) []
+    -- document 02, request 5: 010.2 and 010.5 are "optional" in document 002, 040.4 "required"; in version 5 it is the other way round
+    ∷ Case.file (versioned seven "040;1000000000000000000007;;;C") "" (Accepted (record { lines = 6; parcels = 1; cents = 1250 }))
+    (0 ∷ 64 ∷ 106 ∷ 168 ∷ 200 ∷ 208 ∷ [])
+    ∷ Case.file (versioned seven "040;1000000000000000000007;;;") "" (Refused (because FieldEmpty 197)) []
+    ∷ Case.file (versioned five "040;1000000000000000000007;;;") "" (Refused (because FieldEmpty 15)) []
+    -- a 040 line of three fields has no field 4 that could be empty
+    ∷ Case.file (versioned seven "040;1000000000000000000007;;") "" (Accepted (record { lines = 6; parcels = 1; cents = 1250 }))
+    (0 ∷ 64 ∷ 106 ∷ 168 ∷ 198 ∷ 206 ∷ [])
     ∷ []
 
 abbrev pub MarkedHold : Type 0
 MarkedHold = AllHold marked
 
--- the example is an allowed file: the rules contradict nobody
+-- the example is an allowed file, and one of version 7 is: the rules contradict nobody
 abbrev pub AFileIsAllowed : Type 0
 AFileIsAllowed = (ls : List FileLine) × AllowedFile [] example ls
+
+abbrev pub AFileOfSevenIsAllowed : Type 0
+AFileOfSevenIsAllowed = (ls : List FileLine) × AllowedUnder Seven [] (versioned seven "040;1000000000000000000007;;;C") ls

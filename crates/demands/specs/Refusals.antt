@@ -21,16 +21,19 @@ use Rattle.check_characters.specs.declared.number.NumberAnswer.the-variants.{Re
 use Rattle.check_characters.specs.declared.answer.IssueAnswer.the-variants.{Refused as NotIssued}
 use Rattle.check_characters.specs.declared.answer.CheckAnswer.the-variants.{Accepted as Passed, Refused as Failed}
 use Rattle.fields.specs.Record.{mayEnd}
-use Rattle.fields.specs.Profile.{profile}
+use Rattle.fields.specs.Profile.{profile, widthInTable}
+use Rattle.fields.specs.Version.{UnderVersion}
+use Rattle.fields.specs.declared.version.Version.{Version}
 use Rattle.fields.specs.declared.record.Due.{Due}
 use Rattle.fields.specs.declared.record.Due.the-variants.{First}
 use Rattle.fields.specs.declared.record.Record.the-variants.{Parcel}
-use Rattle.line.specs.Line.{lineAnswer, alone, fileLimit}
-use Rattle.line.specs.Find.{fieldAnswer}
+use Rattle.line.specs.Line.{lineAnswer, alone, fileLimit, readAnswer}
+use Rattle.line.specs.Find.{findAnswer}
 use Rattle.line.specs.declared.read.Line.{Line}
 use Rattle.line.specs.declared.read.LineAnswer.the-variants.{Refused as RefusedAsLine}
 use Rattle.line.specs.declared.find.FieldAnswer.the-variants.{Refused as NotFound}
 use Rattle.file.specs.Lent.{Lent}
+use Rattle.file.specs.Version.{versionOf}
 use Rattle.file.specs.File.{Judges}
 use Rattle.file.specs.declared.whole.FileAnswer.{FileAnswer}
 use Rattle.file.specs.declared.whole.FileAnswer.the-variants.{Refused as RefusedAsFile}
@@ -43,7 +46,7 @@ use Rattle.grammar.specs.Written.{Writable}
 use Rattle.allowed.specs.Allowed.{FileLine, fileBytes, AllowedFile}
 use Rattle.slips.specs.Exactly.{SoundNumber, SoundIban, SoundIdentcode}
 use Rattle.slips.specs.Typed.{Leads}
-use Rattle.refused.specs.Line.{Counted, RefusedAt, RefusedFind}
+use Rattle.refused.specs.Line.{Counted, RefusedAt, RefusedTold, RefusedFind}
 use Rattle.refused.specs.File.{Begins, dueBehind, toldBehind, RefusedFile, Means}
 use Rattle.refused.specs.Write.{RefusedWrite}
 use Rattle.refused.specs.Purpose.{RefusedPurpose}
@@ -90,24 +93,24 @@ AllowedBegins =
     (countries file : List ℕ) (ls : List FileLine) →
     AllowedFile countries file ls ↔ (Begins countries file ls [] × (mayEnd (dueBehind First ls) ≡ true))
 
--- One line at an offset: "1, 2, 3, 5 to 9"; 4 is the file's, where a record is due.
+-- One line at an offset: 22, then "1, 2, 3, 5 to 9"; 4 is the file's, where a record is due.
 abbrev pub LineRefusedExactly : Type 0
 LineRefusedExactly =
-    (file : List ℕ) (offset : ℕ) (refusal : Refusal) →
-    (lineAnswer (alone profile) file offset ≡ RefusedAsLine refusal) ↔ RefusedAt (alone profile) file offset refusal
+    (told : ℕ) (file : List ℕ) (offset : ℕ) (refusal : Refusal) → (readAnswer told file offset ≡ RefusedAsLine refusal) ↔
+    RefusedTold told (λ version. RefusedAt (alone (profile version)) file offset) refusal
 
 -- One field of it: the line's refusals, then 15.
 abbrev pub FieldRefusedExactly : Type 0
 FieldRefusedExactly =
-    (file : List ℕ) (offset n : ℕ) (refusal : Refusal) →
-    (fieldAnswer profile file offset n ≡ NotFound refusal) ↔ RefusedFind profile file offset n refusal
+    (told : ℕ) (file : List ℕ) (offset n : ℕ) (refusal : Refusal) → (findAnswer told file offset n ≡ NotFound refusal) ↔
+    RefusedTold told (λ version. RefusedFind (profile version) file offset n) refusal
 
 -- The writer; "a refusal changes none" of the output's bytes.
 abbrev pub WriteRefusedExactly : Type 0
 WriteRefusedExactly =
-    (number : ℕ) (text ends output : List ℕ) (fill : ℕ) (refusal : Refusal) (after : List ℕ) →
-    Writes number text ends output fill (NotWritten refusal) after ↔
-    (RefusedWrite number text ends (length output) fill refusal × (after ≡ output))
+    (told number : ℕ) (text ends output : List ℕ) (fill : ℕ) (refusal : Refusal) (after : List ℕ) →
+    Writes told number text ends output fill (NotWritten refusal) after ↔
+    (RefusedTold told (λ version. RefusedWrite (profile version) number text ends (length output) fill) refusal × (after ≡ output))
 
 -- The payment purpose; "The output's other bytes stay, and all of them on a refusal; the list's words are all 0 after 15 or 13 too."
 abbrev pub PurposeRefusedExactly : Type 0
@@ -155,55 +158,58 @@ IssueIdentcodeRefusedExactly =
     IssuesIdentcode body output (NotIssued refusal) after ↔ (RefusedIdentcodeIssue body (length output) refusal × (after ≡ output))
 
 -- "a failing code in a file is 8", at the field: whatever record is due, a 040 line that may come and whose first field is no wider than
--- 22 bytes, but does not pass, is refused there;
+-- the version lets it be, but does not pass, is refused there;
 abbrev pub FailingCodeRefused : Type 0
 FailingCodeRefused =
-    (due : Due) (file : List ℕ) (offset : ℕ) (code : List ℕ) (more : List (List ℕ)) → length file ≤ fileLimit → offset ≤ length file →
-    Counted (record { rules = profile; due = due }) (drop offset file) Parcel (code ∷ more) →
-    Filled code → length code ≤ 22 → (checkedIdentcode code ≡ Passed → ⊥) →
-    lineAnswer (record { rules = profile; due = due }) file offset ≡ RefusedAsLine (because FieldForm (offset + 4))
+    (version : Version) (due : Due) (file : List ℕ) (offset : ℕ) (code : List ℕ) (more : List (List ℕ)) → length file ≤ fileLimit →
+    offset ≤ length file → Counted (record { rules = profile version; due = due }) (drop offset file) Parcel (code ∷ more) →
+    Filled code → length code ≤ widthInTable (profile version Parcel) 1 → (checkedIdentcode code ≡ Passed → ⊥) →
+    lineAnswer (record { rules = profile version; due = due }) file offset ≡ RefusedAsLine (because FieldForm (offset + 4))
 
 -- and so is the file that begins with allowed lines and then has such a line.
 abbrev pub FailingCodeRefusesFile : Type 0
 FailingCodeRefusesFile =
     (file : List ℕ) (lent : Lent) (ls : List FileLine) (left code : List ℕ) (more : List (List ℕ)) →
-    Begins (lent .countries) file ls left → length ls ≤ lent .words → Counted (toldBehind ls) left Parcel (code ∷ more) →
-    Filled code → length code ≤ 22 → (checkedIdentcode code ≡ Passed → ⊥) →
+    Begins (lent .countries) file ls left → length ls ≤ lent .words → Counted (toldBehind file ls) left Parcel (code ∷ more) →
+    Filled code → length code ≤ widthInTable (profile (versionOf file) Parcel) 1 → (checkedIdentcode code ≡ Passed → ⊥) →
     Judges file lent (RefusedAsFile (because FieldForm (length (fileBytes ls) + 4))) (replicate (lent .words) 0)
 
 -- A line, a field, a writing, a number, an IBAN, an identcode and a key pass or are refused, never both.
 abbrev pub LineAlwaysOne : Type 0
 LineAlwaysOne =
-    (file : List ℕ) (offset : ℕ) →
-    ((line : Line) × ((fs : List (List ℕ)) × Reads (alone profile) file offset line fs)) ⊎
-    ((refusal : Refusal) × RefusedAt (alone profile) file offset refusal)
+    (told : ℕ) (file : List ℕ) (offset : ℕ) →
+    UnderVersion told (λ version. (line : Line) × ((fs : List (List ℕ)) × Reads (alone (profile version)) file offset line fs)) ⊎
+    ((refusal : Refusal) × RefusedTold told (λ version. RefusedAt (alone (profile version)) file offset) refusal)
 
 abbrev pub LineNeverBoth : Type 0
 LineNeverBoth =
-    (file : List ℕ) (offset : ℕ) (refusal : Refusal) →
-    (line : Line) × ((fs : List (List ℕ)) × Reads (alone profile) file offset line fs) →
-    RefusedAt (alone profile) file offset refusal → ⊥
+    (told : ℕ) (file : List ℕ) (offset : ℕ) (refusal : Refusal) →
+    UnderVersion told (λ version. (line : Line) × ((fs : List (List ℕ)) × Reads (alone (profile version)) file offset line fs)) →
+    RefusedTold told (λ version. RefusedAt (alone (profile version)) file offset) refusal → ⊥
 
 abbrev pub FieldAlwaysOne : Type 0
 FieldAlwaysOne =
-    (file : List ℕ) (offset n : ℕ) →
-    ((start : ℕ) × ((long : ℕ) × StandsInLine profile file offset n start long)) ⊎
-    ((refusal : Refusal) × RefusedFind profile file offset n refusal)
+    (told : ℕ) (file : List ℕ) (offset n : ℕ) →
+    UnderVersion told (λ version. (start : ℕ) × ((long : ℕ) × StandsInLine (profile version) file offset n start long)) ⊎
+    ((refusal : Refusal) × RefusedTold told (λ version. RefusedFind (profile version) file offset n) refusal)
 
 abbrev pub FieldNeverBoth : Type 0
 FieldNeverBoth =
-    (file : List ℕ) (offset n start long : ℕ) (refusal : Refusal) →
-    StandsInLine profile file offset n start long → RefusedFind profile file offset n refusal → ⊥
+    (told : ℕ) (file : List ℕ) (offset n : ℕ) (refusal : Refusal) →
+    UnderVersion told (λ version. (start : ℕ) × ((long : ℕ) × StandsInLine (profile version) file offset n start long)) →
+    RefusedTold told (λ version. RefusedFind (profile version) file offset n) refusal → ⊥
 
 abbrev pub WriteAlwaysOne : Type 0
 WriteAlwaysOne =
-    (number : ℕ) (text ends : List ℕ) (size fill : ℕ) →
-    ((n : ℕ) × Writable number text ends size fill n) ⊎ ((refusal : Refusal) × RefusedWrite number text ends size fill refusal)
+    (told number : ℕ) (text ends : List ℕ) (size fill : ℕ) →
+    UnderVersion told (λ version. (n : ℕ) × Writable (profile version) number text ends size fill n) ⊎
+    ((refusal : Refusal) × RefusedTold told (λ version. RefusedWrite (profile version) number text ends size fill) refusal)
 
 abbrev pub WriteNeverBoth : Type 0
 WriteNeverBoth =
-    (number : ℕ) (text ends : List ℕ) (size fill n : ℕ) (refusal : Refusal) →
-    Writable number text ends size fill n → RefusedWrite number text ends size fill refusal → ⊥
+    (told number : ℕ) (text ends : List ℕ) (size fill : ℕ) (refusal : Refusal) →
+    UnderVersion told (λ version. (n : ℕ) × Writable (profile version) number text ends size fill n) →
+    RefusedTold told (λ version. RefusedWrite (profile version) number text ends size fill) refusal → ⊥
 
 abbrev pub NumberAlwaysOne : Type 0
 NumberAlwaysOne =

@@ -1,4 +1,4 @@
--- What the laws above ask of rules, whatever profile they are: `Sound`. Our profile is.
+-- What the laws above ask of rules, whatever profile they are: `Sound`. Both versions of ours are.
 use Prim.Native.Nat.{ℕ, _≤_, zero-le}
 use mathlib.Core.Path.{_≡_, refl}
 use mathlib.Core.Bool.{Bool, true, false, _&&_}
@@ -8,9 +8,15 @@ use lib.Dec.{leb}
 use borrow.Author.Tests.{leb-true}
 use Rattle.text.specs.Choice.{if_then_else_}
 use Rattle.text.proofs.Choices.{and-left, and-right}
+use Rattle.text.proofs.Scans.{same-eq}
 use Rattle.forms.specs.Shape.{digits}
+use Rattle.forms.specs.Amount.{amount}
 use Rattle.fields.specs.Record.{countFits}
 use Rattle.fields.specs.Profile.{Row, names, rowIn, profile, widthInTable, But, always, instead, narrowed, widthOf, Rules, isRequired, hasForm}
+use Rattle.fields.specs.Field.{tested}
+use Rattle.fields.specs.Version.{numeral, isVersion}
+use Rattle.fields.specs.declared.version.Version.{Version}
+use Rattle.fields.specs.declared.version.Version.the-variants.{Five, Seven}
 use Rattle.fields.specs.declared.record.Record.{Record}
 use Rattle.fields.specs.declared.record.Record.the-variants.{Header, Sender, Shipment, Parcel, Product, Feature}
 use Rattle.fields.proofs.Forms.{identcode-digits}
@@ -24,11 +30,13 @@ abbrev pub within : List Row → Bool
 within [] = true
 within (row ∷ rows) = leb (row .width) 100 && (narrow (row .but) && within rows)
 
--- and 040.1 must be filled, with 22 digits whatever else its form asks
+-- no rule of a first field looks beside it; 040.1 must be filled, with 22 digits whatever else its form asks; and 060.3 is an amount
 pub record Sound (rules : Rules) : Type 0 where
   pub narrows : (kind : Record) → within (rules kind) ≡ true
+  pub lone : (kind : Record) (b c f : List ℕ) → tested (rules kind) 1 b f ≡ tested (rules kind) 1 c f
   pub coded : isRequired (rules Parcel) 1 ≡ true
   pub digital : (beside f : List ℕ) → hasForm (rules Parcel) 1 beside f ≡ true → digits 22 f ≡ true
+  pub priced : (beside f : List ℕ) → hasForm (rules Feature) 3 beside f ≡ true → amount f ≡ true
 
 row-within : (rows : List Row) (n : ℕ) → within rows ≡ true → (rowIn rows n .width ≤ 100) × (narrow (rowIn rows n .but) ≡ true)
 row-within [] n e = (zero-le, refl)
@@ -64,14 +72,48 @@ count-le Parcel n e = omega (arith, leb-true n 24 (and-right (leb 3 n) (leb n 24
 count-le Product n e = omega (arith, leb-true n 24 (and-right (leb 1 n) (leb n 24) e))
 count-le Feature n e = omega (arith, leb-true n 10 (and-right (leb 10 n) (leb n 10) e))
 
-pub sound : Sound profile
-unfolding profile isRequired hasForm
-sound = record { narrows = narrows; coded = refl; digital = λ beside f e. identcode-digits f e }
+pub sound : (version : Version) → Sound (profile version)
+unfolding profile isRequired hasForm tested widthOf widthInTable
+sound version =
+    record {
+      narrows = narrows version;
+      lone = lone version;
+      coded = coded version;
+      digital = λ beside f e. identcode-digits f e;
+      priced = λ beside f e. e;
+    }
   where
-    narrows : (kind : Record) → within (profile kind) ≡ true
-    narrows Header = refl
-    narrows Sender = refl
-    narrows Shipment = refl
-    narrows Parcel = refl
-    narrows Product = refl
-    narrows Feature = refl
+    coded : (v : Version) → isRequired (profile v Parcel) 1 ≡ true
+    coded Five = refl
+    coded Seven = refl
+
+    lone : (v : Version) (kind : Record) (b c f : List ℕ) → tested (profile v kind) 1 b f ≡ tested (profile v kind) 1 c f
+    lone v Header b c f = refl
+    lone v Sender b c f = refl
+    lone v Shipment b c f = refl
+    lone v Feature b c f = refl
+    lone Five Parcel b c f = refl
+    lone Seven Parcel b c f = refl
+    lone Five Product b c f = refl
+    lone Seven Product b c f = refl
+
+    narrows : (v : Version) (kind : Record) → within (profile v kind) ≡ true
+    narrows v Sender = refl
+    narrows v Shipment = refl
+    narrows Five Header = refl
+    narrows Seven Header = refl
+    narrows Five Parcel = refl
+    narrows Seven Parcel = refl
+    narrows Five Product = refl
+    narrows Seven Product = refl
+    narrows Five Feature = refl
+    narrows Seven Feature = refl
+
+-- 010.6 is the version whose rules the header keeps
+pub header-version : (version : Version) (beside f : List ℕ) → hasForm (profile version Header) 6 beside f ≡ true → f ≡ numeral version
+unfolding profile hasForm isVersion
+header-version version beside f e = same-eq f (numeral version) e
+
+pub header-versioned : (version : Version) → isRequired (profile version Header) 6 ≡ true
+unfolding profile isRequired
+header-versioned version = refl

@@ -1,4 +1,5 @@
 pub mod Record
 pub mod Form
+pub mod Version
 pub mod Profile
 pub mod Field

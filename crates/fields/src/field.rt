@@ -1,11 +1,13 @@
 // The one test of a field: too long, empty where it must be filled, or not in its form.
 ghost use mathlib.Core.Path.{_≡_};
 ghost use Rattle.fields.specs.Field.{tested};
-ghost use Rattle.fields.specs.Profile.{instead, narrowed, widthOf, profile};
 ghost use Rattle.fields.specs.Form.{isCash};
+ghost use Rattle.fields.specs.Profile.{always, instead, by, narrowed, widthOf, profile};
 use crate::form;
 use crate::record::Record;
 use crate::table;
+use crate::version;
+use crate::version::Version;
 use refusal::Reason;
 
 pub enum Tested {
@@ -14,30 +16,36 @@ pub enum Tested {
 }
 
 // Tests the field with this number; beside it stands the field in front of it.
-pub fn test_field(kind: Record, number: usize, beside: &[u8], field: &[u8]) -> Tested
-    ensures { λ r. ⌜ r ≡ tested (profile kind) number (now (beside .entry)) (now (field .entry)) ⌝ }
+pub fn test_field(
+    version: Version,
+    kind: Record,
+    number: usize,
+    beside: &[u8],
+    field: &[u8],
+) -> Tested
+    ensures { λ r. ⌜ r ≡ tested (profile version kind) number (now (beside .entry)) (now (field .entry)) ⌝ }
 {
     // No empty field is too long, and most fields are empty: so this is asked first.
     if field.len() == 0 {
-        if table::is_required(kind, number) {
+        if table::is_required(version, kind, number) {
             return Tested::Bad(Reason::FieldEmpty);
         }
         return Tested::Good;
     }
-    if width_of(kind, number, beside) < field.len() {
+    if width_of(version, kind, number, beside) < field.len() {
         return Tested::Bad(Reason::FieldTooLong);
     }
-    if form::has_form(kind, number, beside, field) {
+    if form::has_form(version, kind, number, beside, field) {
         return Tested::Good;
     }
     Tested::Bad(Reason::FieldForm)
 }
 
 // How wide the field may be.
-fn width_of(kind: Record, number: usize, beside: &[u8]) -> usize
-    ensures { λ r. ⌜ r ≡ widthOf (profile kind) number (now (beside .entry)) ⌝ }
+fn width_of(version: Version, kind: Record, number: usize, beside: &[u8]) -> usize
+    ensures { λ r. ⌜ r ≡ widthOf (profile version kind) number (now (beside .entry)) ⌝ }
 {
-    let width = table::table_width(kind, number);
+    let width = table::table_width(version, kind, number);
     if number != 2 {
         return width;
     }
@@ -47,14 +55,17 @@ fn width_of(kind: Record, number: usize, beside: &[u8]) -> usize
         Record::Shipment => width,
         Record::Parcel => width,
         Record::Product => width,
-        Record::Feature => reference_width(width, beside),
+        Record::Feature => reference_width(version, width, beside),
     }
 }
 
-// The reference of a feature that collects cash is narrower than the table has it.
-fn reference_width(width: usize, beside: &[u8]) -> usize
-    ensures { λ r. ⌜ r ≡ narrowed (instead 35 isCash) width (now (beside .entry)) ⌝ }
+// The reference of a feature that collects cash is narrower in version 5 than the table has it.
+fn reference_width(version: Version, width: usize, beside: &[u8]) -> usize
+    ensures { λ r. ⌜ r ≡ narrowed (by version (instead 35 isCash) always) width (now (beside .entry)) ⌝ }
 {
+    if version::is_seven(version) {
+        return width;
+    }
     if form::is_cash(beside) {
         return 35;
     }

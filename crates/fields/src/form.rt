@@ -2,15 +2,18 @@
 ghost use mathlib.Core.Path.{_≡_};
 ghost use Rattle.fields.specs.Form.{postCode, isCash, reference, accepted, isIban, isIdentcode};
 ghost use Rattle.fields.specs.Profile.{profile, hasForm};
+ghost use Rattle.fields.specs.declared.version.Version.{Version};
 use crate::record::Record;
+use crate::version;
+use crate::version::Version;
 use check_characters::CheckAnswer;
 
 // Whether a filled field has its form.
-pub fn has_form(kind: Record, number: usize, beside: &[u8], field: &[u8]) -> bool
-    ensures { λ r. ⌜ r ≡ hasForm (profile kind) number (now (beside .entry)) (now (field .entry)) ⌝ }
+pub fn has_form(version: Version, kind: Record, number: usize, beside: &[u8], field: &[u8]) -> bool
+    ensures { λ r. ⌜ r ≡ hasForm (profile version kind) number (now (beside .entry)) (now (field .entry)) ⌝ }
 {
     match kind {
-        Record::Header => header_form(number, beside, field),
+        Record::Header => header_form(version, number, beside, field),
         Record::Sender => sender_form(number, beside, field),
         Record::Shipment => shipment_form(number, beside, field),
         Record::Parcel => parcel_form(number, beside, field),
@@ -29,21 +32,21 @@ pub fn is_cash(code: &[u8]) -> bool
     text::equal(code, b"022")
 }
 
-fn header_form(number: usize, beside: &[u8], field: &[u8]) -> bool
-    ensures { λ r. ⌜ r ≡ hasForm (profile Record.Header) number (now (beside .entry)) (now (field .entry)) ⌝ }
+fn header_form(version: Version, number: usize, beside: &[u8], field: &[u8]) -> bool
+    ensures { λ r. ⌜ r ≡ hasForm (profile version Record.Header) number (now (beside .entry)) (now (field .entry)) ⌝ }
 {
     match number {
         1 => forms::is_customer(field),
         3 => forms::is_date_time(field),
         4 => forms::is_date_time(field),
         5 => forms::is_digits(field, 4),
-        6 => forms::is_version(field),
+        6 => version::is_version(version, field),
         _ => true,
     }
 }
 
 fn sender_form(number: usize, beside: &[u8], field: &[u8]) -> bool
-    ensures { λ r. ⌜ r ≡ hasForm (profile Record.Sender) number (now (beside .entry)) (now (field .entry)) ⌝ }
+    ensures { λ r. ⌜ ((version : Version) → r ≡ hasForm (profile version Record.Sender) number (now (beside .entry)) (now (field .entry))) ⌝ }
 {
     match number {
         5 => forms::is_capitals(field, 2),
@@ -53,7 +56,7 @@ fn sender_form(number: usize, beside: &[u8], field: &[u8]) -> bool
 }
 
 fn shipment_form(number: usize, beside: &[u8], field: &[u8]) -> bool
-    ensures { λ r. ⌜ r ≡ hasForm (profile Record.Shipment) number (now (beside .entry)) (now (field .entry)) ⌝ }
+    ensures { λ r. ⌜ ((version : Version) → r ≡ hasForm (profile version Record.Shipment) number (now (beside .entry)) (now (field .entry))) ⌝ }
 {
     match number {
         1 => forms::all_digits(field),
@@ -68,7 +71,7 @@ fn shipment_form(number: usize, beside: &[u8], field: &[u8]) -> bool
 }
 
 fn parcel_form(number: usize, beside: &[u8], field: &[u8]) -> bool
-    ensures { λ r. ⌜ r ≡ hasForm (profile Record.Parcel) number (now (beside .entry)) (now (field .entry)) ⌝ }
+    ensures { λ r. ⌜ ((version : Version) → r ≡ hasForm (profile version Record.Parcel) number (now (beside .entry)) (now (field .entry))) ⌝ }
 {
     match number {
         1 => is_identcode(field),
@@ -77,7 +80,7 @@ fn parcel_form(number: usize, beside: &[u8], field: &[u8]) -> bool
 }
 
 fn feature_form(number: usize, beside: &[u8], field: &[u8]) -> bool
-    ensures { λ r. ⌜ r ≡ hasForm (profile Record.Feature) number (now (beside .entry)) (now (field .entry)) ⌝ }
+    ensures { λ r. ⌜ ((version : Version) → r ≡ hasForm (profile version Record.Feature) number (now (beside .entry)) (now (field .entry))) ⌝ }
 {
     match number {
         1 => forms::is_feature(field),

@@ -3,6 +3,7 @@ mod field;
 mod form;
 mod record;
 mod table;
+mod version;
 
 pub use field::Tested;
 pub use field::test_field;
@@ -14,3 +15,7 @@ pub use record::count_fits;
 pub use record::may_come;
 pub use record::may_end;
 pub use record::record_named;
+pub use version::Version;
+pub use version::VersionTold;
+pub use version::is_version;
+pub use version::version_numbered;

@@ -1,14 +1,35 @@
-// The tables of document 01: how wide each field may be, and which must be filled. The first index is the kind, then ten fields to a
-// line: the width of field 23 of a 030 is WIDTHS[2][2][3]. No field has the number 0 or one above its record's last. Widths are bytes
-// because a table is laid out anew wherever it is read.
+// The tables: how wide each field may be, and which must be filled, by version. The first index is the kind, then ten fields to a line:
+// the width of field 23 of a 030 is WIDTHS_5[2][2][3]. No field has the number 0 or one above its record's last. Widths are bytes, and
+// each version has a table of its own, because a table is laid out anew wherever it is read.
 ghost use mathlib.Core.Path.{_≡_};
 ghost use Prim.Native.Nat.{_<_};
 ghost use Rattle.fields.specs.Record.{recordAt};
 ghost use Rattle.fields.specs.Profile.{profile, widthInTable, isRequired};
+ghost use Rattle.fields.specs.declared.version.Version.{Version};
 use crate::record;
 use crate::record::Record;
+use crate::version;
+use crate::version::Version;
 
-const WIDTHS: [[[u8; 10]; 5]; 6] = [
+// 020 and 030 are the same in both versions.
+const SENDER: [[u8; 10]; 5] = [
+    [0, 40, 40, 40, 40, 2, 10, 40, 40, 40],
+    [40, 10, 40, 64, 64, 64, 64, 0, 0, 0],
+    [0, 0, 0, 0, 0, 0, 0, 0, 0, 0],
+    [0, 0, 0, 0, 0, 0, 0, 0, 0, 0],
+    [0, 0, 0, 0, 0, 0, 0, 0, 0, 0],
+];
+
+const SHIPMENT: [[u8; 10]; 5] = [
+    [0, 40, 10, 40, 40, 40, 40, 2, 10, 40],
+    [40, 40, 40, 10, 40, 64, 40, 40, 40, 40],
+    [2, 10, 40, 40, 40, 40, 10, 15, 40, 64],
+    [64, 64, 64, 64, 40, 40, 40, 100, 19, 20],
+    [20, 0, 0, 0, 0, 0, 0, 0, 0, 0],
+];
+
+// Document 01.
+const WIDTHS_5: [[[u8; 10]; 5]; 6] = [
     // 010
     [
         [0, 10, 40, 19, 19, 4, 10, 20, 40, 40],
@@ -18,21 +39,9 @@ const WIDTHS: [[[u8; 10]; 5]; 6] = [
         [0, 0, 0, 0, 0, 0, 0, 0, 0, 0],
     ],
     // 020
-    [
-        [0, 40, 40, 40, 40, 2, 10, 40, 40, 40],
-        [40, 10, 40, 64, 64, 64, 64, 0, 0, 0],
-        [0, 0, 0, 0, 0, 0, 0, 0, 0, 0],
-        [0, 0, 0, 0, 0, 0, 0, 0, 0, 0],
-        [0, 0, 0, 0, 0, 0, 0, 0, 0, 0],
-    ],
+    SENDER,
     // 030
-    [
-        [0, 40, 10, 40, 40, 40, 40, 2, 10, 40],
-        [40, 40, 40, 10, 40, 64, 40, 40, 40, 40],
-        [2, 10, 40, 40, 40, 40, 10, 15, 40, 64],
-        [64, 64, 64, 64, 40, 40, 40, 100, 19, 20],
-        [20, 0, 0, 0, 0, 0, 0, 0, 0, 0],
-    ],
+    SHIPMENT,
     // 040
     [
         [0, 22, 64, 64, 64, 64, 64, 64, 64, 64],
@@ -59,46 +68,86 @@ const WIDTHS: [[[u8; 10]; 5]; 6] = [
     ],
 ];
 
+// Document 002, and document 01 where that gives none.
+const WIDTHS_7: [[[u8; 10]; 5]; 6] = [
+    // 010
+    [
+        [0, 10, 80, 19, 19, 10, 10, 20, 40, 40],
+        [64, 0, 0, 0, 0, 0, 0, 0, 0, 0],
+        [0, 0, 0, 0, 0, 0, 0, 0, 0, 0],
+        [0, 0, 0, 0, 0, 0, 0, 0, 0, 0],
+        [0, 0, 0, 0, 0, 0, 0, 0, 0, 0],
+    ],
+    // 020
+    SENDER,
+    // 030
+    SHIPMENT,
+    // 040
+    [
+        [0, 24, 11, 40, 1, 40, 40, 9, 3, 100],
+        [2, 1, 100, 64, 64, 64, 64, 64, 64, 64],
+        [64, 64, 64, 64, 64, 0, 0, 0, 0, 0],
+        [0, 0, 0, 0, 0, 0, 0, 0, 0, 0],
+        [0, 0, 0, 0, 0, 0, 0, 0, 0, 0],
+    ],
+    // 050
+    [
+        [0, 2, 64, 64, 64, 64, 64, 64, 64, 64],
+        [64, 64, 64, 64, 64, 64, 64, 64, 64, 64],
+        [64, 64, 64, 64, 64, 0, 0, 0, 0, 0],
+        [0, 0, 0, 0, 0, 0, 0, 0, 0, 0],
+        [0, 0, 0, 0, 0, 0, 0, 0, 0, 0],
+    ],
+    // 060
+    [
+        [0, 3, 40, 9, 3, 35, 40, 11, 35, 40],
+        [40, 0, 0, 0, 0, 0, 0, 0, 0, 0],
+        [0, 0, 0, 0, 0, 0, 0, 0, 0, 0],
+        [0, 0, 0, 0, 0, 0, 0, 0, 0, 0],
+        [0, 0, 0, 0, 0, 0, 0, 0, 0, 0],
+    ],
+];
+
 // How wide the table lets a field be; 0 where there is no such field.
-pub fn table_width(kind: Record, number: usize) -> usize
-    ensures { λ r. ⌜ r ≡ widthInTable (profile kind) number ⌝ }
+pub fn table_width(version: Version, kind: Record, number: usize) -> usize
+    ensures { λ r. ⌜ r ≡ widthInTable (profile version kind) number ⌝ }
 {
     if 49 < number {
         return 0;
     }
-    wide(width_at(record::row(kind), number))
+    wide(width_at(version, record::row(kind), number))
 }
 
 // Whether a field must be filled.
-pub fn is_required(kind: Record, number: usize) -> bool
-    ensures { λ r. ⌜ r ≡ isRequired (profile kind) number ⌝ }
+pub fn is_required(version: Version, kind: Record, number: usize) -> bool
+    ensures { λ r. ⌜ r ≡ isRequired (profile version kind) number ⌝ }
 {
     match kind {
-        Record::Header => is_header_duty(number),
+        Record::Header => is_header_duty(version, number),
         Record::Sender => is_sender_duty(number),
         Record::Shipment => is_shipment_duty(number),
-        Record::Parcel => number == 1,
+        Record::Parcel => is_parcel_duty(version, number),
         Record::Product => number == 1,
         Record::Feature => number == 1,
     }
 }
 
-fn is_header_duty(number: usize) -> bool
-    ensures { λ r. ⌜ r ≡ isRequired (profile Record.Header) number ⌝ }
+fn is_header_duty(version: Version, number: usize) -> bool
+    ensures { λ r. ⌜ r ≡ isRequired (profile version Record.Header) number ⌝ }
 {
     match number {
         1 => true,
-        2 => true,
+        2 => !version::is_seven(version),
         3 => true,
         4 => true,
-        5 => true,
+        5 => !version::is_seven(version),
         6 => true,
         _ => false,
     }
 }
 
 fn is_sender_duty(number: usize) -> bool
-    ensures { λ r. ⌜ r ≡ isRequired (profile Record.Sender) number ⌝ }
+    ensures { λ r. ⌜ ((version : Version) → r ≡ isRequired (profile version Record.Sender) number) ⌝ }
 {
     match number {
         1 => true,
@@ -112,7 +161,7 @@ fn is_sender_duty(number: usize) -> bool
 }
 
 fn is_shipment_duty(number: usize) -> bool
-    ensures { λ r. ⌜ r ≡ isRequired (profile Record.Shipment) number ⌝ }
+    ensures { λ r. ⌜ ((version : Version) → r ≡ isRequired (profile version Record.Shipment) number) ⌝ }
 {
     match number {
         16 => true,
@@ -125,11 +174,24 @@ fn is_shipment_duty(number: usize) -> bool
     }
 }
 
-fn width_at(row: usize, number: usize) -> u8
-    requires { ⌜ (row < 6) × (number < 50) ⌝ }
-    ensures { λ r. ⌜ r ≡ widthInTable (profile (recordAt row)) number ⌝ }
+fn is_parcel_duty(version: Version, number: usize) -> bool
+    ensures { λ r. ⌜ r ≡ isRequired (profile version Record.Parcel) number ⌝ }
 {
-    WIDTHS[row][number / 10][number % 10]
+    match number {
+        1 => true,
+        4 => version::is_seven(version),
+        _ => false,
+    }
+}
+
+fn width_at(version: Version, row: usize, number: usize) -> u8
+    requires { ⌜ (row < 6) × (number < 50) ⌝ }
+    ensures { λ r. ⌜ r ≡ widthInTable (profile version (recordAt row)) number ⌝ }
+{
+    match version {
+        Version::Five => WIDTHS_5[row][number / 10][number % 10],
+        Version::Seven => WIDTHS_7[row][number / 10][number % 10],
+    }
 }
 
 fn wide(width: u8) -> usize

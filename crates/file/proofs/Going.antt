@@ -18,8 +18,10 @@ use Rattle.line.specs.Parts.{split}
 use Rattle.line.proofs.Accepting.{next-after}
 use Rattle.fields.proofs.Rules.{sound}
 use Rattle.file.specs.Lent.{Lent}
+use Rattle.file.specs.Version.{versionOf}
 use Rattle.file.specs.Step.{toldBy, parcelsIn, behind, listedSoFar, stepAnswer}
 use Rattle.file.specs.File.{Judged, begin, passed, ended, onStep, fileFrom, judged, listOf, Judges}
+use Rattle.fields.specs.declared.version.Version.{Version}
 use Rattle.file.specs.declared.step.State.{State}
 use Rattle.file.specs.declared.step.Step.{Step}
 use Rattle.file.specs.declared.step.Step.the-variants.{Next, Stopped}
@@ -46,10 +48,10 @@ pub record Going (s : List ℕ) (lent : Lent) (words codes : List ℕ) (state : 
   pub sown : Sown s (listedSoFar (state .lines) words) (state .parcels) codes
   pub going : fileFrom (length s + 1 - state .lines) s lent (listedSoFar (state .lines) words) state ≡ judged s lent
 
-pub going-none : (s countries words codes : List ℕ) → length s ≤ fileLimit → isPaired countries ≡ true → words ≡ replicate (length words) 0 →
-    Going s (record { countries = countries; words = length words }) words codes begin
+pub going-none : (s countries words codes : List ℕ) (version : Version) → version ≡ versionOf s → length s ≤ fileLimit → isPaired countries ≡ true → words ≡ replicate (length words) 0 →
+    Going s (record { countries = countries; words = length words }) words codes (begin version)
 unfolding judged
-going-none s countries words codes h paired e =
+going-none s countries words codes version ev h paired e =
     record {
       in-limit = h;
       long = refl;
@@ -60,8 +62,8 @@ going-none s countries words codes h paired e =
       cleared = e ∙ ap (λ (k : ℕ). replicate k 0) less;
       far = omega arith;
       sown = rw (listed-none words) (sown-none s codes);
-      going = ap (λ (l : List ℕ). fileFrom (length s + 1 - 0) s lent l begin) (listed-none words)
-          ∙ ap (λ (n : ℕ). fileFrom n s lent [] begin) whole ∙ sym (rw (le-ltb fileLimit (length s) h, paired));
+      going = ap (λ (l : List ℕ). fileFrom (length s + 1 - 0) s lent l (begin version)) (listed-none words)
+          ∙ ap (λ (n : ℕ). fileFrom n s lent [] (begin version)) whole ∙ ap (λ (v : Version). fileFrom (length s + 1) s lent [] (begin v)) ev ∙ sym (rw (le-ltb fileLimit (length s) h, paired));
     }
   where
     lent : Lent
@@ -138,7 +140,7 @@ module _ (s : List ℕ) (lent : Lent) (words codes : List ℕ) (state : State) (
         let line = w .line in
         let now = behind s state line in
         let behind-it = next-after (toldBy state) s (state .at) (lineAnswer (toldBy state) s (state .at)) refl line (w .accepted) in
-        let far = accepted-far (toldBy state) s (state .at) (lineAnswer (toldBy state) s (state .at)) refl line (w .accepted) sound in
+        let far = accepted-far (toldBy state) s (state .at) (lineAnswer (toldBy state) s (state .at)) refl line (w .accepted) (sound (state .version)) in
         let fewer : length s + 1 - (state .lines + 1) ≡ length s - state .lines = omega arith in
         let on : fileFrom (length s - state .lines) s lent (listedSoFar (state .lines) words ++ (state .at ∷ [])) now ≡ judged s lent =
         rw (sym es ∙ e, ← w .there) at (turn h) in

@@ -1,4 +1,5 @@
 pub mod Lists
+pub mod Versions
 pub mod Codes
 pub mod Sowing
 pub mod Finding

@@ -14,6 +14,7 @@ use Rattle.refusal.proofs.Verdicts.{no-pass}
 use Rattle.countries.specs.List.{isPaired}
 use Rattle.fields.specs.Record.{mayEnd}
 use Rattle.file.specs.Lent.{Lent}
+use Rattle.file.specs.Version.{versionOf}
 use Rattle.file.specs.Step.{stepAnswer}
 use Rattle.file.specs.File.{Judged, begin, passed, ended, onStep, fileFrom, judged, fileVerdict}
 use Rattle.file.specs.declared.step.State.{State}
@@ -79,9 +80,9 @@ module _ (lent : Lent) where
   unfolding judged
   whole s =
       either (ltb fileLimit (length s)) (record { answer = Refused (because FileTooLong fileLimit); starts = [] })
-      (if not (isPaired (lent .countries)) then odd else fileFrom (length s + 1) s lent [] begin) (refused (because FileTooLong fileLimit))
-      (either (not (isPaired (lent .countries))) odd (fileFrom (length s + 1) s lent [] begin) (refused (because CountriesOdd 0))
-      (from (length s + 1) s [] begin refl (omega arith)))
+      (if not (isPaired (lent .countries)) then odd else fileFrom (length s + 1) s lent [] (begin (versionOf s))) (refused (because FileTooLong fileLimit))
+      (either (not (isPaired (lent .countries))) odd (fileFrom (length s + 1) s lent [] (begin (versionOf s))) (refused (because CountriesOdd 0))
+      (from (length s + 1) s [] (begin (versionOf s)) refl (omega arith)))
     where
       odd : Judged
       odd = record { answer = Refused (because CountriesOdd 0); starts = [] }

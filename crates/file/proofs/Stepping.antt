@@ -66,7 +66,7 @@ module _ (s : List ℕ) (words : ℕ) (starts : List ℕ) (state : State) (line 
     (codes : List ℕ) (g : Sown s starts (state .parcels) codes) (t : Bool)
     (et : t ≡ isThereFor (line .kind) s codes (state .parcels) (state .at)) where
   code-holds : line .kind ≡ Parcel → digits 22 (identcodeAt s (state .at)) ≡ true
-  code-holds k = accepted-code (toldBy state) s (state .at) (lineAnswer (toldBy state) s (state .at)) refl line el sound k
+  code-holds k = accepted-code (toldBy state) s (state .at) (lineAnswer (toldBy state) s (state .at)) refl line el (sound (state .version)) k
 
   repeated : t ≡ repeats (line .kind) s starts (state .at)
   repeated = et ∙ sown-tells s starts (state .parcels) codes g (state .at) (line .kind) code-holds
@@ -120,6 +120,7 @@ module _ (s : List ℕ) (state : State) (line : Line) (el : lineAnswer (toldBy s
         lines = state .lines + 1;
         parcels = state .parcels + p;
         cents = state .cents + c;
+        version = state .version;
         due = After (line .kind);
         contacts = b;
       } ≡ behind s state line

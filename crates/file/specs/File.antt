@@ -11,8 +11,10 @@ use Rattle.refusal.specs.declared.Reason.the-variants.{FileTooLong, FileEnds, C
 use Rattle.countries.specs.List.{isPaired}
 use Rattle.fields.specs.Record.{mayEnd}
 use Rattle.fields.specs.declared.record.Due.the-variants.{First}
+use Rattle.fields.specs.declared.version.Version.{Version}
 use Rattle.line.specs.Line.{fileLimit}
 use Rattle.file.specs.Lent.{Lent}
+use Rattle.file.specs.Version.{versionOf}
 use Rattle.file.specs.Step.{stepAnswer}
 use Rattle.file.specs.declared.step.State.{State}
 use Rattle.file.specs.declared.step.Step.{Step}
@@ -25,9 +27,9 @@ pub record Judged : Type 0 where
   pub answer : FileAnswer
   pub starts : List ℕ
 
--- before the first sender no contact is missing
-abbrev pub begin : State
-begin = record { at = 0; lines = 0; parcels = 0; cents = 0; due = First; contacts = true }
+-- under the rules of a version; before the first sender no contact is missing
+abbrev pub begin : Version → State
+begin version = record { at = 0; lines = 0; parcels = 0; cents = 0; version = version; due = First; contacts = true }
 
 -- "Accepted: number of lines, number of 040 lines, and the cash total in cents"
 abbrev pub passed : List ℕ → State → Judged
@@ -59,7 +61,7 @@ unfoldable pub judged : List ℕ → Lent → Judged
 judged file lent =
     if ltb fileLimit (length file) then record { answer = Refused (because FileTooLong fileLimit); starts = [] }
     else if not (isPaired (lent .countries)) then record { answer = Refused (because CountriesOdd 0); starts = [] }
-    else fileFrom (length file + 1) file lent [] begin
+    else fileFrom (length file + 1) file lent [] (begin (versionOf file))
 
 -- "every word below the line count holds that line's first offset, and every other word is 0. On a refusal all words are 0."
 abbrev pub listOf : ℕ → List ℕ → List ℕ

@@ -1,4 +1,5 @@
 pub mod Lent
+pub mod Version
 pub mod Contact
 pub mod Identcode
 pub mod Cash

@@ -39,6 +39,7 @@ behind file state line =
       lines = state .lines + 1;
       parcels = state .parcels + parcelsIn (line .kind);
       cents = state .cents + cashOf (line .kind) (split (textAt file (state .at)));
+      version = state .version;
       due = After (line .kind);
       contacts = contactsBehind (line .kind) (split (textAt file (state .at))) (state .contacts);
     }
@@ -68,7 +69,7 @@ onLine (Accepted line) file lent starts state =
 
 -- what the judge of the next line is told
 abbrev pub toldBy : State → Told
-toldBy state = record { rules = profile; due = state .due }
+toldBy state = record { rules = profile (state .version); due = state .due }
 
 unfoldable pub stepAnswer : List ℕ → Lent → List ℕ → State → Step
 stepAnswer file lent starts state = onLine (lineAnswer (toldBy state) file (state .at)) file lent starts state

@@ -5,6 +5,7 @@ mod contact;
 mod identcode;
 mod list;
 mod step;
+mod version;
 mod whole;
 
 pub use list::clear;

@@ -14,6 +14,7 @@ use crate::contact;
 use crate::identcode;
 use fields::Due;
 use fields::Record;
+use fields::Version;
 use line::Line;
 use line::LineAnswer;
 use refusal::Reason;
@@ -25,6 +26,7 @@ pub struct State {
     pub lines: usize,
     pub parcels: usize,
     pub cents: u64,
+    pub version: Version,
     pub due: Due,
     // Whether the last sender has both contacts.
     pub contacts: bool,
@@ -54,8 +56,9 @@ pub fn one_line(
     ensures { λ r. ⌜ ((next : State) → r ≡ Next next → now (list .exit) ≡ set (now (list .entry)) (state .lines) (state .at)) ⌝ }
 {
     let offset = state.at;
+    let version = state.version;
     let due = state.due;
-    let answer = line::judge_line(due, file, offset);
+    let answer = line::judge_line(version, due, file, offset);
     match answer {
         LineAnswer::Accepted(line) => {
             let kind = line.kind;
@@ -117,12 +120,14 @@ fn behind_line(file: &[u8], state: State, line: Line) -> State
 {
     let offset = state.at;
     let kind = line.kind;
+    let version = state.version;
     let end = line.next - 2;
     State {
         at: line.next,
         lines: state.lines + 1,
         parcels: state.parcels + parcels_in(kind),
         cents: state.cents + cash::cash_of(kind, &file[offset..end]),
+        version,
         due: Due::After(kind),
         contacts: contact::contacts_behind(kind, &file[offset..end], state.contacts),
     }

@@ -12,6 +12,7 @@ use crate::list;
 use crate::step;
 use crate::step::State;
 use crate::step::Step;
+use crate::version;
 use fields::Due;
 use line::FILE_LIMIT;
 use refusal::Reason;
@@ -58,11 +59,13 @@ fn run(file: &[u8], countries: &[u8], list: &mut [u32], codes: &mut [u32]) -> Fi
     ensures { λ r. ⌜ Judges (now (file .entry)) (record { countries = now (countries .entry); words = length (now (list .entry)) })
         r (now (list .exit)) ⌝ }
 {
+    let version = version::version_of(file);
     let mut state = State {
         at: 0,
         lines: 0,
         parcels: 0,
         cents: 0,
+        version,
         due: Due::First,
         contacts: true,
     };

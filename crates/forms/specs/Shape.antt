@@ -24,10 +24,6 @@ capitals n s = eqb (length s) n && all capital s
 unfoldable pub customer : List ℕ → Bool
 customer s = digits 10 s && same (take 2 s) (bytes "00")
 
--- "exactly `5`"
-unfoldable pub version : List ℕ → Bool
-version s = same s (bytes "5")
-
 -- "a BIC of 8 or 11 capitals or digits"
 unfoldable pub bic : List ℕ → Bool
 bic s = (eqb (length s) 8 || eqb (length s) 11) && all symbol s

@@ -18,4 +18,3 @@ pub use shape::is_customer;
 pub use shape::is_digits;
 pub use shape::is_mail;
 pub use shape::is_purpose;
-pub use shape::is_version;

@@ -1,7 +1,7 @@
-// Forms that look at bytes one by one: digits, capitals, the customer number, the version, a BIC, an e-mail address
-// and a payment purpose.
+// Forms that look at bytes one by one: digits, capitals, the customer number, a BIC, an e-mail address and a
+// payment purpose.
 ghost use mathlib.Core.Path.{_≡_};
-ghost use Rattle.forms.specs.Shape.{allDigits, digits, capitals, customer, version, bic, mail, purposeText};
+ghost use Rattle.forms.specs.Shape.{allDigits, digits, capitals, customer, bic, mail, purposeText};
 use text::Class;
 
 // Whether every byte is a digit.
@@ -39,13 +39,6 @@ pub fn is_customer(s: &[u8]) -> bool
         return false;
     }
     text::equal(&s[0..2], b"00")
-}
-
-// Whether s is the version that a file names.
-pub fn is_version(s: &[u8]) -> bool
-    ensures { λ r. ⌜ r ≡ version (now (s .entry)) ⌝ }
-{
-    text::equal(s, b"5")
 }
 
 // Whether s is a BIC.

@@ -15,7 +15,10 @@ use Rattle.text.proofs.Choices.{and-both, came-then, came-else}
 use Rattle.refusal.specs.declared.Reason.the-variants.{FieldCount, FeatureLacks, OutputTooShort, FieldEnds}
 use Rattle.refusal.specs.Table.{because}
 use Rattle.refusal.proofs.Verdicts.{no-pass}
-use Rattle.fields.specs.Profile.{Row, profile}
+use Rattle.fields.specs.Profile.{Row, Rules, profile}
+use Rattle.fields.specs.Version.{versionNumbered, UnderVersion}
+use Rattle.fields.specs.declared.version.Version.{Version}
+use Rattle.fields.specs.declared.version.VersionTold.the-variants.{Either}
 use Rattle.fields.specs.Record.{typeOf, countFits}
 use Rattle.fields.specs.declared.record.Record.{Record}
 use Rattle.fields.specs.declared.record.Named.{Named}
@@ -28,9 +31,12 @@ use Rattle.line.specs.declared.walk.Walk.the-variants.{Fine, Stopped}
 use Rattle.line.specs.Parts.{fieldNo}
 use Rattle.line.specs.Render.{render}
 use Rattle.line.proofs.Passing.{Each, fine-each, each-fine}
+use Rattle.line.specs.Line.{lineAnswer, alone, readAnswer}
+use Rattle.line.specs.Find.{fieldAnswer, findAnswer}
 use Rattle.fields.proofs.Rules.{sound}
+use Rattle.fields.proofs.Versions.{under-is, under-passes}
 use Rattle.writer.specs.Write.{recordNumbered, risesTo, endsHold, fieldsFrom, between, testedToWrite, nextNumber, walked, ofFields, afterWalk, writeVerdict}
-use Rattle.writer.specs.Write.{ofRecord, writeAnswer, writtenTo, Writes}
+use Rattle.writer.specs.Write.{ofRecord, answerUnder, writeAnswer, writtenTo, Writes}
 use Rattle.writer.specs.declared.write.WriteAnswer.{WriteAnswer}
 use Rattle.writer.specs.declared.write.WriteAnswer.the-variants.{Written, Refused}
 use Rattle.writer.proofs.Ends.{between-count}
@@ -55,14 +61,14 @@ fields-walked rows n beside (f ∷ fs) g =
     (passes-test rows n beside f (field-good rows n beside f (g .0)) (g .0 .clean), fields-walked rows (suc n) f fs (g .1))
 
 -- a line that was written could be
-module _ (number : ℕ) (text ends : List ℕ) (size fill n : ℕ) where
-  wrote : (nd : Named) → recordNumbered number ≡ nd → ofRecord nd text ends size fill ≡ Written n → Writable number text ends size fill n
+module _ (rules : Rules) (number : ℕ) (text ends : List ℕ) (size fill n : ℕ) where
+  wrote : (nd : Named) → recordNumbered number ≡ nd → ofRecord rules nd text ends size fill ≡ Written n → Writable rules number text ends size fill n
   unfolding ofRecord ofFields
   wrote Unknown k e = absurd (no-pass writeVerdict refl refl e)
   wrote (Known kind) k e =
       let held = endsHold ends (length text) in
       let fits = countFits kind (length ends) in
-      let w = walked (profile kind) 1 (typeOf kind) (between text ends) in
+      let w = walked (rules kind) 1 (typeOf kind) (between text ends) in
       let after = afterWalk w kind (between text ends) size fill in
       let a = came-else (not held) (Refused (because FieldEnds 0)) (if not fits then Refused (because FieldCount 0) else after)
       (Written n) (no-pass writeVerdict refl refl) e in
@@ -70,9 +76,9 @@ module _ (number : ℕ) (text ends : List ℕ) (size fill n : ℕ) where
       go w refl (not-false held (a .0)) (not-false fits (b .0)) (b .1)
     where
       go :
-          (w : Walk) → walked (profile kind) 1 (typeOf kind) (between text ends) ≡ w → endsHold ends (length text) ≡ true →
+          (w : Walk) → walked (rules kind) 1 (typeOf kind) (between text ends) ≡ w → endsHold ends (length text) ≡ true →
           countFits kind (length ends) ≡ true →
-          afterWalk w kind (between text ends) size fill ≡ Written n → Writable number text ends size fill n
+          afterWalk w kind (between text ends) size fill ≡ Written n → Writable rules number text ends size fill n
       go (Stopped refusal) ew eh ec e = absurd (no-pass writeVerdict refl refl e)
       go Fine ew eh ec e =
           let line = render kind (between text ends) in
@@ -89,32 +95,32 @@ module _ (number : ℕ) (text ends : List ℕ) (size fill n : ℕ) where
             allowed = record {
               counted = ap (countFits kind) (between-count text ends) ∙ ec;
               fields =
-                  walked-fields (profile kind) 1 (typeOf kind) (between text ends)
-                  (fine-each (testedToWrite (profile kind)) nextNumber 1 1 (typeOf kind) (between text ends) ew);
+                  walked-fields (rules kind) 1 (typeOf kind) (between text ends)
+                  (fine-each (testedToWrite (rules kind)) nextNumber 1 1 (typeOf kind) (between text ends) ew);
               served = lacks-not kind (between text ends) .0 (a .0);
             };
             fits = leb-true (fill + length line) size (b .0);
             long = cc;
           }
 
-  writable : Writable number text ends size fill n → writeAnswer number text ends size fill ≡ Written n
-  unfolding writeAnswer ofRecord ofFields
+  writable : Writable rules number text ends size fill n → answerUnder rules number text ends size fill ≡ Written n
+  unfolding answerUnder ofRecord ofFields
   writable g =
       rw (
         g .known,
         g .held,
         ← between-count text ends,
         g .allowed .counted,
-        each-fine (testedToWrite (profile (g .kind))) nextNumber 1 1 (typeOf (g .kind)) (between text ends)
-            (fields-walked (profile (g .kind)) 1 (typeOf (g .kind)) (between text ends) (g .allowed .fields)),
+        each-fine (testedToWrite (rules (g .kind))) nextNumber 1 1 (typeOf (g .kind)) (between text ends)
+            (fields-walked (rules (g .kind)) 1 (typeOf (g .kind)) (between text ends) (g .allowed .fields)),
         lacks-not (g .kind) (between text ends) .1 (g .allowed .served),
         le-leb (fill + length (render (g .kind) (between text ends))) size (g .fits),
         g .long,
       )
 
   -- a line is written exactly when it is allowed, as it is handed over, and has room
-  pub written-exactly : (writeAnswer number text ends size fill ≡ Written n) ↔ Writable number text ends size fill n
-  unfolding writeAnswer
+  pub written-exactly : (answerUnder rules number text ends size fill ≡ Written n) ↔ Writable rules number text ends size fill n
+  unfolding answerUnder
   written-exactly = (λ e. wrote (recordNumbered number) refl e, writable)
 
 -- the bytes at the fill of an output that was written
@@ -127,30 +133,45 @@ there out line fill n h e =
     in
     rw cut (take-at line (drop (fill + length line) out) n (sym e))
 
-rendered-back : (kind : Record) (fs : List (List ℕ)) → LineOk profile kind fs → ReadsBack kind fs (render kind fs)
-rendered-back kind fs g =
+-- told a version, a line is read and a field found under its rules
+read-under : (told : ℕ) (version : Version) (s : List ℕ) (at : ℕ) → versionNumbered told ≡ Either version →
+    readAnswer told s at ≡ lineAnswer (alone (profile version)) s at
+unfolding readAnswer
+read-under told version s at e = rw e
+
+find-under : (told : ℕ) (version : Version) (s : List ℕ) (at n : ℕ) → versionNumbered told ≡ Either version →
+    findAnswer told s at n ≡ fieldAnswer (profile version) s at n
+unfolding findAnswer
+find-under told version s at n e = rw e
+
+rendered-back : (told : ℕ) (version : Version) → versionNumbered told ≡ Either version → (kind : Record) (fs : List (List ℕ)) →
+    LineOk (profile version) kind fs → ReadsBack told version kind fs (render kind fs)
+rendered-back told version et kind fs g =
     record {
       allowed = g;
       rendered = refl;
-      read = render-accepted sound kind fs g;
+      read = read-under told version (render kind fs) 0 et ∙ render-accepted (sound version) kind fs g;
       found = λ n h l.
-          let r = render-reads sound kind fs g in
+          let r = render-reads (sound version) kind fs g in
           let f = found r n h l in
-          (_, (f, field-exactly r n _ (length (fieldNo fs n)) .0 f .there));
+          (_, (find-under told version (render kind fs) 0 n et ∙ f, field-exactly r n _ (length (fieldNo fs n)) .0 f .there));
     }
 
 -- what was written, read by itself, is the line of the record with that number and of the fields that were handed over
 pub reads-back :
-    (number : ℕ) (text ends out : List ℕ) (fill n : ℕ) (after : List ℕ) → Writes number text ends out fill (Written n) after →
-    (kind : Record) × ((recordNumbered number ≡ Known kind) × ((length (take n (drop fill after)) ≡ n) ×
-    ReadsBack kind (between text ends) (take n (drop fill after))))
-unfolding writtenTo
-reads-back number text ends out fill n after g =
-    let w = written-exactly number text ends (length out) fill n .0 (sym (g .0)) in
+    (told number : ℕ) (text ends out : List ℕ) (fill n : ℕ) (after : List ℕ) → Writes told number text ends out fill (Written n) after →
+    UnderVersion told (λ version. (kind : Record) × ((recordNumbered number ≡ Known kind) × ((length (take n (drop fill after)) ≡ n) ×
+    ReadsBack told version kind (between text ends) (take n (drop fill after)))))
+unfolding writtenTo writeAnswer
+reads-back told number text ends out fill n after g =
+    let u = under-passes told Refused (λ version. answerUnder (profile version) number text ends (length out) fill) (Written n)
+    (no-pass writeVerdict refl refl) (sym (g .0)) in
+    let w = written-exactly (profile (u .0)) number text ends (length out) fill n .0 (u .1 .1) in
     let line = render (w .kind) (between text ends) in
     let e : after ≡ written out fill line = g .1 ∙ ap (λ (nd : Named). writtenTo (Written n) nd (between text ends) out fill) (w .known) in
     let t : take n (drop fill after) ≡ line = ap (λ (l : List ℕ). take n (drop fill l)) e ∙ there out line fill n (w .fits) (w .long) in
-    (w .kind, (w .known, (ap length t ∙ sym (w .long), rw t (rendered-back (w .kind) (between text ends) (w .allowed)))))
+    let back = rendered-back told (u .0) (u .1 .0) (w .kind) (between text ends) (w .allowed) in
+    (u .0, (u .1 .0, (w .kind, (w .known, (ap length t ∙ sym (w .long), rw t back)))))
 
 -- a caller's text and ends give the fields back
 fields-again : (start : ℕ) (front : List ℕ) (fs : List (List ℕ)) → length front ≡ start →
@@ -183,19 +204,21 @@ handed-ends fs = ends-rise (length (inOne fs)) 0 fs (omega arith)
 
 -- a line that stands in a file, its fields handed to the writer, is written with its own bytes
 pub writes-again :
-    {due : Due} {s : List ℕ} {at : ℕ} {line : Line} {fs : List (List ℕ)} → Reads (record { rules = profile; due = due }) s at line fs →
+    {version : Version} {due : Due} {s : List ℕ} {at : ℕ} {line : Line} {fs : List (List ℕ)} →
+    Reads (record { rules = profile version; due = due }) s at line fs → (told : ℕ) → versionNumbered told ≡ Either version →
     (number : ℕ) (out : List ℕ) (fill : ℕ) → recordNumbered number ≡ Known (line .kind) → fill + (line .next - at) ≤ length out →
-    (answer : WriteAnswer) (after : List ℕ) → Writes number (inOne fs) (endsFrom 0 fs) out fill answer after →
+    (answer : WriteAnswer) (after : List ℕ) → Writes told number (inOne fs) (endsFrom 0 fs) out fill answer after →
     (answer ≡ Written (line .next - at)) × (after ≡ written out fill (take (line .next - at) (drop at s)))
-unfolding writtenTo
-writes-again {s = s} {at = at} {line = line} {fs = fs} g number out fill k h answer after w =
+unfolding writtenTo writeAnswer
+writes-again {version = version} {s = s} {at = at} {line = line} {fs = fs} g told et number out fill k h answer after w =
     let n : line .next - at ≡ length (render (line .kind) fs) = omega (arith, g .next) in
     let e : between (inOne fs) (endsFrom 0 fs) ≡ fs = handed-over fs in
-    let u : Writable number (inOne fs) (endsFrom 0 fs) (length out) fill (length (render (line .kind) fs)) =
+    let u : Writable (profile version) number (inOne fs) (endsFrom 0 fs) (length out) fill (length (render (line .kind) fs)) =
     record { kind = line .kind; known = k; held = handed-ends fs; allowed = rw e (g .allowed); fits = rw e (omega (arith, n)); long = rw e }
     in
     let a : answer ≡ Written (length (render (line .kind) fs)) =
-    w .0 ∙ written-exactly number (inOne fs) (endsFrom 0 fs) (length out) fill (length (render (line .kind) fs)) .1 u in
+    w .0 ∙ under-is told Refused (λ v. answerUnder (profile v) number (inOne fs) (endsFrom 0 fs) (length out) fill) version et
+    ∙ written-exactly (profile version) number (inOne fs) (endsFrom 0 fs) (length out) fill (length (render (line .kind) fs)) .1 u in
     let own : take (line .next - at) (drop at s) ≡ render (line .kind) fs =
     rw (g .stands) (take-at (render (line .kind) fs) (g .rest) (line .next - at) (sym n)) in
     let b : after ≡ written out fill (render (line .kind) fs) =

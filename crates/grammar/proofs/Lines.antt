@@ -15,7 +15,6 @@ use Rattle.text.proofs.Runs.{run-once}
 use Rattle.forms.specs.Shape.{digits}
 use Rattle.fields.specs.Record.{typeOf, mayCome}
 use Rattle.fields.specs.Profile.{Rules}
-use Rattle.fields.specs.declared.record.Due.{Due}
 use Rattle.fields.specs.declared.record.Record.{Record}
 use Rattle.fields.specs.declared.record.Record.the-variants.{Parcel}
 use Rattle.fields.proofs.Types.{type-long, type-tells}
@@ -137,12 +136,20 @@ reads-alone g = record {
 }
 
 -- at one offset stands one line with one list of fields, whatever is due
-pub one-reading : {rules : Rules} {due late : Due} {s : List ℕ} {at : ℕ} {line other : Line} {fs gs : List (List ℕ)} →
-    Reads (record { rules = rules; due = due }) s at line fs →
-    Reads (record { rules = rules; due = late }) s at other gs → (line ≡ other) × (fs ≡ gs)
-one-reading g h =
-    let e = sym (reads-accepted (reads-alone g)) ∙ reads-accepted (reads-alone h) in
-    (cc, sym (read-fields g) ∙ read-fields h)
+abbrev made : Record → ℕ → ℕ → Line
+made kind count next = record { kind = kind; count = count; next = next }
+
+pub one-reading : {told other-told : Told} {s : List ℕ} {at : ℕ} {line other : Line} {fs gs : List (List ℕ)} → Reads told s at line fs →
+    Reads other-told s at other gs → (line ≡ other) × (fs ≡ gs)
+one-reading {at = at} {line = line} {other = other} {fs = fs} {gs = gs} g h =
+    let o = one-line (line .kind) (other .kind) fs gs (g .rest) (h .rest) (g .allowed) (h .allowed) (sym (g .stands) ∙ h .stands) in
+    let bytes : render (line .kind) fs ≡ render (other .kind) gs = rw (o .0, o .1 .0) in
+    (same (o .0) (g .count ∙ ap length (o .1 .0) ∙ sym (h .count)) (g .next ∙ ap (λ (b : List ℕ). at + length b) bytes ∙ sym (h .next)), o .1 .0)
+  where
+    same : line .kind ≡ other .kind → line .count ≡ other .count → line .next ≡ other .next → line ≡ other
+    same k c n =
+        ap (λ (x : Record). made x (line .count) (line .next)) k ∙ ap (λ (x : ℕ). made (other .kind) x (line .next)) c
+        ∙ ap (made (other .kind) (other .count)) n
 
 -- "040: 1 R 22 digits"
 pub parcel-code : {rules : Rules} → Sound rules → (kind : Record) (fs : List (List ℕ)) → kind ≡ Parcel → LineOk rules kind fs →

@@ -7,7 +7,8 @@ use lib.ListN.{length}
 use Rattle.text.specs.Choice.{if_then_else_}
 use Rattle.refusal.specs.Table.{because, verdictOf, Verdict}
 use Rattle.refusal.specs.declared.Reason.the-variants.{NotThere}
-use Rattle.fields.specs.Profile.{Rules}
+use Rattle.fields.specs.Profile.{Rules, profile}
+use Rattle.fields.specs.Version.{versionNumbered, underVersion}
 use Rattle.line.specs.Parts.{startOf, partAt}
 use Rattle.line.specs.Line.{textAt, alone, lineAnswer}
 use Rattle.line.specs.declared.read.LineAnswer.{LineAnswer}
@@ -28,6 +29,10 @@ inLine (Accepted line) file offset n =
 
 unfoldable pub fieldAnswer : Rules → List ℕ → ℕ → ℕ → FieldAnswer
 fieldAnswer rules file offset n = inLine (lineAnswer (alone rules) file offset) file offset n
+
+-- "Line calls are told the version"
+unfoldable pub findAnswer : ℕ → List ℕ → ℕ → ℕ → FieldAnswer
+findAnswer version file offset n = underVersion (versionNumbered version) Refused (λ told. fieldAnswer (profile told) file offset n)
 
 -- the paper's number and place for each answer
 abbrev pub fieldVerdict : FieldAnswer → Verdict

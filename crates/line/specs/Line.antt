@@ -10,7 +10,8 @@ use Rattle.text.specs.Quoted.{bytes}
 use Rattle.text.specs.Scan.{firstFailing, same}
 use Rattle.refusal.specs.Table.{because, verdictOf, Verdict}
 use Rattle.refusal.specs.declared.Reason.the-variants.{FileTooLong, NoLineEnd, UnknownRecord, OutOfOrder, FieldCount, FeatureLacks}
-use Rattle.fields.specs.Profile.{Rules}
+use Rattle.fields.specs.Profile.{Rules, profile}
+use Rattle.fields.specs.Version.{versionNumbered, underVersion}
 use Rattle.fields.specs.Record.{named, countFits, mayCome}
 use Rattle.fields.specs.declared.record.Record.{Record}
 use Rattle.fields.specs.declared.record.Named.{Named}
@@ -83,6 +84,10 @@ onText (Ends end) told file offset = ofText told offset (take (end - offset) (dr
 
 unfoldable pub lineAnswer : Told → List ℕ → ℕ → LineAnswer
 lineAnswer told file offset = onText (textAnswer file offset) told file offset
+
+-- "Line calls are told the version"
+unfoldable pub readAnswer : ℕ → List ℕ → ℕ → LineAnswer
+readAnswer version file offset = underVersion (versionNumbered version) Refused (λ told. lineAnswer (alone (profile told)) file offset)
 
 -- the paper's number and place for each answer
 abbrev pub textVerdict : TextAnswer → Verdict

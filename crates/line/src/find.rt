@@ -4,11 +4,14 @@ ghost use Prim.Native.Nat.{_+_, _≤_};
 ghost use lib.ListN.{length};
 ghost use Rattle.fields.specs.Profile.{profile};
 ghost use Rattle.line.specs.Parts.{startOf, partAt};
-ghost use Rattle.line.specs.Find.{handedOn, fieldAnswer};
+ghost use Rattle.line.specs.Find.{handedOn, fieldAnswer, findAnswer};
 ghost use Rattle.line.specs.Line.{fileLimit};
 use crate::part;
 use crate::read;
 use crate::read::LineAnswer;
+use fields::Due;
+use fields::Version;
+use fields::VersionTold;
 use refusal::Reason;
 use refusal::Refusal;
 
@@ -17,11 +20,25 @@ pub enum FieldAnswer {
     Refused(Refusal),
 }
 
-// Finds the field with this number of the line that starts here.
-pub fn find_field(file: &[u8], offset: usize, number: usize) -> FieldAnswer
-    ensures { λ r. ⌜ r ≡ fieldAnswer (profile) (now (file .entry)) offset number ⌝ }
+// Finds the field with this number of the line that starts here, under the rules of the version with its number.
+pub fn find_field(version: u32, file: &[u8], offset: usize, number: usize) -> FieldAnswer
+    ensures { λ r. ⌜ r ≡ findAnswer version (now (file .entry)) offset number ⌝ }
 {
-    let answer = read::read_line(file, offset);
+    let told = fields::version_numbered(version);
+    let VersionTold::Either(one) = told else {
+        return FieldAnswer::Refused(Refusal {
+            why: Reason::UnknownVersion,
+            place: 0,
+        });
+    };
+    find_under(one, file, offset, number)
+}
+
+// The same under a version's rules.
+fn find_under(version: Version, file: &[u8], offset: usize, number: usize) -> FieldAnswer
+    ensures { λ r. ⌜ r ≡ fieldAnswer (profile version) (now (file .entry)) offset number ⌝ }
+{
+    let answer = read::judge_line(version, Due::Any, file, offset);
     let LineAnswer::Accepted(line) = answer else {
         return refusal_of(answer);
     };

@@ -4,7 +4,7 @@ ghost use Prim.Native.Nat.{_+_, _≤_};
 ghost use lib.ListN.{length};
 ghost use Rattle.fields.specs.Profile.{profile};
 ghost use Rattle.line.specs.Parts.{nameOf, fieldsOf};
-ghost use Rattle.line.specs.Line.{ofText, ofKind, afterWalk, alone, fileLimit, lineAnswer};
+ghost use Rattle.line.specs.Line.{ofText, ofKind, afterWalk, fileLimit, lineAnswer, readAnswer};
 use crate::need;
 use crate::part::field_in;
 use crate::scan;
@@ -14,6 +14,8 @@ use crate::walk::Walk;
 use fields::Due;
 use fields::Named;
 use fields::Record;
+use fields::Version;
+use fields::VersionTold;
 use refusal::Reason;
 use refusal::Refusal;
 
@@ -29,28 +31,35 @@ pub enum LineAnswer {
     Refused(Refusal),
 }
 
-// Judges the line that starts here, alone.
-pub fn read_line(file: &[u8], offset: usize) -> LineAnswer
-    ensures { λ r. ⌜ r ≡ lineAnswer (alone (profile)) (now (file .entry)) offset ⌝ }
+// Judges the line that starts here, alone, under the rules of the version with this number.
+pub fn read_line(version: u32, file: &[u8], offset: usize) -> LineAnswer
+    ensures { λ r. ⌜ r ≡ readAnswer version (now (file .entry)) offset ⌝ }
 {
-    judge_line(Due::Any, file, offset)
+    let told = fields::version_numbered(version);
+    let VersionTold::Either(one) = told else {
+        return LineAnswer::Refused(Refusal {
+            why: Reason::UnknownVersion,
+            place: 0,
+        });
+    };
+    judge_line(one, Due::Any, file, offset)
 }
 
-// Judges the line that starts here, where this record is due.
-pub fn judge_line(due: Due, file: &[u8], offset: usize) -> LineAnswer
-    ensures { λ r. ⌜ r ≡ lineAnswer (record { rules = profile; due = due }) (now (file .entry)) offset ⌝ }
+// Judges the line that starts here, under a version's rules and where this record is due.
+pub fn judge_line(version: Version, due: Due, file: &[u8], offset: usize) -> LineAnswer
+    ensures { λ r. ⌜ r ≡ lineAnswer (record { rules = profile version; due = due }) (now (file .entry)) offset ⌝ }
 {
     let answer = scan::find_text(file, offset);
     match answer {
-        TextAnswer::Ends(end) => of_text(due, offset, &file[offset..end]),
+        TextAnswer::Ends(end) => of_text(version, due, offset, &file[offset..end]),
         TextAnswer::Refused(refusal) => LineAnswer::Refused(refusal),
     }
 }
 
 // The text of a line that starts at this place and ends well.
-fn of_text(due: Due, offset: usize, line: &[u8]) -> LineAnswer
+fn of_text(version: Version, due: Due, offset: usize, line: &[u8]) -> LineAnswer
     requires { ⌜ offset + length (now line) ≤ fileLimit ⌝ }
-    ensures { λ r. ⌜ r ≡ ofText (record { rules = profile; due = due }) offset (now (line .entry)) ⌝ }
+    ensures { λ r. ⌜ r ≡ ofText (record { rules = profile version; due = due }) offset (now (line .entry)) ⌝ }
 {
     let name = field_in(line, 0);
     let named = fields::record_named(name);
@@ -66,13 +75,13 @@ fn of_text(due: Due, offset: usize, line: &[u8]) -> LineAnswer
             place: offset,
         });
     }
-    of_kind(kind, offset, line, name.len())
+    of_kind(version, kind, offset, line, name.len())
 }
 
 // The text of a line of a record that may come, whose type is so long.
-fn of_kind(kind: Record, offset: usize, line: &[u8], name: usize) -> LineAnswer
+fn of_kind(version: Version, kind: Record, offset: usize, line: &[u8], name: usize) -> LineAnswer
     requires { ⌜ (name ≡ length (nameOf (now line))) × (offset + length (now line) ≤ fileLimit) ⌝ }
-    ensures { λ r. ⌜ r ≡ ofKind (profile) kind offset (now (line .entry)) ⌝ }
+    ensures { λ r. ⌜ r ≡ ofKind (profile version) kind offset (now (line .entry)) ⌝ }
 {
     let count = scan::field_count(line);
     if !fields::count_fits(kind, count) {
@@ -81,7 +90,7 @@ fn of_kind(kind: Record, offset: usize, line: &[u8], name: usize) -> LineAnswer
             place: offset,
         });
     }
-    let walked = walk::walk_fields(kind, line, offset, name);
+    let walked = walk::walk_fields(version, kind, line, offset, name);
     after_walk(walked, kind, count, offset, line)
 }
 

@@ -9,6 +9,7 @@ ghost use Rattle.line.specs.Line.{fileLimit};
 use crate::scan::field_end;
 use fields::Record;
 use fields::Tested;
+use fields::Version;
 use refusal::Refusal;
 
 pub enum Walk {
@@ -18,9 +19,9 @@ pub enum Walk {
 
 // Tests the fields of a line that starts at the place at and whose record type is so long. Beside a field stands the part in front
 // of it.
-pub fn walk_fields(kind: Record, line: &[u8], offset: usize, name: usize) -> Walk
+pub fn walk_fields(version: Version, kind: Record, line: &[u8], offset: usize, name: usize) -> Walk
     requires { ⌜ (name ≡ length (nameOf (now line))) × (offset + length (now line) ≤ fileLimit) ⌝ }
-    ensures { λ r. ⌜ r ≡ walk (profile kind) 1 (offset + length (nameOf (now (line .entry))) + 1)
+    ensures { λ r. ⌜ r ≡ walk (profile version kind) 1 (offset + length (nameOf (now (line .entry))) + 1)
         (nameOf (now (line .entry))) (fieldsOf (now (line .entry))) ⌝ }
 {
     let mut number: usize = 1;
@@ -28,7 +29,13 @@ pub fn walk_fields(kind: Record, line: &[u8], offset: usize, name: usize) -> Wal
     let mut start = name + 1;
     while start <= line.len() {
         let end = field_end(line, start);
-        let tested = fields::test_field(kind, number, &line[beside..start - 1], &line[start..end]);
+        let tested = fields::test_field(
+            version,
+            kind,
+            number,
+            &line[beside..start - 1],
+            &line[start..end],
+        );
         if let Tested::Bad(why) = tested {
             return Walk::Stopped(Refusal {
                 why,

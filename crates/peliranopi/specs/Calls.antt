@@ -11,9 +11,8 @@ use Rattle.check_characters.specs.Wedge.{nextCarry, carryVerdict}
 use Rattle.check_characters.specs.Iban.{checkedIban}
 use Rattle.check_characters.specs.Identcode.{checkDigitOf, checkedIdentcode, partsAnswer, issueIdentcodeAnswer, partsVerdict}
 use Rattle.check_characters.specs.declared.answer.IssueAnswer.{IssueAnswer}
-use Rattle.fields.specs.Profile.{profile}
-use Rattle.line.specs.Line.{lineAnswer, lineVerdict, alone}
-use Rattle.line.specs.Find.{fieldAnswer, fieldVerdict}
+use Rattle.line.specs.Line.{readAnswer, lineVerdict}
+use Rattle.line.specs.Find.{findAnswer, fieldVerdict}
 use Rattle.file.specs.Lent.{Lent}
 use Rattle.file.specs.File.{judged, listOf, fileVerdict}
 use Rattle.writer.specs.Write.{recordNumbered, between, writeAnswer, writtenTo, writeVerdict}
@@ -33,23 +32,23 @@ JudgeTells file lent number lines parcels cents place list =
     × (lines ≡ linesTold (said .answer)) × (parcels ≡ parcelsTold (said .answer)) × (cents ≡ centsTold (said .answer))
     × (list ≡ listOf (lent .words) (said .starts))
 
--- reading the line at an offset
-abbrev pub LineTells : List ℕ → ℕ → ℕ → ℕ → ℕ → ℕ → ℕ → Type 0
-LineTells file offset number kind fields next place =
-    let answer = lineAnswer (alone profile) file offset in
+-- reading the line at an offset, told a version
+abbrev pub LineTells : ℕ → List ℕ → ℕ → ℕ → ℕ → ℕ → ℕ → ℕ → Type 0
+LineTells version file offset number kind fields next place =
+    let answer = readAnswer version file offset in
     Tells (lineVerdict answer) number place
     × (kind ≡ recordTold answer) × (fields ≡ countTold answer) × (next ≡ nextTold answer)
 
 -- finding a field of it
-abbrev pub FieldTells : List ℕ → ℕ → ℕ → ℕ → ℕ → ℕ → ℕ → Type 0
-FieldTells file offset field number start long place =
-    let answer = fieldAnswer profile file offset field in
+abbrev pub FieldTells : ℕ → List ℕ → ℕ → ℕ → ℕ → ℕ → ℕ → ℕ → Type 0
+FieldTells version file offset field number start long place =
+    let answer = findAnswer version file offset field in
     Tells (fieldVerdict answer) number place × (start ≡ startTold answer) × (long ≡ lengthTold answer)
 
--- writing a line into an output from its fill on
-abbrev pub WriteTells : ℕ → List ℕ → List ℕ → List ℕ → ℕ → ℕ → ℕ → ℕ → List ℕ → Type 0
-WriteTells kind text ends output fill number bytes place after =
-    let answer = writeAnswer kind text ends (length output) fill in
+-- writing a line into an output from its fill on, told a version
+abbrev pub WriteTells : ℕ → ℕ → List ℕ → List ℕ → List ℕ → ℕ → ℕ → ℕ → ℕ → List ℕ → Type 0
+WriteTells version kind text ends output fill number bytes place after =
+    let answer = writeAnswer version kind text ends (length output) fill in
     Tells (writeVerdict answer) number place
     × (bytes ≡ writtenTold answer)
     × (after ≡ writtenTo answer (recordNumbered kind) (between text ends) output fill)

@@ -10,6 +10,7 @@ use writer::WriteAnswer;
 
 #[no_mangle]
 pub extern "C" fn peliranopi_read_line(
+    version: u32,
     file: &[u8],
     offset: usize,
     kind: &mut u32,
@@ -17,9 +18,9 @@ pub extern "C" fn peliranopi_read_line(
     next: &mut usize,
     place: &mut usize,
 ) -> u32
-    ensures { λ r. ⌜ LineTells (now (file .entry)) offset r (now (kind .exit)) (now (fields .exit)) (now (next .exit)) (now (place .exit)) ⌝ }
+    ensures { λ r. ⌜ LineTells version (now (file .entry)) offset r (now (kind .exit)) (now (fields .exit)) (now (next .exit)) (now (place .exit)) ⌝ }
 {
-    let answer = line::read_line(file, offset);
+    let answer = line::read_line(version, file, offset);
     match answer {
         LineAnswer::Accepted(line) => {
             let which = line.kind;
@@ -39,6 +40,7 @@ pub extern "C" fn peliranopi_read_line(
 
 #[no_mangle]
 pub extern "C" fn peliranopi_find_field(
+    version: u32,
     file: &[u8],
     offset: usize,
     number: usize,
@@ -46,9 +48,9 @@ pub extern "C" fn peliranopi_find_field(
     long: &mut usize,
     place: &mut usize,
 ) -> u32
-    ensures { λ r. ⌜ FieldTells (now (file .entry)) offset number r (now (start .exit)) (now (long .exit)) (now (place .exit)) ⌝ }
+    ensures { λ r. ⌜ FieldTells version (now (file .entry)) offset number r (now (start .exit)) (now (long .exit)) (now (place .exit)) ⌝ }
 {
-    let answer = line::find_field(file, offset, number);
+    let answer = line::find_field(version, file, offset, number);
     match answer {
         FieldAnswer::Found {
             start: from,
@@ -68,6 +70,7 @@ pub extern "C" fn peliranopi_find_field(
 
 #[no_mangle]
 pub extern "C" fn peliranopi_write_line(
+    version: u32,
     kind: u32,
     text: &[u8],
     ends: &[usize],
@@ -76,10 +79,10 @@ pub extern "C" fn peliranopi_write_line(
     written: &mut usize,
     place: &mut usize,
 ) -> u32
-    ensures { λ r. ⌜ WriteTells kind (now (text .entry)) (now (ends .entry)) (now (output .entry)) fill r
+    ensures { λ r. ⌜ WriteTells version kind (now (text .entry)) (now (ends .entry)) (now (output .entry)) fill r
         (now (written .exit)) (now (place .exit)) (now (output .exit)) ⌝ }
 {
-    let answer = writer::write_line(kind, text, ends, output, fill);
+    let answer = writer::write_line(version, kind, text, ends, output, fill);
     match answer {
         WriteAnswer::Written(bytes) => {
             *written = bytes;

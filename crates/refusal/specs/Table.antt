@@ -23,6 +23,7 @@ use Rattle.refusal.specs.declared.Reason.the-variants.{
   WrongCheck,
   ContactMissing,
   CountriesOdd,
+  UnknownVersion,
 }
 
 abbrev pub numberOf : Reason → ℕ
@@ -66,6 +67,8 @@ numberOf WrongCheck = 18
 numberOf ContactMissing = 19
 -- "the list's length is odd"
 numberOf CountriesOdd = 20
+-- document 02, request 5: "a line call told neither 5 nor 7"
+numberOf UnknownVersion = 22
 
 -- "Given when", and "Place": why, and where
 abbrev pub because : Reason → ℕ → Refusal

@@ -23,6 +23,7 @@ pub enum Reason {
     WrongCheck,
     ContactMissing,
     CountriesOdd,
+    UnknownVersion,
 }
 
 pub struct Refusal {
@@ -55,5 +56,6 @@ pub fn number(why: Reason) -> u32
         Reason::WrongCheck => 18,
         Reason::ContactMissing => 19,
         Reason::CountriesOdd => 20,
+        Reason::UnknownVersion => 22,
     }
 }

@@ -7,7 +7,8 @@ use lib.ListN.{length, drop, length-append}
 use lib.Seq.{drop-append-seam}
 use Rattle.text.proofs.Choices.{or-neither}
 use Rattle.fields.specs.Record.{mayCome}
-use Rattle.fields.specs.Profile.{profile}
+use Rattle.fields.specs.Profile.{Rules, profile}
+use Rattle.file.specs.Version.{versionOf}
 use Rattle.fields.specs.declared.record.Due.{Due}
 use Rattle.fields.specs.declared.record.Due.the-variants.{First, After}
 use Rattle.grammar.specs.Grammar.{LineOk}
@@ -42,9 +43,10 @@ pub due-more : (due : Due) (ls : List FileLine) (l : FileLine) → dueBehind due
 due-more due [] l = refl
 due-more due (k ∷ ls) l = due-more (After (k .kind)) ls l
 
-lines-more : (ls : List FileLine) (l : FileLine) → LinesOk ls → LineOk profile (l .kind) (l .fields) → LinesOk (ls ++ (l ∷ []))
-lines-more [] l a g = (g, tt)
-lines-more (k ∷ ls) l a g = (a .0, lines-more ls l (a .1) g)
+lines-more : (rules : Rules) (ls : List FileLine) (l : FileLine) → LinesOk rules ls → LineOk rules (l .kind) (l .fields) →
+    LinesOk rules (ls ++ (l ∷ []))
+lines-more rules [] l a g = (g, tt)
+lines-more rules (k ∷ ls) l a g = (a .0, lines-more rules ls l (a .1) g)
 
 come-more : (due : Due) (ls : List FileLine) (l : FileLine) → Come due ls → mayCome (dueBehind due ls) (l .kind) ≡ true →
     Come due (ls ++ (l ∷ []))
@@ -65,7 +67,7 @@ begins-more countries s ls l left n =
       in-limit = b .in-limit;
       paired = b .paired;
       there = b .there ∙ sym (bytes-more ls l left);
-      lines = lines-more ls l (b .lines) (n .follows .ok);
+      lines = lines-more (profile (versionOf s)) ls l (b .lines) (n .follows .ok);
       order = come-more First ls l (b .order) (n .follows .comes);
       codes = subst NoneTwice (sym (codes-more ls l)) (none-more (l .kind) (l .fields) (identcodes ls) (b .codes) (n .fresh));
       contacts =
@@ -74,13 +76,13 @@ begins-more countries s ls l left n =
     }
 
 -- a line in the middle
-lines-front : (ls ks : List FileLine) → LinesOk (ls ++ ks) → LinesOk ls
-lines-front [] ks a = tt
-lines-front (l ∷ ls) ks a = (a .0, lines-front ls ks (a .1))
+lines-front : (rules : Rules) (ls ks : List FileLine) → LinesOk rules (ls ++ ks) → LinesOk rules ls
+lines-front rules [] ks a = tt
+lines-front rules (l ∷ ls) ks a = (a .0, lines-front rules ls ks (a .1))
 
-lines-at : (ls : List FileLine) (l : FileLine) (ks : List FileLine) → LinesOk (ls ++ l ∷ ks) → LineOk profile (l .kind) (l .fields)
-lines-at [] l ks a = a .0
-lines-at (k ∷ ls) l ks a = lines-at ls l ks (a .1)
+lines-at : (rules : Rules) (ls : List FileLine) (l : FileLine) (ks : List FileLine) → LinesOk rules (ls ++ l ∷ ks) → LineOk rules (l .kind) (l .fields)
+lines-at rules [] l ks a = a .0
+lines-at rules (k ∷ ls) l ks a = lines-at rules ls l ks (a .1)
 
 come-front : (due : Due) (ls ks : List FileLine) → Come due (ls ++ ks) → Come due ls
 come-front due [] ks a = tt
@@ -110,12 +112,12 @@ next-at countries s ls l ks left b =
               b .there ∙ ap (λ (r : List ℕ). r ++ left) (bytes-append ls (l ∷ ks))
               ∙ append-assoc (fileBytes ls) (lineBytes l ++ fileBytes ks) left
               ∙ ap (λ (r : List ℕ). fileBytes ls ++ r) (append-assoc (lineBytes l) (fileBytes ks) left);
-          lines = lines-front ls (l ∷ ks) (b .lines);
+          lines = lines-front (profile (versionOf s)) ls (l ∷ ks) (b .lines);
           order = come-front First ls (l ∷ ks) (b .order);
           codes = none-front (identcodes ls) (identcodes (l ∷ ks)) none;
           contacts = asked-all countries ls (asked-front countries ls (l ∷ ks) true asked);
         };
-        ok = lines-at ls l ks (b .lines);
+        ok = lines-at (profile (versionOf s)) ls l ks (b .lines);
         comes = come-at First ls l ks (b .order);
       };
       reached = asked-at countries ls l ks true asked;

@@ -1,6 +1,6 @@
 -- The judge answers exactly what the file's own lines mean: every file is allowed or refused, never both, and refused in one way only.
 use Prim.Native.Nat.{ℕ, _≤_}
-use mathlib.Core.Path.{_≡_, refl, sym, ap, _∙_}
+use mathlib.Core.Path.{_≡_, refl, sym, ap, subst, _∙_}
 use mathlib.Core.Bool.{true}
 use mathlib.Core.List.{List, [], _∷_, append-nil}
 use mathlib.Core.Logic.{_⊎_, inl, inr, _↔_}
@@ -8,14 +8,18 @@ use lib.ListN.{length}
 use Rattle.refusal.specs.declared.Refusal.{Refusal}
 use Rattle.refusal.proofs.Verdicts.{no-pass}
 use Rattle.fields.specs.Record.{mayEnd}
+use Rattle.fields.specs.Profile.{profile}
+use Rattle.fields.specs.declared.version.Version.{Version}
 use Rattle.fields.specs.declared.record.Due.{Due}
 use Rattle.fields.specs.declared.record.Due.the-variants.{First, After}
 use Rattle.file.specs.Lent.{Lent}
+use Rattle.file.specs.Version.{versionOf}
 use Rattle.file.specs.File.{Judged, judged, listOf, Judges, fileVerdict}
 use Rattle.file.specs.declared.whole.FileAnswer.{FileAnswer}
 use Rattle.file.specs.declared.whole.FileAnswer.the-variants.{Accepted, Refused}
-use Rattle.allowed.specs.Allowed.{FileLine, fileBytes, AllowedFile, InOrder, totalsOf, lineStarts}
+use Rattle.allowed.specs.Allowed.{FileLine, fileBytes, LinesOk, AllowedFile, InOrder, totalsOf, lineStarts}
 use Rattle.allowed.proofs.Files.{accepted-allowed, allowed-accepted}
+use Rattle.allowed.proofs.Versions.{version-on, version-found}
 use Rattle.refused.specs.File.{Come, dueBehind, Begins, RefusedFile, Means}
 use Rattle.refused.proofs.Refusing.{judged-refused}
 use Rattle.refused.proofs.Reaching.{refused-judged}
@@ -78,20 +82,22 @@ allowed-begins countries s ls = (
       in-limit = a .in-limit;
       paired = a .paired;
       there = a .bytes ∙ sym (append-nil (fileBytes ls));
-      lines = a .lines;
+      lines = subst (λ (v : Version). LinesOk (profile v) ls) (sym (version-found a)) (a .lines);
       order = order-is First ls .0 (a .order) .0;
       codes = a .codes;
       contacts = a .contacts;
     },
     order-is First ls .0 (a .order) .1,
   ),
-  λ g. record {
-    paired = g .0 .paired;
-    bytes = g .0 .there ∙ append-nil (fileBytes ls);
-    in-limit = g .0 .in-limit;
-    lines = g .0 .lines;
-    order = order-is First ls .1 (g .0 .order, g .1);
-    codes = g .0 .codes;
-    contacts = g .0 .contacts;
-  },
+  λ g.
+      let order = order-is First ls .1 (g .0 .order, g .1) in
+      record {
+        paired = g .0 .paired;
+        bytes = g .0 .there ∙ append-nil (fileBytes ls);
+        in-limit = g .0 .in-limit;
+        lines = subst (λ (v : Version). LinesOk (profile v) ls) (sym (version-on (versionOf s) ls (g .0 .lines) order)) (g .0 .lines);
+        order = order;
+        codes = g .0 .codes;
+        contacts = g .0 .contacts;
+      },
 )

@@ -25,7 +25,7 @@ use Rattle.line.specs.declared.read.LineAnswer.{LineAnswer}
 use Rattle.line.specs.declared.read.LineAnswer.the-variants.{Accepted, Refused}
 use Rattle.line.specs.declared.find.FieldAnswer.{FieldAnswer}
 use Rattle.line.specs.declared.find.FieldAnswer.the-variants.{Found, Refused as NotFound}
-use Rattle.writer.specs.Write.{writeAnswer, writeVerdict}
+use Rattle.writer.specs.Write.{answerUnder, writeVerdict}
 use Rattle.writer.specs.declared.write.WriteAnswer.{WriteAnswer}
 use Rattle.writer.specs.declared.write.WriteAnswer.the-variants.{Written, Refused as NotWritten}
 use Rattle.grammar.specs.Grammar.{Reads, StandsInLine}
@@ -72,18 +72,18 @@ module _ (rules : Rules) (s : List ℕ) (at n : ℕ) where
   field-never-both start long refusal g r =
       no-pass fieldVerdict refl refl (sym (field-refused-exactly rules s at n refusal .1 r) ∙ found-exactly rules s at n start long .1 g)
 
-module _ (number : ℕ) (text ends : List ℕ) (size fill : ℕ) where
-  pub write-always-one : ((n : ℕ) × Writable number text ends size fill n) ⊎ ((refusal : Refusal) × RefusedWrite number text ends size fill refusal)
-  write-always-one = go (writeAnswer number text ends size fill) refl
+module _ (rules : Rules) (number : ℕ) (text ends : List ℕ) (size fill : ℕ) where
+  pub write-always-one : ((n : ℕ) × Writable rules number text ends size fill n) ⊎ ((refusal : Refusal) × RefusedWrite rules number text ends size fill refusal)
+  write-always-one = go (answerUnder rules number text ends size fill) refl
     where
-      go : (a : WriteAnswer) → writeAnswer number text ends size fill ≡ a →
-          ((n : ℕ) × Writable number text ends size fill n) ⊎ ((refusal : Refusal) × RefusedWrite number text ends size fill refusal)
-      go (Written n) e = inl (n, written-exactly number text ends size fill n .0 e)
-      go (NotWritten refusal) e = inr (refusal, answer-write number text ends size fill refusal e)
+      go : (a : WriteAnswer) → answerUnder rules number text ends size fill ≡ a →
+          ((n : ℕ) × Writable rules number text ends size fill n) ⊎ ((refusal : Refusal) × RefusedWrite rules number text ends size fill refusal)
+      go (Written n) e = inl (n, written-exactly rules number text ends size fill n .0 e)
+      go (NotWritten refusal) e = inr (refusal, answer-write rules number text ends size fill refusal e)
 
-  pub write-never-both : (n : ℕ) (refusal : Refusal) → Writable number text ends size fill n → RefusedWrite number text ends size fill refusal → ⊥
+  pub write-never-both : (n : ℕ) (refusal : Refusal) → Writable rules number text ends size fill n → RefusedWrite rules number text ends size fill refusal → ⊥
   write-never-both n refusal g r =
-      no-pass writeVerdict refl refl (sym (write-answer number text ends size fill refusal r) ∙ written-exactly number text ends size fill n .1 g)
+      no-pass writeVerdict refl refl (sym (write-answer rules number text ends size fill refusal r) ∙ written-exactly rules number text ends size fill n .1 g)
 
 module _ (s : List ℕ) where
   pub number-always-one : ((kind : Kind) × SoundNumber kind s) ⊎ ((refusal : Refusal) × RefusedNumber s refusal)

@@ -6,13 +6,16 @@ use mathlib.Core.List.{List, [], _∷_, _++_, append-nil}
 use Rattle.refusal.specs.declared.Refusal.{Refusal}
 use Rattle.countries.specs.List.{isPaired}
 use Rattle.fields.specs.declared.record.Record.the-variants.{Sender}
+use Rattle.fields.specs.Profile.{profile}
+use Rattle.fields.specs.declared.version.Version.{Version}
 use Rattle.file.specs.Lent.{Lent}
 use Rattle.file.specs.File.{Judges}
 use Rattle.file.specs.declared.whole.Totals.{Totals}
 use Rattle.file.specs.declared.whole.FileAnswer.{FileAnswer}
 use Rattle.file.specs.declared.whole.FileAnswer.the-variants.{Accepted, Refused}
-use Rattle.allowed.specs.Allowed.{FileLine, lineBytes, fileBytes, HasContacts, ContactsKept, AllowedFile, Accepts}
+use Rattle.allowed.specs.Allowed.{FileLine, lineBytes, fileBytes, LinesOk, HasContacts, ContactsKept, AllowedFile, Accepts}
 use Rattle.allowed.specs.Countries.{PartOf, AllReachable, SendersReachable}
+use Rattle.allowed.proofs.Versions.{version-found}
 use Rattle.allowed.proofs.Countries.{part-paired, kept-part, kept-reachable}
 use Rattle.text.proofs.Choices.{clash}
 use Rattle.refused.specs.File.{Begins, NextLine, Unreachable, RefusedFile, Means}
@@ -98,7 +101,8 @@ module _ (file countries others : List ℕ) (words : ℕ) (even : isPaired count
   means-with (Accepted totals) list g =
       accepts-with countries others file words totals list g paired
       (kept-reachable others (g .lines)
-      (reachable (g .lines) [] (g .allowed .bytes ∙ sym (append-nil (fileBytes (g .lines)))) (g .allowed .lines)))
+      (reachable (g .lines) [] (g .allowed .bytes ∙ sym (append-nil (fileBytes (g .lines))))
+      (subst (λ (v : Version). LinesOk (profile v) (g .lines)) (sym (version-found (g .allowed))) (g .allowed .lines))))
   means-with (Refused refusal) list g = (refused-with refusal (g .0), g .1)
 
   pub same-answer : (answer : FileAnswer) (list : List ℕ) → Judges file (lentWith countries words) answer list →

@@ -15,6 +15,7 @@ use Rattle.fields.specs.Record.{mayEnd}
 use Rattle.line.specs.Line.{fileLimit}
 use Rattle.countries.specs.List.{isPaired}
 use Rattle.file.specs.Lent.{Lent}
+use Rattle.file.specs.Version.{versionOf}
 use Rattle.file.specs.Step.{behind, onLine, toldBy, stepAnswer}
 use Rattle.file.specs.File.{Judged, begin, fileFrom, judged}
 use Rattle.file.specs.declared.step.State.{State}
@@ -37,7 +38,7 @@ module _ (s : List ℕ) (lent : Lent) where
     state : State
     enough : length s < turns + state .at
     here : Here s ls starts state
-    same : fileFrom (length s + 1) s lent [] begin ≡ fileFrom turns s lent starts state
+    same : fileFrom (length s + 1) s lent [] (begin (versionOf s)) ≡ fileFrom turns s lent starts state
 
   module _ (ls : List FileLine) (l : FileLine) (left : List ℕ) (n : Next (lent .countries) s ls l left) where
     reach-one : length ls < lent .words → Reached ls → Reached (ls ++ (l ∷ []))
@@ -51,7 +52,7 @@ module _ (s : List ℕ) (lent : Lent) where
         inner = before-end s ls (r .starts) (r .state) h lent l left (n .follows)
 
         go : (turns : ℕ) → length s < turns + r .state .at →
-            fileFrom (length s + 1) s lent [] begin ≡ fileFrom turns s lent (r .starts) (r .state) → Reached (ls ++ (l ∷ []))
+            fileFrom (length s + 1) s lent [] (begin (versionOf s)) ≡ fileFrom turns s lent (r .starts) (r .state) → Reached (ls ++ (l ∷ []))
         go zero enough same = absurd (omega (arith, inner))
         go (suc turns) enough same =
             record {
@@ -85,13 +86,13 @@ module _ (s : List ℕ) (lent : Lent) where
       (record {
         turns = length s + 1;
         starts = [];
-        state = begin;
+        state = begin (versionOf s);
         enough = omega arith;
-        here = record { place = refl; count = refl; next = refl; seen = λ at. refl; contacts = refl };
+        here = record { place = refl; count = refl; version = refl; next = refl; seen = λ at. refl; contacts = refl };
         same = refl;
       })
 
-  from-begin : length s ≤ fileLimit → isPaired (lent .countries) ≡ true → judged s lent ≡ fileFrom (length s + 1) s lent [] begin
+  from-begin : length s ≤ fileLimit → isPaired (lent .countries) ≡ true → judged s lent ≡ fileFrom (length s + 1) s lent [] (begin (versionOf s))
   unfolding judged
   from-begin in-limit paired = rw (le-ltb fileLimit (length s) in-limit, paired)
 
@@ -138,7 +139,7 @@ module _ (s : List ℕ) (lent : Lent) where
       let r = reached ls (lineBytes l ++ left) (f .begins) room in
       let h = r .here in
       let at-line = there s ls (r .starts) (r .state) h (lineBytes l ++ left) (f .begins) in
-      let t = repeats-code (l .kind) s (r .starts) (r .state .at) (identcodes ls) (l .fields) left (h .seen) k at-line (f .ok) ∙ e in
+      let t = repeats-code (versionOf s) (l .kind) s (r .starts) (r .state .at) (identcodes ls) (l .fields) left (h .seen) k at-line (f .ok) ∙ e in
       let p : r .state .at + 4 ≡ length (fileBytes ls ++ bytes "040;") = omega (arith, h .place, length-append (fileBytes ls) (bytes "040;")) in
       answer-there ls r (f .begins .in-limit) (f .begins .paired) (because IdentcodeRepeated (r .state .at + 4))
       (before-end s ls (r .starts) (r .state) h lent l left f)

@@ -22,10 +22,14 @@ use Rattle.line.specs.Line.{textAt, lineAnswer, fileLimit}
 use Rattle.line.specs.declared.read.Line.{Line}
 use Rattle.line.specs.declared.read.LineAnswer.{LineAnswer}
 use Rattle.line.specs.declared.read.LineAnswer.the-variants.{Accepted as AcceptedLine, Refused as RefusedAnswer}
-use Rattle.grammar.specs.Grammar.{Reads}
+use Rattle.grammar.specs.Grammar.{LineOk, Reads}
 use Rattle.grammar.proofs.Lines.{accepted-reads}
 use Rattle.countries.specs.List.{isPaired}
+use Rattle.fields.specs.Profile.{profile}
+use Rattle.fields.proofs.Rules.{sound}
+use Rattle.fields.specs.declared.version.Version.{Version}
 use Rattle.file.specs.Lent.{Lent}
+use Rattle.file.specs.Version.{versionOf}
 use Rattle.file.specs.Contact.{lacksContact}
 use Rattle.file.specs.Identcode.{repeats}
 use Rattle.file.specs.Step.{behind, hasWord, listing, onLine, toldBy, stepAnswer}
@@ -83,7 +87,7 @@ module _ (s : List ℕ) (lent : Lent) where
         follows =
             record {
               begins = subst (Begins (lent .countries) s ls) (sym (there s ls starts state h left b) ∙ g .stands) b;
-              ok = g .allowed;
+              ok = subst (λ (v : Version). LineOk (profile v) (line .kind) (l .fields)) (h .version) (g .allowed);
               comes = ap (λ (d : Due). mayCome d (l .kind)) (sym (h .next)) ∙ g .comes;
             }
 
@@ -106,7 +110,7 @@ module _ (s : List ℕ) (lent : Lent) where
             is (because IdentcodeRepeated (state .at + 4)) e
             (subst (λ (x : ℕ). RefusedFile s lent (because IdentcodeRepeated x)) p
             (RefusedFile.identcode-repeated ls l (g .rest) follows room k
-            (sym (repeats-code (line .kind) s starts (state .at) (identcodes ls) (l .fields) (g .rest) (h .seen) k (g .stands) (g .allowed)) ∙ r)))
+            (sym (repeats-code (state .version) (line .kind) s starts (state .at) (identcodes ls) (l .fields) (g .rest) (h .seen) k (g .stands) (g .allowed)) ∙ r)))
 
         module _ (reached : lacks ≡ false) (fresh : repeats (line .kind) s starts (state .at) ≡ false) where
           next : Next (lent .countries) s ls l (g .rest)
@@ -114,7 +118,7 @@ module _ (s : List ℕ) (lent : Lent) where
               record {
                 follows = follows;
                 reached = reached;
-                fresh = fresh-not s starts (identcodes ls) (state .at) (l .fields) (g .rest) (h .seen) (line .kind) (g .stands) (g .allowed) fresh;
+                fresh = fresh-not s starts (identcodes ls) (state .at) (l .fields) (g .rest) (h .seen) (sound (state .version)) (line .kind) (g .stands) (g .allowed) fresh;
               }
 
           full : lent .words ≤ state .lines → Refused (because ListFull (state .at)) ≡ Refused refusal → RefusedFile s lent refusal
@@ -196,11 +200,11 @@ module _ (s : List ℕ) (lent : Lent) where
         go : (t p : Bool) → ltb fileLimit (length s) ≡ t → isPaired (lent .countries) ≡ p →
             (if t then record { answer = Refused (because FileTooLong fileLimit); starts = [] }
             else (if not p then record { answer = Refused (because CountriesOdd 0); starts = [] }
-            else fileFrom (length s + 1) s lent [] begin)) .answer ≡ Refused refusal → RefusedFile s lent refusal
+            else fileFrom (length s + 1) s lent [] (begin (versionOf s)))) .answer ≡ Refused refusal → RefusedFile s lent refusal
         go true p t ep q = is (because FileTooLong fileLimit) q (RefusedFile.file-too-long (ltb-true fileLimit (length s) t))
         go false false t ep q = is (because CountriesOdd 0) q (RefusedFile.countries-odd (ltb-false fileLimit (length s) t) ep)
         go false true t ep q =
-            from-refused (length s + 1) [] s [] begin (omega arith)
+            from-refused (length s + 1) [] s [] (begin (versionOf s)) (omega arith)
             (record {
               in-limit = ltb-false fileLimit (length s) t;
               paired = ep;
@@ -210,4 +214,4 @@ module _ (s : List ℕ) (lent : Lent) where
               codes = tt;
               contacts = tt;
             }) (omega arith)
-            (record { place = refl; count = refl; next = refl; seen = λ at. refl; contacts = refl }) q
+            (record { place = refl; count = refl; version = refl; next = refl; seen = λ at. refl; contacts = refl }) q

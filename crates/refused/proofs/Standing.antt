@@ -10,10 +10,13 @@ use Rattle.refusal.specs.declared.Refusal.{Refusal}
 use Rattle.refusal.specs.declared.Reason.the-variants.{ContactMissing, IdentcodeRepeated, ListFull}
 use Rattle.fields.specs.Record.{typeOf, mayCome}
 use Rattle.fields.specs.Profile.{profile}
+use Rattle.fields.specs.declared.version.Version.{Version}
+use Rattle.file.specs.Version.{versionOf}
 use Rattle.fields.specs.declared.record.Record.{Record}
 use Rattle.fields.specs.declared.record.Record.the-variants.{Header, Sender, Shipment, Parcel, Product, Feature}
 use Rattle.fields.specs.declared.record.Due.{Due}
 use Rattle.fields.specs.declared.record.Due.the-variants.{First}
+use Rattle.fields.proofs.Rules.{sound}
 use Rattle.line.specs.Parts.{split, fieldNo}
 use Rattle.line.specs.Line.{textAt}
 use Rattle.line.specs.Render.{render}
@@ -40,6 +43,7 @@ use Rattle.refused.proofs.Beginning.{bytes-more, codes-more, due-more, 
 pub record Here (s : List ℕ) (ls : List FileLine) (starts : List ℕ) (state : State) : Type 0 where
   pub place : state .at ≡ length (fileBytes ls)
   pub count : state .lines ≡ length ls
+  pub version : state .version ≡ versionOf s
   pub next : state .due ≡ dueBehind First ls
   pub seen : Seen s starts (identcodes ls)
   pub contacts : state .contacts ≡ contactsAfter true ls
@@ -57,8 +61,10 @@ module _ (s : List ℕ) (ls : List FileLine) (starts : List ℕ) (state : State)
       ap (λ (parts : List (List ℕ)). lacksContact (line .kind) parts countries (state .contacts)) (read-parts g)
       ∙ ap (lacksContact (line .kind) (typeOf (line .kind) ∷ fs) countries) (h .contacts)
 
-  told-is : toldBy state ≡ toldBehind ls
-  told-is = ap (λ (d : Due). record { rules = profile; due = d }) (h .next)
+  told-is : toldBy state ≡ toldBehind s ls
+  told-is =
+      ap (λ (v : Version). record { rules = profile v; due = state .due }) (h .version)
+      ∙ ap (λ (d : Due). record { rules = profile (versionOf s); due = d }) (h .next)
 
   module _ {countries : List ℕ} (left : List ℕ) (b : Begins countries s ls left) where
     pub there : drop (state .at) s ≡ left
@@ -69,17 +75,17 @@ module _ (s : List ℕ) (ls : List FileLine) (starts : List ℕ) (state : State)
 
     -- what is refused as a line there
     pub line-here : (refusal : Refusal) → RefusedLine (toldBy state) (state .at) (drop (state .at) s) refusal →
-        RefusedLine (toldBehind ls) (length (fileBytes ls)) left refusal
+        RefusedLine (toldBehind s ls) (length (fileBytes ls)) left refusal
     line-here refusal r =
         let r₁ = subst (λ (t : Told). RefusedLine t (state .at) (drop (state .at) s) refusal) told-is r in
-        let r₂ = subst (λ (x : List ℕ). RefusedLine (toldBehind ls) (state .at) x refusal) there r₁ in
-        subst (λ (i : ℕ). RefusedLine (toldBehind ls) i left refusal) (h .place) r₂
+        let r₂ = subst (λ (x : List ℕ). RefusedLine (toldBehind s ls) (state .at) x refusal) there r₁ in
+        subst (λ (i : ℕ). RefusedLine (toldBehind s ls) i left refusal) (h .place) r₂
 
-    pub here-line : (refusal : Refusal) → RefusedLine (toldBehind ls) (length (fileBytes ls)) left refusal →
+    pub here-line : (refusal : Refusal) → RefusedLine (toldBehind s ls) (length (fileBytes ls)) left refusal →
         RefusedLine (toldBy state) (state .at) (drop (state .at) s) refusal
     here-line refusal r =
-        let r₁ = subst (λ (i : ℕ). RefusedLine (toldBehind ls) i left refusal) (sym (h .place)) r in
-        let r₂ = subst (λ (x : List ℕ). RefusedLine (toldBehind ls) (state .at) x refusal) (sym there) r₁ in
+        let r₁ = subst (λ (i : ℕ). RefusedLine (toldBehind s ls) i left refusal) (sym (h .place)) r in
+        let r₂ = subst (λ (x : List ℕ). RefusedLine (toldBehind s ls) (state .at) x refusal) (sym there) r₁ in
         subst (λ (t : Told). RefusedLine t (state .at) (drop (state .at) s) refusal) (sym told-is) r₂
 
   module _ (lent : Lent) (l : FileLine) (left : List ℕ) (f : NextLine (lent .countries) s ls l left) where
@@ -92,7 +98,7 @@ module _ (s : List ℕ) (ls : List FileLine) (starts : List ℕ) (state : State)
         record {
           in-limit = f .begins .in-limit;
           comes = ap (λ (d : Due). mayCome d (l .kind)) (h .next) ∙ f .comes;
-          allowed = f .ok;
+          allowed = subst (λ (v : Version). LineOk (profile v) (l .kind) (l .fields)) (sym (h .version)) (f .ok);
           rest = left;
           stands = stands;
           count = refl;
@@ -117,10 +123,11 @@ module _ (s : List ℕ) (ls : List FileLine) (starts : List ℕ) (state : State)
                 length-append (fileBytes (ls ++ (l ∷ []))) [],
               );
           count = omega (arith, h .count, length-append ls (l ∷ []));
+          version = h .version;
           next = sym (due-more First ls l);
           seen =
               subst (Seen s (starts ++ (state .at ∷ []))) (sym (codes-more ls l))
-              (seen-more s starts (identcodes ls) (state .at) (l .kind) (l .fields) left (h .seen) stands (f .ok));
+              (seen-more (sound (versionOf s)) s starts (identcodes ls) (state .at) (l .kind) (l .fields) left (h .seen) stands (f .ok));
           contacts =
               ap (λ (parts : List (List ℕ)). contactsBehind (l .kind) parts (state .contacts)) (read-parts reads)
               ∙ ap (contactsBehind (l .kind) (partsOf l)) (h .contacts) ∙ sym (after-more true ls l);
@@ -147,7 +154,7 @@ module _ (s : List ℕ) (ls : List FileLine) (starts : List ℕ) (state : State)
 
       module _ (fresh : Fresh (identcodes ls) (codesOn (l .kind) (l .fields))) where
         new : repeats (l .kind) s starts (state .at) ≡ false
-        new = not-fresh s starts (identcodes ls) (state .at) (l .fields) left (h .seen) (l .kind) stands (f .ok) fresh
+        new = not-fresh s starts (identcodes ls) (state .at) (l .fields) left (h .seen) (sound (versionOf s)) (l .kind) stands (f .ok) fresh
 
         pub step-full : lent .words ≤ state .lines → stepAnswer s lent starts state ≡ Stopped (because ListFull (state .at))
         unfolding stepAnswer onLine listing line-of
@@ -167,10 +174,10 @@ repeats-parcel Parcel s starts at e = refl
 repeats-parcel Product s starts at e = absurd (false≢true e)
 repeats-parcel Feature s starts at e = absurd (false≢true e)
 
-pub repeats-code : (kind : Record) (s starts : List ℕ) (at : ℕ) (codes fs : List (List ℕ)) (rest : List ℕ) → Seen s starts codes →
-    kind ≡ Parcel → drop at s ≡ render kind fs ++ rest → LineOk profile kind fs → repeats kind s starts at ≡ oneOfCodes (fieldNo fs 1) codes
+pub repeats-code : (version : Version) (kind : Record) (s starts : List ℕ) (at : ℕ) (codes fs : List (List ℕ)) (rest : List ℕ) → Seen s starts codes →
+    kind ≡ Parcel → drop at s ≡ render kind fs ++ rest → LineOk (profile version) kind fs → repeats kind s starts at ≡ oneOfCodes (fieldNo fs 1) codes
 unfolding repeats
-repeats-code kind s starts at codes fs rest seen k there ok =
+repeats-code version kind s starts at codes fs rest seen k there ok =
     ap (λ (x : Record). repeats x s starts at) k ∙ seen at
     ∙ ap (λ (c : List ℕ). oneOfCodes c codes)
-    (code-here s at fs rest (there ∙ ap (λ (x : Record). render x fs ++ rest) k) (subst (λ (x : Record). LineOk profile x fs) k ok))
+    (code-here (sound version) s at fs rest (there ∙ ap (λ (x : Record). render x fs ++ rest) k) (subst (λ (x : Record). LineOk (profile version) x fs) k ok))

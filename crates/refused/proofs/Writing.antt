@@ -16,7 +16,7 @@ use Rattle.refusal.specs.declared.Reason.{Reason}
 use Rattle.refusal.specs.declared.Reason.the-variants.{UnknownRecord, FieldEnds, FieldCount, FieldForm, FeatureLacks, OutputTooShort}
 use Rattle.refusal.proofs.Verdicts.{no-pass}
 use Rattle.fields.specs.Record.{typeOf, countFits}
-use Rattle.fields.specs.Profile.{Row, profile, widthOf, hasForm}
+use Rattle.fields.specs.Profile.{Row, Rules, profile, widthOf, hasForm}
 use Rattle.fields.specs.Field.{tested}
 use Rattle.fields.specs.declared.record.Record.{Record}
 use Rattle.fields.specs.declared.record.Record.the-variants.{Feature}
@@ -34,12 +34,14 @@ use Rattle.grammar.specs.Grammar.{FieldsOk}
 use Rattle.grammar.proofs.Needs.{lacks-not, lacks-feature, lacks-some}
 use Rattle.grammar.proofs.Back.{walked-fields, fields-walked}
 use Rattle.writer.specs.Write.{recordNumbered, endsHold, between, ifPlain, testedToWrite}
-use Rattle.writer.specs.Write.{nextNumber, walked, ofFields, afterWalk, ofRecord, writeAnswer}
+use Rattle.writer.specs.Write.{nextNumber, walked, ofFields, afterWalk, ofRecord, answerUnder, writeAnswer}
 use Rattle.writer.specs.Write.{writtenTo, Writes, writeVerdict}
 use Rattle.writer.specs.declared.write.WriteAnswer.the-variants.{Written, Refused}
 use Rattle.writer.proofs.Ends.{between-count}
+use Rattle.refused.specs.Line.{RefusedTold}
 use Rattle.refused.specs.Write.{RefusedToWrite, Handed, RefusedWrite}
 use Rattle.line.proofs.Stopping.{placeBehind, stopped-stops, stops-stopped}
+use Rattle.refused.proofs.Told.{told-refused-exactly}
 use Rattle.refused.proofs.Fields.{bad-same, bad-refused, refused-bad}
 
 module _ (rows : List Row) (n : ℕ) (beside f : List ℕ) where
@@ -71,23 +73,23 @@ number-behind : (rows : List Row) (n : ℕ) (front : List (List ℕ)) → placeB
 number-behind rows n [] = omega arith
 number-behind rows n (f ∷ front) = omega (arith, number-behind rows (suc n) front)
 
-module _ (number : ℕ) (text ends : List ℕ) (size fill : ℕ) where
+module _ (rules : Rules) (number : ℕ) (text ends : List ℕ) (size fill : ℕ) where
   module _ (refusal : Refusal) where
     abbrev Goal : Type 0
-    Goal = RefusedWrite number text ends size fill refusal
+    Goal = RefusedWrite rules number text ends size fill refusal
 
-    is : (other : Refusal) → RefusedWrite number text ends size fill other → Refused other ≡ Refused refusal → Goal
-    is other g e = let same : other ≡ refusal = cc in subst (RefusedWrite number text ends size fill) same g
+    is : (other : Refusal) → RefusedWrite rules number text ends size fill other → Refused other ≡ Refused refusal → Goal
+    is other g e = let same : other ≡ refusal = cc in subst (RefusedWrite rules number text ends size fill) same g
 
     module _ (kind : Record) (h : Handed number text ends kind (between text ends)) where
       abbrev fs : List (List ℕ)
       fs = between text ends
 
-      of-fields : FieldsOk (profile kind) 1 (typeOf kind) fs → ofFields kind fs size fill ≡ Refused refusal → Goal
+      of-fields : FieldsOk (rules kind) 1 (typeOf kind) fs → ofFields kind fs size fill ≡ Refused refusal → Goal
       unfolding ofFields
       of-fields ok e =
           choice (lacks kind (typeOf kind ∷ fs)) (Refused (because FeatureLacks 0)) _ (Refused refusal)
-          (λ t q. let known = lacks-feature (λ (k : Record). Handed number text ends k fs × FieldsOk (profile k) 1 (typeOf k) fs) kind fs t (h, ok) in
+          (λ t q. let known = lacks-feature (λ (k : Record). Handed number text ends k fs × FieldsOk (rules k) 1 (typeOf k) fs) kind fs t (h, ok) in
           is (because FeatureLacks 0) (RefusedWrite.feature-lacks fs (known .0 .0) (known .0 .1) (known .1)) q)
           (λ t. choice (leb (fill + length (render kind fs)) size) (Written (length (render kind fs))) (Refused (because OutputTooShort 0)) (Refused refusal)
           (λ u q. absurd (no-pass writeVerdict refl refl (sym q)))
@@ -97,22 +99,22 @@ module _ (number : ℕ) (text ends : List ℕ) (size fill : ℕ) where
             served = lacks-not kind fs .0 t;
           }) (leb-false (fill + length (render kind fs)) size u)) q)) e
 
-      of-walk : (w : Walk) → walked (profile kind) 1 (typeOf kind) fs ≡ w → afterWalk w kind fs size fill ≡ Refused refusal → Goal
+      of-walk : (w : Walk) → walked (rules kind) 1 (typeOf kind) fs ≡ w → afterWalk w kind fs size fill ≡ Refused refusal → Goal
       of-walk (Stopped other) ew e =
-          let rows = profile kind in
+          let rows = rules kind in
           let r = stopped-stops (testedToWrite rows) nextNumber 1 1 (typeOf kind) fs other ew in
           is other
-          (subst (RefusedWrite number text ends size fill) (sym (r .is ∙ ap (because (r .why)) (number-behind rows 1 (r .front))))
+          (subst (RefusedWrite rules number text ends size fill) (sym (r .is ∙ ap (because (r .why)) (number-behind rows 1 (r .front))))
           (RefusedWrite.bad-field kind (r .front) (r .field) (r .more) (r .why) (subst (Handed number text ends kind) (r .parts) h)
           (walked-fields rows 1 (typeOf kind) (r .front) (r .before)) (write-bad rows (1 + length (r .front)) _ (r .field) (r .why) (r .here)))) e
       of-walk Fine ew e =
-          of-fields (walked-fields (profile kind) 1 (typeOf kind) fs (fine-each (testedToWrite (profile kind)) nextNumber 1 1 (typeOf kind) fs ew)) e
+          of-fields (walked-fields (rules kind) 1 (typeOf kind) fs (fine-each (testedToWrite (rules kind)) nextNumber 1 1 (typeOf kind) fs ew)) e
 
-    pub answer-write : writeAnswer number text ends size fill ≡ Refused refusal → Goal
-    unfolding writeAnswer ofRecord
+    pub answer-write : answerUnder rules number text ends size fill ≡ Refused refusal → Goal
+    unfolding answerUnder ofRecord
     answer-write e = go (recordNumbered number) refl e
       where
-        go : (m : Named) → recordNumbered number ≡ m → ofRecord m text ends size fill ≡ Refused refusal → Goal
+        go : (m : Named) → recordNumbered number ≡ m → ofRecord rules m text ends size fill ≡ Refused refusal → Goal
         go Unknown em q = is (because UnknownRecord 0) (RefusedWrite.unknown-record em) q
         go (Known kind) em q =
             choice (not (endsHold ends (length text))) (Refused (because FieldEnds 0)) _ (Refused refusal)
@@ -125,27 +127,27 @@ module _ (number : ℕ) (text ends : List ℕ) (size fill : ℕ) where
               held = not-false (endsHold ends (length text)) t;
               counted = not-false (countFits kind (length ends)) u;
               fields = refl;
-            }) (walked (profile kind) 1 (typeOf kind) (between text ends)) refl r)) q
+            }) (walked (rules kind) 1 (typeOf kind) (between text ends)) refl r)) q
 
   -- and the other way round
   handed-answer : (kind : Record) (fs : List (List ℕ)) → Handed number text ends kind fs → (w : Walk) →
-      walked (profile kind) 1 (typeOf kind) fs ≡ w →
-      writeAnswer number text ends size fill ≡ afterWalk w kind fs size fill
-  unfolding writeAnswer ofRecord
+      walked (rules kind) 1 (typeOf kind) fs ≡ w →
+      answerUnder rules number text ends size fill ≡ afterWalk w kind fs size fill
+  unfolding answerUnder ofRecord
   handed-answer kind fs h w e = rw (h .known, h .held, h .counted, h .fields, e)
 
-  fine-walk : (kind : Record) (fs : List (List ℕ)) → FieldsOk (profile kind) 1 (typeOf kind) fs →
-      walked (profile kind) 1 (typeOf kind) fs ≡ Fine
-  fine-walk kind fs g = each-fine (testedToWrite (profile kind)) nextNumber 1 1 (typeOf kind) fs (fields-walked (profile kind) 1 (typeOf kind) fs g)
+  fine-walk : (kind : Record) (fs : List (List ℕ)) → FieldsOk (rules kind) 1 (typeOf kind) fs →
+      walked (rules kind) 1 (typeOf kind) fs ≡ Fine
+  fine-walk kind fs g = each-fine (testedToWrite (rules kind)) nextNumber 1 1 (typeOf kind) fs (fields-walked (rules kind) 1 (typeOf kind) fs g)
 
-  pub write-answer : (refusal : Refusal) → RefusedWrite number text ends size fill refusal →
-      writeAnswer number text ends size fill ≡ Refused refusal
-  unfolding writeAnswer ofRecord ofFields
+  pub write-answer : (refusal : Refusal) → RefusedWrite rules number text ends size fill refusal →
+      answerUnder rules number text ends size fill ≡ Refused refusal
+  unfolding answerUnder ofRecord ofFields
   write-answer refusal (RefusedWrite.unknown-record e) = rw e
   write-answer refusal (RefusedWrite.field-ends kind k e) = rw (k, e)
   write-answer refusal (RefusedWrite.field-count kind k h e) = rw (k, h, e)
   write-answer refusal (RefusedWrite.bad-field kind front f more why h b g) =
-      let rows = profile kind in
+      let rows = rules kind in
       handed-answer kind (front ++ f ∷ more) h (Stopped (because why (1 + length front)))
       (stops-stopped (testedToWrite rows) nextNumber 1 1 (typeOf kind) front f more why (fields-walked rows 1 (typeOf kind) front b)
       (bad-write rows (1 + length front) _ f why g) ∙ ap (λ (p : ℕ). Stopped (because why p)) (number-behind rows 1 front))
@@ -154,16 +156,29 @@ module _ (number : ℕ) (text ends : List ℕ) (size fill : ℕ) where
   write-answer refusal (RefusedWrite.too-short kind fs h g s) =
       handed-answer kind fs h Fine (fine-walk kind fs (g .fields)) ∙ rw (lacks-not kind fs .1 (g .served), lt-leb (fill + length (render kind fs)) size s)
 
+write-told : {a b : Refusal} → Refused a ≡ Refused b → a ≡ b
+write-told e = cc
+
 -- a line is not written, by this number and at this place, exactly then; the output is then as it was
-pub write-refused-exactly : (number : ℕ) (text ends output : List ℕ) (fill : ℕ) (refusal : Refusal) (after : List ℕ) →
-    Writes number text ends output fill (Refused refusal) after ↔
-    (RefusedWrite number text ends (length output) fill refusal × (after ≡ output))
-unfolding writtenTo
-write-refused-exactly number text ends output fill refusal after = (
-  λ p. (answer-write number text ends (length output) fill refusal (sym (p .0)), p .1 ∙ stays (recordNumbered number)),
-  λ g. (sym (write-answer number text ends (length output) fill refusal (g .0)), g .1 ∙ sym (stays (recordNumbered number))),
+pub write-refused-exactly : (told number : ℕ) (text ends output : List ℕ) (fill : ℕ) (refusal : Refusal) (after : List ℕ) →
+    Writes told number text ends output fill (Refused refusal) after ↔
+    (RefusedTold told (λ version. RefusedWrite (profile version) number text ends (length output) fill) refusal × (after ≡ output))
+unfolding writtenTo writeAnswer
+write-refused-exactly told number text ends output fill refusal after = (
+  λ p. (exactly .0 (sym (p .0)), p .1 ∙ stays (recordNumbered number)),
+  λ g. (sym (exactly .1 (g .0)), g .1 ∙ sym (stays (recordNumbered number))),
 )
   where
+    exactly : (writeAnswer told number text ends (length output) fill ≡ Refused refusal) ↔
+        RefusedTold told (λ version. RefusedWrite (profile version) number text ends (length output) fill) refusal
+    exactly =
+        told-refused-exactly told (λ version. RefusedWrite (profile version) number text ends (length output) fill) Refused
+        (λ version. answerUnder (profile version) number text ends (length output) fill) (λ a b e. write-told e)
+        (λ version why. (
+          answer-write (profile version) number text ends (length output) fill why,
+          write-answer (profile version) number text ends (length output) fill why,
+        )) refusal
+
     stays : (m : Named) → writtenTo (Refused refusal) m (between text ends) output fill ≡ output
     stays Unknown = refl
     stays (Known kind) = refl

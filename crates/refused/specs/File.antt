@@ -19,6 +19,7 @@ use Rattle.line.specs.Told.{Told}
 use Rattle.line.specs.Line.{fileLimit}
 use Rattle.countries.specs.List.{isPaired, isListed}
 use Rattle.file.specs.Lent.{Lent}
+use Rattle.file.specs.Version.{versionOf}
 use Rattle.file.specs.declared.whole.FileAnswer.{FileAnswer}
 use Rattle.file.specs.declared.whole.FileAnswer.the-variants.{Accepted, Refused}
 use Rattle.grammar.specs.Grammar.{LineOk}
@@ -36,18 +37,18 @@ abbrev pub dueBehind : Due → List FileLine → Due
 dueBehind due [] = due
 dueBehind due (l ∷ ls) = dueBehind (After (l .kind)) ls
 
--- the line behind these is judged by our profile, where such a record is due
-abbrev pub toldBehind : List FileLine → Told
-toldBehind ls = record { rules = profile; due = dueBehind First ls }
+-- the line behind these is judged by the rules of the file's version, where such a record is due
+abbrev pub toldBehind : List ℕ → List FileLine → Told
+toldBehind file ls = record { rules = profile (versionOf file); due = dueBehind First ls }
 
--- the file begins with these lines, which are allowed with a list of countries; these bytes are left
+-- the file begins with these lines, which are allowed by the rules of its version with a list of countries; these bytes are left
 pub record Begins (countries file : List ℕ) (ls : List FileLine) (left : List ℕ) : Type 0 where
   -- "At most 65,535 bytes."
   pub in-limit : length file ≤ fileLimit
   -- else 20: "the list's length is odd"
   pub paired : isPaired countries ≡ true
   pub there : file ≡ fileBytes ls ++ left
-  pub lines : LinesOk ls
+  pub lines : LinesOk (profile (versionOf file)) ls
   pub order : Come First ls
   pub codes : NoneTwice (identcodes ls)
   pub contacts : ContactsKept countries ls
@@ -55,7 +56,7 @@ pub record Begins (countries file : List ℕ) (ls : List FileLine) (left : List 
 -- behind them stands this line, which keeps its rules and may come there
 pub record NextLine (countries file : List ℕ) (ls : List FileLine) (l : FileLine) (left : List ℕ) : Type 0 where
   pub begins : Begins countries file ls (lineBytes l ++ left)
-  pub ok : LineOk profile (l .kind) (l .fields)
+  pub ok : LineOk (profile (versionOf file)) (l .kind) (l .fields)
   pub comes : mayCome (dueBehind First ls) (l .kind) ≡ true
 
 -- no sender is among these lines
@@ -82,7 +83,7 @@ pub data RefusedFile (file : List ℕ) (lent : Lent) : Refusal → Type 0 where
   -- 2 to 9: "Lines go in file order"; where no byte is left there is no line
   line-refused :
       (ls : List FileLine) (left : List ℕ) (refusal : Refusal) → Begins (lent .countries) file ls left → length ls ≤ lent .words →
-      (left ≡ [] → ⊥) → RefusedLine (toldBehind ls) (length (fileBytes ls)) left refusal → RefusedFile file lent refusal
+      (left ≡ [] → ⊥) → RefusedLine (toldBehind file ls) (length (fileBytes ls)) left refusal → RefusedFile file lent refusal
   -- 19: "either contact field is empty under a sender who needs both, place the start of the first 030 line that needs it, after 9 on
   -- that line"
   contact-missing :

@@ -21,9 +21,13 @@ use Rattle.refusal.specs.declared.Reason.the-variants.{
   FieldForm,
   FeatureLacks,
   NotThere,
+  UnknownVersion,
 }
 use Rattle.fields.specs.Record.{typeOf, countFits, mayCome}
 use Rattle.fields.specs.Profile.{Row, Rules, widthOf, isRequired, hasForm}
+use Rattle.fields.specs.Version.{versionNumbered}
+use Rattle.fields.specs.declared.version.Version.{Version}
+use Rattle.fields.specs.declared.version.VersionTold.the-variants.{Either, Neither}
 use Rattle.fields.specs.declared.record.Record.{Record}
 use Rattle.fields.specs.declared.record.Record.the-variants.{Feature}
 use Rattle.line.specs.Parts.{partBefore}
@@ -102,6 +106,13 @@ pub data RefusedAt (told : Told) (file : List ℕ) (offset : ℕ) : Refusal → 
   line-refused :
       (refusal : Refusal) → length file ≤ fileLimit → offset ≤ length file → RefusedLine told offset (drop offset file) refusal →
       RefusedAt told file offset refusal
+
+-- what a line call refuses that is told a version: what it refuses under it, or first of all
+pub data RefusedTold (told : ℕ) (under : Version → Refusal → Type 0) : Refusal → Type 0 where
+  -- 22: "a line call told neither 5 nor 7, place 0, before all others"
+  unknown-version : versionNumbered told ≡ Neither → RefusedTold told under (because UnknownVersion 0)
+  under-version :
+      (version : Version) (refusal : Refusal) → versionNumbered told ≡ Either version → under version refusal → RefusedTold told under refusal
 
 -- "One field adds a field number, then 15 for 0 or above the count"
 pub data RefusedFind (rules : Rules) (file : List ℕ) (offset n : ℕ) : Refusal → Type 0 where

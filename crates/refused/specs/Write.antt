@@ -11,7 +11,7 @@ use Rattle.refusal.specs.declared.Refusal.{Refusal}
 use Rattle.refusal.specs.declared.Reason.{Reason}
 use Rattle.refusal.specs.declared.Reason.the-variants.{UnknownRecord, FieldEnds, FieldCount, FieldForm, FeatureLacks, OutputTooShort}
 use Rattle.fields.specs.Record.{typeOf, countFits}
-use Rattle.fields.specs.Profile.{Row, profile, widthOf}
+use Rattle.fields.specs.Profile.{Row, Rules, widthOf}
 use Rattle.fields.specs.declared.record.Record.{Record}
 use Rattle.fields.specs.declared.record.Record.the-variants.{Feature}
 use Rattle.fields.specs.declared.record.Named.the-variants.{Known, Unknown}
@@ -35,28 +35,28 @@ pub record Handed (number : ℕ) (text ends : List ℕ) (kind : Record) (fs : Li
   pub fields : between text ends ≡ fs
 
 -- a line is not written into an output of this size behind its fill, with this number and place
-pub data RefusedWrite (number : ℕ) (text ends : List ℕ) (size fill : ℕ) : Refusal → Type 0 where
+pub data RefusedWrite (rules : Rules) (number : ℕ) (text ends : List ℕ) (size fill : ℕ) : Refusal → Type 0 where
   -- 3: "unknown record type"
-  unknown-record : recordNumbered number ≡ Unknown → RefusedWrite number text ends size fill (because UnknownRecord 0)
+  unknown-record : recordNumbered number ≡ Unknown → RefusedWrite rules number text ends size fill (because UnknownRecord 0)
   -- 14: "field ends fall, or the last is not the text's length, or no ends with text"
   field-ends :
       (kind : Record) → recordNumbered number ≡ Known kind → endsHold ends (length text) ≡ false →
-      RefusedWrite number text ends size fill (because FieldEnds 0)
+      RefusedWrite rules number text ends size fill (because FieldEnds 0)
   -- 5: "wrong number of fields"
   field-count :
       (kind : Record) → recordNumbered number ≡ Known kind → endsHold ends (length text) ≡ true → countFits kind (length ends) ≡ false →
-      RefusedWrite number text ends size fill (because FieldCount 0)
+      RefusedWrite rules number text ends size fill (because FieldCount 0)
   -- 6, 7, 8, at "the field number": those in front are fine, and this one is refused
   bad-field :
       (kind : Record) (front : List (List ℕ)) (f : List ℕ) (more : List (List ℕ)) (why : Reason) →
-      Handed number text ends kind (front ++ f ∷ more) → FieldsOk (profile kind) 1 (typeOf kind) front →
-      RefusedToWrite (profile kind) (1 + length front) (partBefore (typeOf kind) front) f why →
-      RefusedWrite number text ends size fill (because why (1 + length front))
+      Handed number text ends kind (front ++ f ∷ more) → FieldsOk (rules kind) 1 (typeOf kind) front →
+      RefusedToWrite (rules kind) (1 + length front) (partBefore (typeOf kind) front) f why →
+      RefusedWrite rules number text ends size fill (because why (1 + length front))
   -- 9: "feature lacks a needed field"
   feature-lacks :
-      (fs : List (List ℕ)) → Handed number text ends Feature fs → FieldsOk (profile Feature) 1 (typeOf Feature) fs → (Served fs → ⊥) →
-      RefusedWrite number text ends size fill (because FeatureLacks 0)
+      (fs : List (List ℕ)) → Handed number text ends Feature fs → FieldsOk (rules Feature) 1 (typeOf Feature) fs → (Served fs → ⊥) →
+      RefusedWrite rules number text ends size fill (because FeatureLacks 0)
   -- 13: "output too short"; "A fill past the output is 13."
   too-short :
-      (kind : Record) (fs : List (List ℕ)) → Handed number text ends kind fs → LineOk profile kind fs →
-      size < fill + length (render kind fs) → RefusedWrite number text ends size fill (because OutputTooShort 0)
+      (kind : Record) (fs : List (List ℕ)) → Handed number text ends kind fs → LineOk rules kind fs →
+      size < fill + length (render kind fs) → RefusedWrite rules number text ends size fill (because OutputTooShort 0)

@@ -1,4 +1,4 @@
-// Writes lines: each line of the input is a record number, a fill, a room for output, how many field ends, the ends, each with a
+// Writes lines: each line of the input is a version, a record number, a fill, a room for output, how many field ends, the ends, each with a
 // space behind it, and the text. Each gives the answer and the whole output, which was all points before.
 ghost use Prim.Native.Nat.{_≤_};
 ghost use lib.ListN.{length};
@@ -28,17 +28,20 @@ fn run(s: &[u8]) {
 }
 
 struct Call {
+    version: u32,
     number: u32,
     fill: usize,
     room: usize,
 }
 
 fn one_call(line: &[u8]) {
-    let number = test_input::number(line, 0);
+    let version = test_input::number(line, 0);
+    let number = test_input::number(line, version.next);
     let fill = test_input::number(line, number.next);
     let room = test_input::number(line, fill.next);
     let count = test_input::number(line, room.next);
     let call = Call {
+        version: (version.value % 1000) as u32,
         number: (number.value % 1000) as u32,
         fill: fill.value,
         room: room.value % 5001,
@@ -80,7 +83,7 @@ fn read_ends(line: &[u8], start: usize, ends: &mut [usize], many: usize) -> usiz
 }
 
 fn write(call: Call, text: &[u8], ends: &[usize], out: &mut [u8]) {
-    let answer = writer::write_line(call.number, text, ends, out, call.fill);
+    let answer = writer::write_line(call.version, call.number, text, ends, out, call.fill);
     match answer {
         WriteAnswer::Written(n) => say_written(n),
         WriteAnswer::Refused(refusal) => say_no(refusal),

@@ -13,7 +13,8 @@ use Rattle.text.proofs.Placing.{placed-there}
 use Rattle.refusal.specs.declared.Reason.the-variants.{UnknownRecord, FieldCount, FeatureLacks, OutputTooShort, FieldEnds}
 use Rattle.refusal.specs.Table.{because}
 use Rattle.refusal.specs.declared.Refusal.{Refusal}
-use Rattle.fields.specs.Profile.{profile}
+use Rattle.fields.specs.Profile.{Row, Rules, profile}
+use Rattle.fields.specs.declared.version.Version.{Version}
 use Rattle.fields.specs.Record.{typeOf, countFits}
 use Rattle.fields.specs.declared.record.Record.{Record}
 use Rattle.fields.specs.declared.record.Named.{Named}
@@ -22,12 +23,12 @@ use Rattle.line.specs.Parts.{split}
 use Rattle.line.specs.Need.{lacks}
 use Rattle.line.specs.declared.walk.Walk.{Walk}
 use Rattle.line.specs.declared.walk.Walk.the-variants.{Fine, Stopped}
-use Rattle.fields.proofs.Rules.{count-le, sound}
-use Rattle.line.specs.Render.{textOf, render}
+use Rattle.fields.proofs.Rules.{within, count-le, sound}
+use Rattle.line.specs.Render.{textOf, render, plain, allIn}
 use Rattle.line.proofs.Plain.{render-long, plain-split}
 use Rattle.line.proofs.Passing.{Each, fine-each}
 use Rattle.writer.specs.Write.{recordNumbered, endsHold, between, testedToWrite, nextNumber, walked, ofFields, afterWalk}
-use Rattle.writer.specs.Write.{ofRecord, writeAnswer, lineTo, writtenTo}
+use Rattle.writer.specs.Write.{ofRecord, answerUnder, lineTo, writtenTo}
 use Rattle.writer.specs.declared.write.WriteAnswer.{WriteAnswer}
 use Rattle.writer.specs.declared.write.WriteAnswer.the-variants.{Written, Refused}
 use Rattle.writer.proofs.Ends.{between-count}
@@ -44,9 +45,9 @@ unfolding recordNumbered
 number-none n h1 h2 h3 h4 h5 h6 = simp (ne-eqb n 10 h1, ne-eqb n 20 h2, ne-eqb n 30 h3, ne-eqb n 40 h4, ne-eqb n 50 h5, ne-eqb n 60 h6)
 
 -- each field of a fine walk passes
-each : (kind : Record) (text ends : List ℕ) → walked (profile kind) 1 (typeOf kind) (between text ends) ≡ Fine →
-    Each (testedToWrite (profile kind)) 1 (typeOf kind) (between text ends)
-each kind text ends e = fine-each (testedToWrite (profile kind)) nextNumber 1 1 (typeOf kind) (between text ends) e
+each : (rows : List Row) (kind : Record) (text ends : List ℕ) → walked rows 1 (typeOf kind) (between text ends) ≡ Fine →
+    Each (testedToWrite rows) 1 (typeOf kind) (between text ends)
+each rows kind text ends e = fine-each (testedToWrite rows) nextNumber 1 1 (typeOf kind) (between text ends) e
 
 -- good fields, put together as a line at the front of a room: 9, then 13
 module _ (kind : Record) (text ends room line : List ℕ) (long : ℕ) (fits : length text + length ends + 5 ≤ length room)
@@ -66,11 +67,11 @@ module _ (kind : Record) (text ends room line : List ℕ) (long : ℕ) (fits : l
       ∙ take-at (textOf kind (between text ends)) (bytes "\r\n" ++ rest) (long - 2)
       (omega (arith, render-long kind (between text ends), en))
 
-  module _ (fine : walked (profile kind) 1 (typeOf kind) (between text ends) ≡ Fine) (t : Bool) (et : t ≡ lacks kind (split (take (long - 2) line)))
+  module _ (clean : allIn plain (between text ends) ≡ true) (t : Bool) (et : t ≡ lacks kind (split (take (long - 2) line)))
       (size fill : ℕ) where
     asked : t ≡ lacks kind (typeOf kind ∷ between text ends)
     asked = et ∙ ap (λ (l : List ℕ). lacks kind (split l)) text-taken
-        ∙ ap (lacks kind) (plain-split kind (between text ends) (walked-plain (profile kind) 1 (typeOf kind) (between text ends) (each kind text ends fine)))
+        ∙ ap (lacks kind) (plain-split kind (between text ends) clean)
 
     pub fields-lack : t ≡ true → Refused (because FeatureLacks 0) ≡ ofFields kind (between text ends) size fill
     unfolding ofFields
@@ -95,59 +96,69 @@ module _ (kind : Record) (text ends room line : List ℕ) (long : ℕ) (fits : l
       ∙ placed-there out fill (render kind (between text ends)) (omega (arith, en))
 
 -- the record
-module _ (number : ℕ) (text ends : List ℕ) (size fill : ℕ) (nd : Named) (ed : nd ≡ recordNumbered number) where
-  pub number-unknown : nd ≡ Unknown → Refused (because UnknownRecord 0) ≡ writeAnswer number text ends size fill
-  unfolding writeAnswer ofRecord
+module _ (rules : Rules) (number : ℕ) (text ends : List ℕ) (size fill : ℕ) (nd : Named) (ed : nd ≡ recordNumbered number) where
+  pub number-unknown : nd ≡ Unknown → Refused (because UnknownRecord 0) ≡ answerUnder rules number text ends size fill
+  unfolding answerUnder ofRecord
   number-unknown e = rw (← ed, e)
 
-  pub number-known : (kind : Record) → nd ≡ Known kind → (a : WriteAnswer) → a ≡ ofRecord (Known kind) text ends size fill →
-      a ≡ writeAnswer number text ends size fill
-  unfolding writeAnswer
+  pub number-known : (kind : Record) → nd ≡ Known kind → (a : WriteAnswer) → a ≡ ofRecord rules (Known kind) text ends size fill →
+      a ≡ answerUnder rules number text ends size fill
+  unfolding answerUnder
   number-known kind e a ea = rw (← ed, e) ea
 
 -- the ends, then the count
 module _ (kind : Record) (text ends : List ℕ) (size fill : ℕ) (t : Bool) (et : t ≡ endsHold ends (length text)) where
-  pub ends-wrong : not t ≡ true → Refused (because FieldEnds 0) ≡ ofRecord (Known kind) text ends size fill
+  pub ends-wrong : (rules : Rules) → not t ≡ true → Refused (because FieldEnds 0) ≡ ofRecord rules (Known kind) text ends size fill
   unfolding ofRecord
-  ends-wrong e = rw (← et, e)
+  ends-wrong rules e = rw (← et, e)
 
   module _ (hold : not t ≡ false) where
     pub ends-held : endsHold ends (length text) ≡ true
     ends-held = sym et ∙ not-false t hold
 
     module _ (u : Bool) (eu : u ≡ countFits kind (length ends)) where
-      pub count-wrong : not u ≡ true → Refused (because FieldCount 0) ≡ ofRecord (Known kind) text ends size fill
+      pub count-wrong : (rules : Rules) → not u ≡ true → Refused (because FieldCount 0) ≡ ofRecord rules (Known kind) text ends size fill
       unfolding ofRecord
-      count-wrong e = rw (← et, hold, ← eu, e)
+      count-wrong rules e = rw (← et, hold, ← eu, e)
 
       module _ (right : not u ≡ false) where
         pub count-right : countFits kind (length ends) ≡ true
         count-right = sym eu ∙ not-false u right
 
-        pub counted : (a : WriteAnswer) → a ≡ afterWalk (walked (profile kind) 1 (typeOf kind) (between text ends)) kind (between text ends) size fill →
-            a ≡ ofRecord (Known kind) text ends size fill
+        pub counted : (rules : Rules) (a : WriteAnswer) →
+            a ≡ afterWalk (walked (rules kind) 1 (typeOf kind) (between text ends)) kind (between text ends) size fill →
+            a ≡ ofRecord rules (Known kind) text ends size fill
         unfolding ofRecord
-        counted a ea = rw (← et, hold, ← eu, right) ea
+        counted rules a ea = rw (← et, hold, ← eu, right) ea
 
 -- the fields
-module _ (kind : Record) (text ends : List ℕ) (w : Walk) (ew : w ≡ walked (profile kind) 1 (typeOf kind) (between text ends)) where
+module _ (rows : List Row) (kind : Record) (text ends : List ℕ) (w : Walk) (ew : w ≡ walked rows 1 (typeOf kind) (between text ends)) where
   pub field-wrong : (size fill : ℕ) (refusal : Refusal) → w ≡ Stopped refusal →
-      Refused refusal ≡ afterWalk (walked (profile kind) 1 (typeOf kind) (between text ends)) kind (between text ends) size fill
+      Refused refusal ≡ afterWalk (walked rows 1 (typeOf kind) (between text ends)) kind (between text ends) size fill
   field-wrong size fill refusal e = rw (← ew, e)
 
   module _ (fine : w ≡ Fine) where
-    pub walk-fine : walked (profile kind) 1 (typeOf kind) (between text ends) ≡ Fine
-    walk-fine = sym ew ∙ fine
+    passing : Each (testedToWrite rows) 1 (typeOf kind) (between text ends)
+    passing = each rows kind text ends (sym ew ∙ fine)
+
+    pub fields-plain : allIn plain (between text ends) ≡ true
+    fields-plain = walked-plain rows 1 (typeOf kind) (between text ends) passing
 
     pub fields-good : (size fill : ℕ) (a : WriteAnswer) → a ≡ ofFields kind (between text ends) size fill →
-        a ≡ afterWalk (walked (profile kind) 1 (typeOf kind) (between text ends)) kind (between text ends) size fill
-    fields-good size fill a ea = rw walk-fine ea
+        a ≡ afterWalk (walked rows 1 (typeOf kind) (between text ends)) kind (between text ends) size fill
+    fields-good size fill a ea = rw (← ew, fine) ea
 
-    pub line-small : endsHold ends (length text) ≡ true → countFits kind (length ends) ≡ true → length text + length ends + 5 ≤ 4096
-    line-small hold right =
+    pub fields-small : within rows ≡ true → endsHold ends (length text) ≡ true → countFits kind (length ends) ≡ true →
+        length text + length ends + 5 ≤ 4096
+    fields-small narrow hold right =
         let c = count-le kind (length ends) right in
-        let f = walked-le (profile kind) (sound .narrows kind) 1 (typeOf kind) (between text ends) (each kind text ends walk-fine) in
+        let f = walked-le rows narrow 1 (typeOf kind) (between text ends) passing in
         omega (arith, c, f, between-count text ends, together-long kind text ends hold)
+
+pub line-small : (version : Version) (kind : Record) (text ends : List ℕ) (w : Walk) →
+    w ≡ walked (profile version kind) 1 (typeOf kind) (between text ends) → w ≡ Fine → endsHold ends (length text) ≡ true →
+    countFits kind (length ends) ≡ true → length text + length ends + 5 ≤ 4096
+line-small version kind text ends w ew fine = fields-small (profile version kind) kind text ends w ew fine (sound version .narrows kind)
 
 -- the line put together: as much of it as is asked is there
 module _ (text ends room line : List ℕ) (long : ℕ) (fits : length text + length ends + 5 ≤ length room) (kept : length line ≡ length room)

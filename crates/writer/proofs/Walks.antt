@@ -13,14 +13,14 @@ use Rattle.refusal.specs.declared.Reason.{Reason}
 use Rattle.refusal.specs.declared.Reason.the-variants.{FieldForm}
 use Rattle.refusal.specs.Table.{because}
 use Rattle.fields.specs.Record.{typeOf}
-use Rattle.fields.specs.Profile.{profile, hasForm, Row, widthOf, widthInTable, isRequired}
+use Rattle.fields.specs.Profile.{profile, Row}
 use Rattle.fields.specs.Field.{tested}
 use Rattle.fields.specs.declared.record.Record.{Record}
-use Rattle.fields.specs.declared.record.Record.the-variants.{Header, Sender, Shipment, Parcel, Product, Feature}
+use Rattle.fields.specs.declared.version.Version.{Version}
 use Rattle.fields.specs.declared.field.Tested.{Tested}
 use Rattle.fields.specs.declared.field.Tested.the-variants.{Good, Bad}
 use Rattle.fields.proofs.Tests.{bad, good-passed}
-use Rattle.fields.proofs.Rules.{within, width-le}
+use Rattle.fields.proofs.Rules.{within, width-le, sound}
 use Rattle.line.specs.Render.{joined, plain, allIn}
 use Rattle.line.specs.Walk.{onTest}
 use Rattle.line.specs.declared.walk.Walk.the-variants.{Fine, Stopped}
@@ -43,41 +43,36 @@ module _ (rows : List Row) (n : ℕ) (beside f : List ℕ) (t : Tested) (et : t 
     test-other e = rw (← et, good, ← ep, e)
 
 -- no rule of a first field looks beside it
-first-alike : (kind : Record) (b c f : List ℕ) → testedToWrite (profile kind) 1 b f ≡ testedToWrite (profile kind) 1 c f
-unfolding testedToWrite tested widthOf widthInTable isRequired hasForm profile
-first-alike Header b c f = refl
-first-alike Sender b c f = refl
-first-alike Shipment b c f = refl
-first-alike Parcel b c f = refl
-first-alike Product b c f = refl
-first-alike Feature b c f = refl
-
-besides-alike : (kind : Record) (b c : List ℕ) (fs : List (List ℕ)) → walked (profile kind) 1 b fs ≡ walked (profile kind) 1 c fs
-besides-alike kind b c [] = refl
-besides-alike kind b c (f ∷ fs) = ap (λ (t : Tested). onTest t 1 (walked (profile kind) 2 f fs)) (first-alike kind b c f)
-
-pub walk-starts : (kind : Record) (text ends : List ℕ) → walked (profile kind) (0 + 1) (take (0 - 0) (drop 0 text))
-    (fieldsFrom 0 text (drop 0 ends)) ≡ walked (profile kind) 1 (typeOf kind) (between text ends)
-unfolding between
-walk-starts kind text ends = besides-alike kind (take (0 - 0) (drop 0 text)) (typeOf kind) (between text ends)
+besides-alike : (rows : List Row) → ((b c f : List ℕ) → tested rows 1 b f ≡ tested rows 1 c f) → (b c : List ℕ) (fs : List (List ℕ)) →
+    walked rows 1 b fs ≡ walked rows 1 c fs
+unfolding testedToWrite
+besides-alike rows lone b c [] = refl
+besides-alike rows lone b c (f ∷ fs) = ap (λ (t : Tested). onTest (ifPlain t f) 1 (walked rows 2 f fs)) (lone b c f)
 
 -- the loop at the field behind i others, which starts at start; beside it stands the one that starts at beside
-pub record Walking (kind : Record) (text ends : List ℕ) (beside start i : ℕ) : Type 0 where
+pub record Walking (rows : List Row) (kind : Record) (text ends : List ℕ) (beside start i : ℕ) : Type 0 where
   pub counted : i ≤ length ends
   pub behind : beside ≤ start
   pub inside : start ≤ length text
   pub rises : risesTo (length text) start (drop i ends) ≡ true
   pub left :
-      walked (profile kind) (i + 1) (take (start - beside) (drop beside text)) (fieldsFrom start text (drop i ends)) ≡ walked
-      (profile kind) 1 (typeOf kind) (between text ends)
+      walked rows (i + 1) (take (start - beside) (drop beside text)) (fieldsFrom start text (drop i ends)) ≡ walked
+      rows 1 (typeOf kind) (between text ends)
 
-pub walking-none : (kind : Record) (text ends : List ℕ) → endsHold ends (length text) ≡ true → Walking kind text ends 0 0 0
-unfolding endsHold
-walking-none kind text ends e =
-    record { counted = omega arith; behind = omega arith; inside = omega arith; rises = e; left = walk-starts kind text ends }
+pub walking-none : (version : Version) (kind : Record) (text ends : List ℕ) → endsHold ends (length text) ≡ true →
+    Walking (profile version kind) kind text ends 0 0 0
+unfolding endsHold between
+walking-none version kind text ends e =
+    record {
+      counted = omega arith;
+      behind = omega arith;
+      inside = omega arith;
+      rises = e;
+      left = besides-alike (profile version kind) (sound version .lone kind) (take (0 - 0) (drop 0 text)) (typeOf kind) (between text ends);
+    }
 
-module _ (kind : Record) (text ends : List ℕ) (beside start i : ℕ) (g : Walking kind text ends beside start i) where
-  pub walking-done : length ends ≤ i → Fine ≡ walked (profile kind) 1 (typeOf kind) (between text ends)
+module _ (rows : List Row) (kind : Record) (text ends : List ℕ) (beside start i : ℕ) (g : Walking rows kind text ends beside start i) where
+  pub walking-done : length ends ≤ i → Fine ≡ walked rows 1 (typeOf kind) (between text ends)
   walking-done h = sym (rw (drop-of-length-le ends)) ∙ g .left
 
   module _ (h : i < length ends) where
@@ -87,34 +82,34 @@ module _ (kind : Record) (text ends : List ℕ) (beside start i : ℕ) (g : Walk
     pub next-inside : getD ends i 0 ≤ length text
     next-inside = end-inside (length text) ends i start (g .rises) h
 
-    module _ (t : Tested) (et : t ≡ testedToWrite (profile kind) (i + 1) (take (start - beside) (drop beside text))
+    module _ (t : Tested) (et : t ≡ testedToWrite rows (i + 1) (take (start - beside) (drop beside text))
         (take (getD ends i 0 - start) (drop start text))) where
       abbrev field : List ℕ
       field = take (getD ends i 0 - start) (drop start text)
 
-      turn : onTest t (i + 1) (walked (profile kind) (suc (i + 1)) field (fieldsFrom (getD ends i 0) text (drop (suc i) ends))) ≡ walked
-          (profile kind) 1 (typeOf kind) (between text ends)
+      turn : onTest t (i + 1) (walked rows (suc (i + 1)) field (fieldsFrom (getD ends i 0) text (drop (suc i) ends))) ≡ walked
+          rows 1 (typeOf kind) (between text ends)
       turn =
           rw et
-          (sym (ap (λ (l : List ℕ). walked (profile kind) (i + 1) (take (start - beside) (drop beside text)) (fieldsFrom start text l))
+          (sym (ap (λ (l : List ℕ). walked rows (i + 1) (take (start - beside) (drop beside text)) (fieldsFrom start text l))
           (drop-cons ends i 0 h)) ∙ g .left)
 
       pub walking-stops : (why : Reason) → t ≡ Bad why →
-          Stopped (because why (i + 1)) ≡ walked (profile kind) 1 (typeOf kind) (between text ends)
+          Stopped (because why (i + 1)) ≡ walked rows 1 (typeOf kind) (between text ends)
       walking-stops why e = rw e at turn
 
-      pub walking-on : t ≡ Good → Walking kind text ends start (getD ends i 0) (i + 1)
+      pub walking-on : t ≡ Good → Walking rows kind text ends start (getD ends i 0) (i + 1)
       walking-on e =
-          let on : walked (profile kind) (suc (i + 1)) field (fieldsFrom (getD ends i 0) text (drop (suc i) ends)) ≡ walked
-          (profile kind) 1 (typeOf kind) (between text ends) = rw e at turn in
+          let on : walked rows (suc (i + 1)) field (fieldsFrom (getD ends i 0) text (drop (suc i) ends)) ≡ walked
+          rows 1 (typeOf kind) (between text ends) = rw e at turn in
           record {
             counted = omega arith;
             behind = next-rises;
             inside = next-inside;
             rises = rest-rises (length text) ends i start (g .rises) h;
             left =
-                ap (λ (n : ℕ). walked (profile kind) n field (fieldsFrom (getD ends i 0) text (drop (i + 1) ends))) (add-one (i + 1))
-                ∙ ap (λ (n : ℕ). walked (profile kind) (suc (i + 1)) field (fieldsFrom (getD ends i 0) text (drop n ends))) (add-one i)
+                ap (λ (n : ℕ). walked rows n field (fieldsFrom (getD ends i 0) text (drop (i + 1) ends))) (add-one (i + 1))
+                ∙ ap (λ (n : ℕ). walked rows (suc (i + 1)) field (fieldsFrom (getD ends i 0) text (drop n ends))) (add-one i)
                 ∙ on;
           }
 

@@ -11,7 +11,8 @@ use Rattle.text.specs.Placed.{written}
 use Rattle.text.specs.Scan.{all}
 use Rattle.refusal.specs.Table.{because, verdictOf, Verdict}
 use Rattle.refusal.specs.declared.Reason.the-variants.{UnknownRecord, FieldCount, FieldForm, FeatureLacks, OutputTooShort, FieldEnds}
-use Rattle.fields.specs.Profile.{Row, profile}
+use Rattle.fields.specs.Profile.{Row, Rules, profile}
+use Rattle.fields.specs.Version.{versionNumbered, underVersion}
 use Rattle.fields.specs.Record.{typeOf, countFits}
 use Rattle.fields.specs.Field.{tested}
 use Rattle.fields.specs.declared.record.Record.{Record}
@@ -87,16 +88,21 @@ afterWalk (Stopped refusal) kind fs size fill = Refused refusal
 afterWalk Fine kind fs size fill = ofFields kind fs size fill
 
 -- 3, then 14, then 5, then the fields
-unfoldable pub ofRecord : Named → List ℕ → List ℕ → ℕ → ℕ → WriteAnswer
-ofRecord Unknown text ends size fill = Refused (because UnknownRecord 0)
-ofRecord (Known kind) text ends size fill =
+unfoldable pub ofRecord : Rules → Named → List ℕ → List ℕ → ℕ → ℕ → WriteAnswer
+ofRecord rules Unknown text ends size fill = Refused (because UnknownRecord 0)
+ofRecord rules (Known kind) text ends size fill =
     if not (endsHold ends (length text)) then Refused (because FieldEnds 0)
     else if not (countFits kind (length ends)) then Refused (because FieldCount 0)
-    else afterWalk (walked (profile kind) 1 (typeOf kind) (between text ends)) kind (between text ends) size fill
+    else afterWalk (walked (rules kind) 1 (typeOf kind) (between text ends)) kind (between text ends) size fill
 
 -- "The answer is how many bytes were written"
-unfoldable pub writeAnswer : ℕ → List ℕ → List ℕ → ℕ → ℕ → WriteAnswer
-writeAnswer number text ends size fill = ofRecord (recordNumbered number) text ends size fill
+unfoldable pub answerUnder : Rules → ℕ → List ℕ → List ℕ → ℕ → ℕ → WriteAnswer
+answerUnder rules number text ends size fill = ofRecord rules (recordNumbered number) text ends size fill
+
+-- "Line calls are told the version"
+unfoldable pub writeAnswer : ℕ → ℕ → List ℕ → List ℕ → ℕ → ℕ → WriteAnswer
+writeAnswer version number text ends size fill =
+    underVersion (versionNumbered version) Refused (λ told. answerUnder (profile told) number text ends size fill)
 
 -- "The line goes at the fill, other output bytes stay; a refusal changes none."
 abbrev pub lineTo : WriteAnswer → Record → List (List ℕ) → List ℕ → ℕ → List ℕ
@@ -109,9 +115,9 @@ writtenTo answer Unknown fs output fill = output
 writtenTo answer (Known kind) fs output fill = lineTo answer kind fs output fill
 
 -- the outcomes that the writer may have: its answer, and the output after it
-abbrev pub Writes : ℕ → List ℕ → List ℕ → List ℕ → ℕ → WriteAnswer → List ℕ → Type 0
-Writes number text ends output fill answer after =
-    (answer ≡ writeAnswer number text ends (length output) fill)
+abbrev pub Writes : ℕ → ℕ → List ℕ → List ℕ → List ℕ → ℕ → WriteAnswer → List ℕ → Type 0
+Writes version number text ends output fill answer after =
+    (answer ≡ writeAnswer version number text ends (length output) fill)
     × (after ≡ writtenTo answer (recordNumbered number) (between text ends) output fill)
 
 -- the paper's number and place for each answer

@@ -9,6 +9,7 @@ ghost use Rattle.line.specs.Render.{plain};
 ghost use Rattle.writer.specs.Write.{endsHold, between, testedToWrite, walked};
 use fields::Record;
 use fields::Tested;
+use fields::Version;
 use line::Walk;
 use refusal::Reason;
 use refusal::Refusal;
@@ -30,16 +31,22 @@ pub fn ends_hold(ends: &[usize], long: usize) -> bool
 }
 
 // Tests the fields. Beside a field stands the one in front of it; no rule of a first field looks beside it.
-pub fn walk_fields(kind: Record, text: &[u8], ends: &[usize]) -> Walk
+pub fn walk_fields(version: Version, kind: Record, text: &[u8], ends: &[usize]) -> Walk
     requires { ⌜ endsHold (now ends) (length (now text)) ≡ true ⌝ }
-    ensures { λ r. ⌜ r ≡ walked (profile kind) 1 (typeOf kind) (between (now (text .entry)) (now (ends .entry))) ⌝ }
+    ensures { λ r. ⌜ r ≡ walked (profile version kind) 1 (typeOf kind) (between (now (text .entry)) (now (ends .entry))) ⌝ }
 {
     let mut beside: usize = 0;
     let mut start: usize = 0;
     let mut i: usize = 0;
     while i < ends.len() {
         let end = ends[i];
-        let tested = test_to_write(kind, i + 1, &text[beside..start], &text[start..end]);
+        let tested = test_to_write(
+            version,
+            kind,
+            i + 1,
+            &text[beside..start],
+            &text[start..end],
+        );
         if let Tested::Bad(why) = tested {
             return Walk::Stopped(Refusal { why, place: i + 1 });
         }
@@ -51,10 +58,16 @@ pub fn walk_fields(kind: Record, text: &[u8], ends: &[usize]) -> Walk
 }
 
 // The reader's test of a field, and then that it can stand in a line.
-fn test_to_write(kind: Record, number: usize, beside: &[u8], field: &[u8]) -> Tested
-    ensures { λ r. ⌜ r ≡ testedToWrite (profile kind) number (now (beside .entry)) (now (field .entry)) ⌝ }
+fn test_to_write(
+    version: Version,
+    kind: Record,
+    number: usize,
+    beside: &[u8],
+    field: &[u8],
+) -> Tested
+    ensures { λ r. ⌜ r ≡ testedToWrite (profile version kind) number (now (beside .entry)) (now (field .entry)) ⌝ }
 {
-    let tested = fields::test_field(kind, number, beside, field);
+    let tested = fields::test_field(version, kind, number, beside, field);
     if let Tested::Bad(why) = tested {
         return Tested::Bad(why);
     }

@@ -5,12 +5,14 @@ ghost use Prim.Native.Nat.{_+_, _≤_};
 ghost use lib.ListN.{length};
 ghost use Rattle.fields.specs.Record.{typeOf, countFits};
 ghost use Rattle.fields.specs.Profile.{profile};
-ghost use Rattle.line.specs.declared.walk.Walk.the-variants.{Fine};
+ghost use Rattle.line.specs.Render.{plain, allIn};
 ghost use Rattle.writer.specs.Write.{recordNumbered, endsHold, between, walked, ofFields, afterWalk, ofRecord, lineTo, Writes};
 use crate::put;
 use crate::test;
 use fields::Named;
 use fields::Record;
+use fields::Version;
+use fields::VersionTold;
 use line::Walk;
 use refusal::Reason;
 use refusal::Refusal;
@@ -21,17 +23,25 @@ pub enum WriteAnswer {
     Refused(Refusal),
 }
 
-// Writes the line of the record with this number, whose fields stand one behind the other in the text and end at these ends, into
-// the output from its fill on.
+// Writes the line of the record with this number, under the rules of the version with its number. Its fields stand one behind the
+// other in the text and end at these ends; it goes into the output from its fill on.
 pub fn write_line(
+    version: u32,
     number: u32,
     text: &[u8],
     ends: &[usize],
     output: &mut [u8],
     fill: usize,
 ) -> WriteAnswer
-    ensures { λ r. ⌜ Writes number (now (text .entry)) (now (ends .entry)) (now (output .entry)) fill r (now (output .exit)) ⌝ }
+    ensures { λ r. ⌜ Writes version number (now (text .entry)) (now (ends .entry)) (now (output .entry)) fill r (now (output .exit)) ⌝ }
 {
+    let told = fields::version_numbered(version);
+    let VersionTold::Either(one) = told else {
+        return WriteAnswer::Refused(Refusal {
+            why: Reason::UnknownVersion,
+            place: 0,
+        });
+    };
     let named = record_numbered(number);
     let Named::Known(kind) = named else {
         return WriteAnswer::Refused(Refusal {
@@ -39,18 +49,19 @@ pub fn write_line(
             place: 0,
         });
     };
-    of_record(kind, text, ends, output, fill)
+    of_record(one, kind, text, ends, output, fill)
 }
 
 // The same for a record that is known.
 fn of_record(
+    version: Version,
     kind: Record,
     text: &[u8],
     ends: &[usize],
     output: &mut [u8],
     fill: usize,
 ) -> WriteAnswer
-    ensures { λ r. ⌜ (r ≡ ofRecord (Named.Known kind) (now (text .entry)) (now (ends .entry)) (length (now (output .entry))) fill)
+    ensures { λ r. ⌜ (r ≡ ofRecord (profile version) (Named.Known kind) (now (text .entry)) (now (ends .entry)) (length (now (output .entry))) fill)
         × (now (output .exit) ≡ lineTo r kind (between (now (text .entry)) (now (ends .entry))) (now (output .entry)) fill) ⌝ }
 {
     if !test::ends_hold(ends, text.len()) {
@@ -65,11 +76,12 @@ fn of_record(
             place: 0,
         });
     }
-    of_counted(kind, text, ends, output, fill)
+    of_counted(version, kind, text, ends, output, fill)
 }
 
 // The same for as many fields as the record may have.
 fn of_counted(
+    version: Version,
     kind: Record,
     text: &[u8],
     ends: &[usize],
@@ -77,11 +89,11 @@ fn of_counted(
     fill: usize,
 ) -> WriteAnswer
     requires { ⌜ (endsHold (now ends) (length (now text)) ≡ true) × (countFits kind (length (now ends)) ≡ true) ⌝ }
-    ensures { λ r. ⌜ (r ≡ afterWalk (walked (profile kind) 1 (typeOf kind) (between (now (text .entry)) (now (ends .entry)))) kind
+    ensures { λ r. ⌜ (r ≡ afterWalk (walked (profile version kind) 1 (typeOf kind) (between (now (text .entry)) (now (ends .entry)))) kind
         (between (now (text .entry)) (now (ends .entry))) (length (now (output .entry))) fill)
         × (now (output .exit) ≡ lineTo r kind (between (now (text .entry)) (now (ends .entry))) (now (output .entry)) fill) ⌝ }
 {
-    let walked = test::walk_fields(kind, text, ends);
+    let walked = test::walk_fields(version, kind, text, ends);
     if let Walk::Stopped(refusal) = walked {
         return WriteAnswer::Refused(refusal);
     }
@@ -116,7 +128,7 @@ fn write_fields(
     fill: usize,
 ) -> WriteAnswer
     requires { ⌜ (length (now text) + length (now ends) + 5 ≤ length (now line)) × (endsHold (now ends) (length (now text)) ≡ true)
-        × (walked (profile kind) 1 (typeOf kind) (between (now text) (now ends)) ≡ Fine) ⌝ }
+        × (allIn plain (between (now text) (now ends)) ≡ true) ⌝ }
     ensures { λ r. ⌜ (r ≡ ofFields kind (between (now (text .entry)) (now (ends .entry))) (length (now (output .entry))) fill)
         × (now (output .exit) ≡ lineTo r kind (between (now (text .entry)) (now (ends .entry))) (now (output .entry)) fill) ⌝ }
 {

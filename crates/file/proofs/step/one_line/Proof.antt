@@ -16,9 +16,16 @@ returns-2 c = (search (line-listed), (search needs, search needs))
 returns-3 : tie.Need-returns-3
 returns-3 c = (search (line-stops), (search (stopped-sown), search (stopped-listed)))
 
+-- what `list_line` asks, clause by clause
+listed : tie.Need-list-line-requires
+listed c κs = (
+  (search laws, search needs, search needs, search needs, search needs, search needs),
+  (search needs, search needs, search needs),
+)
+
 pub one-line-spec : {M : Type 1} → statement M
 one-line-spec =
     tie.close
     (tie.spec
     (λ c κs. search laws) (λ c. search laws) (λ c. search laws) (λ c. search laws) (λ c. search laws) (λ c. search laws)
-    (λ c κs. search laws) returns (λ c κs. search laws) (λ c. search laws) (λ c. search laws) (λ c. search laws) returns-2 returns-3)
+    (λ c κs. search laws) returns listed (λ c. search laws) (λ c. search laws) (λ c. search laws) returns-2 returns-3)

@@ -13,12 +13,12 @@ use Rattle.line.proofs.walk.walk_fields.Tie as tie
 ruleset laws = (needs, name-inside, name-fits, walk-starts, walk-done, walk-stops, walk-on)
 
 abbrev Inv-loop : tie.InvT-loop
-Inv-loop kind line at name number₀ beside₀ start₀ number beside start =
+Inv-loop version kind line at name number₀ beside₀ start₀ number beside start =
     (1 ≤ start) × (start ≤ length line + 1) × (beside ≤ start - 1) × (number ≤ start) ×
-    Left (profile kind) line at number beside start (walk (profile kind) 1 (at + length (nameOf line) + 1) (nameOf line) (fieldsOf line))
+    Left (profile version kind) line at number beside start (walk (profile version kind) 1 (at + length (nameOf line) + 1) (nameOf line) (fieldsOf line))
 
 abbrev μ-loop : tie.MeasureT-loop
-μ-loop kind line at name number₀ beside₀ start₀ number beside start = length line + 1 - start
+μ-loop version kind line at name number₀ beside₀ start₀ number beside start = length line + 1 - start
 
 pub walk-fields-spec : {M : Type 1} → statement M
 walk-fields-spec =

@@ -1,10 +1,10 @@
 -- `write::of_counted` meets its contract.
-use Rattle.writer.proofs.Answers.{field-wrong, walk-fine, fields-good, line-small}
+use Rattle.writer.proofs.Answers.{field-wrong, fields-plain, fields-good, line-small}
 use borrow.Author.Needs.{needs}
 use Rattle.writer.proofs.write.of_counted.Statement.{statement}
 use Rattle.writer.proofs.write.of_counted.Tie as tie
 
-ruleset laws = (needs, field-wrong, walk-fine, fields-good, line-small)
+ruleset laws = (needs, field-wrong, fields-plain, fields-good, line-small)
 
 pub of-counted-spec : {M : Type 1} → statement M
 of-counted-spec =
