@@ -17,11 +17,11 @@
 extern "C" {
 #endif
 
-/* The version of this interface. CONTRIBUTING.md says how it is counted. */
+/* The version of this interface; that of a file is PELIRANOPI_FILE_VERSION_5 or _7 below. CONTRIBUTING.md says how it is counted. */
 #define PELIRANOPI_VERSION_MAJOR 0
-#define PELIRANOPI_VERSION_MINOR 4
+#define PELIRANOPI_VERSION_MINOR 5
 #define PELIRANOPI_VERSION_PATCH 0
-#define PELIRANOPI_VERSION "0.4.0"
+#define PELIRANOPI_VERSION "0.5.0"
 
 /* The refusals. README.md has the table with their places. Later versions may have more: an answer that is not 0 is a refusal, also
  * where its number is not among these. */
@@ -47,7 +47,17 @@ enum {
     PELIRANOPI_WRONG_SYMBOL = 17,       /* a symbol may not stand where it stands */
     PELIRANOPI_WRONG_CHECK = 18,        /* the check is wrong */
     PELIRANOPI_CONTACT_MISSING = 19,    /* a sender's phone or mail is empty, and this shipment's country is on the lent list */
-    PELIRANOPI_COUNTRIES_ODD = 20       /* the lent list of countries has an odd length */
+    PELIRANOPI_COUNTRIES_ODD = 20,      /* the lent list of countries has an odd length */
+    PELIRANOPI_UNKNOWN_VERSION = 22     /* a line call is told a version that is neither 5 nor 7 */
+};
+
+/* The versions of a file, as numbers. A file is of version 7 where its first line is a 010 line whose field 6 is the one byte `7`; every
+ * other file is judged as one of version 5. The version decides how wide each field may be and which must be filled (docs/fields.txt).
+ * peliranopi_judge and peliranopi_write_purpose find it themselves; the calls on one line are told it. Of an accepted file it is 7
+ * exactly where peliranopi_read_line, told 7, accepts the line at offset 0; else it is 5. */
+enum {
+    PELIRANOPI_FILE_VERSION_5 = 5,
+    PELIRANOPI_FILE_VERSION_7 = 7
 };
 
 /* The records of a file, as numbers. */
@@ -84,7 +94,7 @@ enum {
     PELIRANOPI_CARRY_PASSED = 2  /* behind the last symbol of a number that passes */
 };
 
-/* Judges a whole file: its lines, its 040 lines (parcels), and the cash to collect in cents.
+/* Judges a whole file, by the rules of its own version: its lines, its 040 lines (parcels), and the cash to collect in cents.
  * countries: pairs of capitals, one behind the other, as in "CHGBUS". A sender with a shipment to one of them (030.20) needs phone and
  * mail (020.12 and 020.13). With length 0 nobody needs them.
  * list: accepted, word i is where line i starts, for each line, and every other word is 0; refused, all words are 0. */
@@ -94,27 +104,31 @@ uint32_t peliranopi_judge(const uint8_t *file, size_t file_len,
                           size_t *lines, size_t *parcels, uint64_t *cents, size_t *place);
 
 /* Judges the line that starts at the offset, alone: its record (PELIRANOPI_HEADER to PELIRANOPI_FEATURE), how many fields it has
- * behind the record type, and where the next line starts. No sender needs phone and mail here. */
-uint32_t peliranopi_read_line(const uint8_t *file, size_t file_len, size_t offset,
+ * behind the record type, and where the next line starts. No sender needs phone and mail here.
+ * version: PELIRANOPI_FILE_VERSION_5 or PELIRANOPI_FILE_VERSION_7, whose field rules hold; another number is refused by
+ * PELIRANOPI_UNKNOWN_VERSION, before all else. A header line must have this version in 010.6. */
+uint32_t peliranopi_read_line(uint32_t version, const uint8_t *file, size_t file_len, size_t offset,
                               uint32_t *record, size_t *fields, size_t *next, size_t *place);
 
 /* Finds the field with this number, counted from 1, of the line that starts at the offset: where it starts in the file, and how many
- * bytes it has. */
-uint32_t peliranopi_find_field(const uint8_t *file, size_t file_len, size_t offset, size_t number,
+ * bytes it has.
+ * version: as for peliranopi_read_line. */
+uint32_t peliranopi_find_field(uint32_t version, const uint8_t *file, size_t file_len, size_t offset, size_t number,
                                size_t *start, size_t *length, size_t *place);
 
 /* Writes one line: its record (PELIRANOPI_HEADER to PELIRANOPI_FEATURE), the fields joined in one text, and where each of them ends
  * in it.
+ * version: as for peliranopi_read_line.
  * place: the number of the field for the refusals 6 to 8, counted from 1, else 0.
  * written: how many bytes.
  * output: accepted, the line stands from fill on, and every other byte is as it was; refused, all bytes are as they were. */
-uint32_t peliranopi_write_line(uint32_t record, const uint8_t *text, size_t text_len,
+uint32_t peliranopi_write_line(uint32_t version, uint32_t record, const uint8_t *text, size_t text_len,
                                const size_t *ends, size_t ends_len,
                                uint8_t *output, size_t output_len, size_t fill,
                                size_t *written, size_t *place);
 
-/* Writes the payment purpose of the line with this number, counted from 0, of a file. The output has PELIRANOPI_PURPOSE_LEN_MAX bytes
- * or more, or it is refused.
+/* Writes the payment purpose of the line with this number, counted from 0, of a file of either version. The output has
+ * PELIRANOPI_PURPOSE_LEN_MAX bytes or more, or it is refused.
  * countries: as for peliranopi_judge.
  * written: how many bytes, at most PELIRANOPI_PURPOSE_LEN_MAX.
  * list: accepted, as after peliranopi_judge; refused, all words are 0.

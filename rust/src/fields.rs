@@ -5,6 +5,7 @@ use std::ops::Range;
 
 use crate::file::{read_line, Line};
 use crate::refusal::Refusal;
+use crate::version::Version;
 
 /// Judges the line that starts at the offset, as [`read_line`] does, and gives its fields in their
 /// order, each as its part of the file. The line is judged once, however many fields it has.
@@ -15,14 +16,16 @@ use crate::refusal::Refusal;
 /// tests hold it against `find_field`, for every field of every stored line and of generated ones.
 ///
 /// ```
+/// use peliranopi::{find_fields, Version};
+///
 /// let file = include_bytes!("../../examples/preadvice.csv");
-/// let mut fields = peliranopi::find_fields(file, 216)?.map(|field| &file[field]);
+/// let mut fields = find_fields(Version::Five, file, 216)?.map(|field| &file[field]);
 /// assert_eq!(fields.len(), 10);
 /// assert_eq!(fields.next(), Some(&b"006"[..]));
 /// # Ok::<(), peliranopi::Refusal>(())
 /// ```
-pub fn find_fields(file: &[u8], offset: usize) -> Result<Fields<'_>, Refusal> {
-    let line = read_line(file, offset)?;
+pub fn find_fields(version: Version, file: &[u8], offset: usize) -> Result<Fields<'_>, Refusal> {
+    let line = read_line(version, file, offset)?;
     let end = line.next.saturating_sub(b"\r\n".len());
     let mut fields = Fields {
         line,
@@ -49,10 +52,10 @@ impl Fields<'_> {
     /// What [`read_line`] answers of the line.
     ///
     /// ```
-    /// use peliranopi::{find_fields, Record};
+    /// use peliranopi::{find_fields, Record, Version};
     ///
     /// let file = include_bytes!("../../examples/preadvice.csv");
-    /// let line = find_fields(file, 178)?.line();
+    /// let line = find_fields(Version::Five, file, 178)?.line();
     /// assert_eq!((line.record, line.fields, line.next), (Record::Parcel, 3, 208));
     /// # Ok::<(), peliranopi::Refusal>(())
     /// ```

@@ -6,6 +6,7 @@ use peliranopi_sys as sys;
 
 use crate::named::{named, UnknownNumber};
 use crate::refusal::{accepted, Refusal};
+use crate::version::Version;
 
 /// What an accepted file holds.
 #[derive(Clone, Copy, Debug, PartialEq, Eq, Hash)]
@@ -91,7 +92,7 @@ pub struct Line {
     pub next: usize,
 }
 
-/// Judges a whole file.
+/// Judges a whole file, by the rules of the version on its header.
 ///
 /// The countries are pairs of capitals, one behind the other. A sender with a shipment to one of
 /// them needs phone and mail; under an empty list nobody does. An odd length is a refusal.
@@ -148,21 +149,33 @@ pub fn judge(file: &[u8], countries: &[u8], list: &mut [u32]) -> Result<Totals, 
 }
 
 /// Judges the line that starts at the offset, alone: not its order, not its identcode against
-/// others, and not whether a sender needs phone and mail.
+/// others, and not whether a sender needs phone and mail. The rules are those of the version, which a
+/// header line must have; [`Version::of`] tells that of an accepted file.
 ///
 /// ```
-/// use peliranopi::{read_line, Record};
+/// use peliranopi::{read_line, Record, Version};
 ///
 /// let file = include_bytes!("../../examples/preadvice.csv");
-/// let line = read_line(file, 178)?;
+/// let line = read_line(Version::Five, file, 178)?;
 /// assert_eq!((line.record, line.fields, line.next), (Record::Parcel, 3, 208));
 /// # Ok::<(), peliranopi::Refusal>(())
 /// ```
-pub fn read_line(file: &[u8], offset: usize) -> Result<Line, Refusal> {
+///
+/// A product code of three bytes, which version 7 does not have:
+///
+/// ```
+/// use peliranopi::{read_line, Reason, Version};
+///
+/// assert!(read_line(Version::Five, b"050;010\r\n", 0).is_ok());
+/// let refused = read_line(Version::Seven, b"050;010\r\n", 0).unwrap_err();
+/// assert_eq!((refused.why, refused.place), (Reason::FieldTooLong, 4));
+/// ```
+pub fn read_line(version: Version, file: &[u8], offset: usize) -> Result<Line, Refusal> {
     let (mut record, mut fields, mut next, mut place) = (0, 0, 0, 0);
     // SAFETY: the file's pointer comes with its length; the others point to one local number each.
     let number = unsafe {
         sys::peliranopi_read_line(
+            version.number(),
             file.as_ptr(),
             file.len(),
             offset,
@@ -185,16 +198,24 @@ pub fn read_line(file: &[u8], offset: usize) -> Result<Line, Refusal> {
 /// each call anew: [`find_fields`](crate::find_fields) gives all fields of a line at once.
 ///
 /// ```
+/// use peliranopi::{find_field, Version};
+///
 /// let file = include_bytes!("../../examples/preadvice.csv");
-/// let identcode = peliranopi::find_field(file, 178, 1)?;
+/// let identcode = find_field(Version::Five, file, 178, 1)?;
 /// assert_eq!(&file[identcode], b"1000000000000000000007");
 /// # Ok::<(), peliranopi::Refusal>(())
 /// ```
-pub fn find_field(file: &[u8], offset: usize, number: usize) -> Result<Range<usize>, Refusal> {
+pub fn find_field(
+    version: Version,
+    file: &[u8],
+    offset: usize,
+    number: usize,
+) -> Result<Range<usize>, Refusal> {
     let (mut start, mut length, mut place) = (0, 0, 0);
     // SAFETY: the file's pointer comes with its length; the others point to one local number each.
     let refusal = unsafe {
         sys::peliranopi_find_field(
+            version.number(),
             file.as_ptr(),
             file.len(),
             offset,
@@ -208,22 +229,25 @@ pub fn find_field(file: &[u8], offset: usize, number: usize) -> Result<Range<usi
     Ok(start..start.saturating_add(length))
 }
 
-/// Writes one line into the output from the fill on, and answers how many bytes it has. The record
-/// is a number ([`Record::number`]), the text holds all fields joined, and the ends say where each
-/// of them ends in it.
+/// Writes one line into the output from the fill on, and answers how many bytes it has. The rules
+/// are those of the version, which a header line must have. The record is a number
+/// ([`Record::number`]), the text holds all fields joined, and the ends say where each of them ends in
+/// it.
 ///
 /// Every other byte of the output stays as it was; on a refusal all of them do.
 ///
 /// ```
-/// use peliranopi::{write_line, Record};
+/// use peliranopi::{write_line, Record, Version};
 ///
 /// let mut output = [b'.'; 12];
-/// let written = write_line(Record::Product.number(), b"10", &[2], &mut output, 3)?;
+/// let product = Record::Product.number();
+/// let written = write_line(Version::Five, product, b"10", &[2], &mut output, 3)?;
 /// assert_eq!(written, 8);
 /// assert_eq!(&output, b"...050;10\r\n.");
 /// # Ok::<(), peliranopi::Refusal>(())
 /// ```
 pub fn write_line(
+    version: Version,
     record: u32,
     text: &[u8],
     ends: &[usize],
@@ -235,6 +259,7 @@ pub fn write_line(
     // the output and the numbers are borrowed for this call alone.
     let number = unsafe {
         sys::peliranopi_write_line(
+            version.number(),
             record,
             text.as_ptr(),
             text.len(),

@@ -1,5 +1,5 @@
 //! The dispatch core of a carrier desk: judges, reads and writes Austrian Post pre-advice flat
-//! files (version 5), works out payment purposes, checks, reads and issues identcodes, checks
+//! files (versions 5 and 7), works out payment purposes, checks, reads and issues identcodes, checks
 //! and issues DPD parcel numbers, tells their carry key by key, and checks IBANs.
 //!
 //! These are safe functions over the static library of Peliranopi, which is for x86-64 and whose
@@ -11,7 +11,7 @@
 //! linked that answers others, they are [`Reason::Other`].
 //!
 //! ```
-//! use peliranopi::{find_fields, judge, LINES_MAX};
+//! use peliranopi::{find_fields, judge, Version, LINES_MAX};
 //!
 //! let file = include_bytes!("../../examples/preadvice.csv");
 //! let mut list = [0; LINES_MAX];
@@ -21,7 +21,7 @@
 //! assert_eq!((totals.lines, totals.parcels, totals.cents), (6, 1, 1250));
 //!
 //! // Line 5, counted from 0, is a cash line; field 3 is its amount.
-//! let amount = find_fields(file, list[5] as usize)?.nth(2).unwrap();
+//! let amount = find_fields(Version::of(file), file, list[5] as usize)?.nth(2).unwrap();
 //! assert_eq!(&file[amount], b"12.50");
 //!
 //! let refused = judge(&file[..200], b"", &mut list).unwrap_err();
@@ -44,6 +44,7 @@ mod limits;
 mod named;
 mod numbers;
 mod refusal;
+mod version;
 
 pub use carry::{next_carry, CARRY_PASSED, CARRY_START};
 pub use fields::{find_fields, Fields};
@@ -57,3 +58,4 @@ pub use named::UnknownNumber;
 pub use numbers::{check_iban, check_number, issue_number, Kind};
 pub use peliranopi_sys as sys;
 pub use refusal::{Reason, Refusal};
+pub use version::Version;

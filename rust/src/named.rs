@@ -3,7 +3,8 @@
 use std::error::Error;
 use std::fmt;
 
-/// A number that names no refusal, no record or no kind in this version of the crate.
+/// A number that names no refusal, no version of a file, no record or no kind in this version of the
+/// crate.
 ///
 /// ```
 /// use peliranopi::Record;

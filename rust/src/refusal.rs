@@ -90,6 +90,7 @@ refusals! {
     19 ContactMissing: "a sender's phone or mail is empty, and this shipment's country is on the lent list",
         "line start";
     20 CountriesOdd: "the lent list of countries has an odd length", "0";
+    22 UnknownVersion: "a line call is told a version that is neither 5 nor 7", "0";
 }
 
 /// The row of the table with this number.

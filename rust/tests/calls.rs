@@ -1,8 +1,11 @@
 //! The calls on the example, one refusal for each number, and the limits.
 
+use peliranopi::Version::{Five, Seven};
 use peliranopi::*;
 
 const EXAMPLE: &[u8] = include_bytes!("../../examples/preadvice.csv");
+/// The same of version 7: no customer's name and no post code on the header, and a parcel type.
+const EXAMPLE_7: &[u8] = include_bytes!("../../examples/preadvice-7.csv");
 
 /// Where the example's lines start, and its length.
 const STARTS: [usize; 7] = [0, 74, 116, 178, 208, 216, 276];
@@ -57,10 +60,10 @@ fn the_lines_of_the_example_are_read() {
             fields: fields[line],
             next: STARTS[line + 1],
         };
-        assert_eq!(read_line(EXAMPLE, STARTS[line]), Ok(due));
+        assert_eq!(read_line(Five, EXAMPLE, STARTS[line]), Ok(due));
     }
-    assert_eq!(refusal(read_line(EXAMPLE, 4)), (3, 4));
-    assert_eq!(refusal(read_line(EXAMPLE, usize::MAX)), (2, 276));
+    assert_eq!(refusal(read_line(Five, EXAMPLE, 4)), (3, 4));
+    assert_eq!(refusal(read_line(Five, EXAMPLE, usize::MAX)), (2, 276));
 }
 
 #[test]
@@ -78,31 +81,31 @@ fn the_fields_of_the_cash_line_are_found() {
         "",
     ];
     for (at, field) in fields.iter().enumerate() {
-        let found = find_field(EXAMPLE, 216, at + 1).unwrap();
+        let found = find_field(Five, EXAMPLE, 216, at + 1).unwrap();
         assert_eq!(&EXAMPLE[found], field.as_bytes());
     }
-    assert_eq!(refusal(find_field(EXAMPLE, 216, 0)), (15, 0));
-    assert_eq!(refusal(find_field(EXAMPLE, 216, 11)), (15, 0));
+    assert_eq!(refusal(find_field(Five, EXAMPLE, 216, 0)), (15, 0));
+    assert_eq!(refusal(find_field(Five, EXAMPLE, 216, 11)), (15, 0));
 }
 
 #[test]
 fn each_line_of_the_example_is_written_as_it_was_read() {
     for pair in STARTS.windows(2) {
-        let line = read_line(EXAMPLE, pair[0]).unwrap();
+        let line = read_line(Five, EXAMPLE, pair[0]).unwrap();
         let (mut text, mut ends) = (Vec::new(), Vec::new());
         for number in 1..=line.fields {
-            let field = find_field(EXAMPLE, pair[0], number).unwrap();
+            let field = find_field(Five, EXAMPLE, pair[0], number).unwrap();
             text.extend(&EXAMPLE[field]);
             ends.push(text.len());
         }
         let length = pair[1] - pair[0];
         let mut output = vec![b'.'; length + 5];
-        let written = write_line(line.record.number(), &text, &ends, &mut output, 3);
+        let written = write_line(Five, line.record.number(), &text, &ends, &mut output, 3);
         assert_eq!(written, Ok(length));
         assert_eq!(output, [b"...", &EXAMPLE[pair[0]..pair[1]], b".."].concat());
 
         let mut short = vec![b'.'; length + 2];
-        let answer = write_line(line.record.number(), &text, &ends, &mut short, 3);
+        let answer = write_line(Five, line.record.number(), &text, &ends, &mut short, 3);
         assert_eq!(refusal(answer), (13, 0));
         assert_eq!(short, vec![b'.'; length + 2]);
     }
@@ -130,15 +133,15 @@ fn silent() -> Vec<u8> {
 #[test]
 fn a_line_alone_does_not_ask_for_contacts() {
     let silent = silent();
-    assert_eq!(read_line(&silent, 74).unwrap().next, 112);
-    assert_eq!(find_field(&silent, 74, 12), Ok(106..106));
+    assert_eq!(read_line(Five, &silent, 74).unwrap().next, 112);
+    assert_eq!(find_field(Five, &silent, 74, 12), Ok(106..106));
     let (mut text, mut ends) = (Vec::new(), Vec::new());
-    for field in find_fields(&silent, 74).unwrap() {
+    for field in find_fields(Five, &silent, 74).unwrap() {
         text.extend(&silent[field]);
         ends.push(text.len());
     }
     let mut output = [0; 38];
-    assert_eq!(write_line(20, &text, &ends, &mut output, 0), Ok(38));
+    assert_eq!(write_line(Five, 20, &text, &ends, &mut output, 0), Ok(38));
     assert_eq!(output, silent[74..112]);
 }
 
@@ -181,9 +184,9 @@ fn an_identcode_with_a_wrong_check_digit_is_refused_wherever_it_stands() {
     let written = write_purpose(&file, b"", 5, &mut list, &mut output);
     assert_eq!(refusal(written), (8, 182));
     assert_eq!((list, output), ([0; 8], [b'.'; 40]));
-    assert_eq!(refusal(read_line(&file, 178)), (8, 182));
-    assert_eq!(refusal(find_field(&file, 178, 1)), (8, 182));
-    let written = write_line(40, code, &[22; 3], &mut output, 0);
+    assert_eq!(refusal(read_line(Five, &file, 178)), (8, 182));
+    assert_eq!(refusal(find_field(Five, &file, 178, 1)), (8, 182));
+    let written = write_line(Five, 40, code, &[22; 3], &mut output, 0);
     assert_eq!(refusal(written), (8, 1));
     assert_eq!(output, [b'.'; 40]);
 }
@@ -283,6 +286,206 @@ fn a_carry_that_is_none_is_refused_before_a_key_that_is_no_symbol() {
     }
 }
 
+/// The calls on one line, told this number: each answer, with the numbers behind its pointers. They are
+/// nonsense before.
+fn told_raw(version: u32, file: &[u8], offset: usize) -> [(u32, Vec<usize>); 3] {
+    let nonsense = usize::MAX / 3;
+    let mut numbers = [nonsense; 7];
+    let [fields, next, line_place, start, length, field_place, written] = &mut numbers;
+    let (mut record, mut place) = (u32::MAX / 3, nonsense);
+    let (ends, mut output) = ([2], [b'.'; 8]);
+    // SAFETY: each pointer comes with the length of its own slice or points to one local number.
+    let answers = unsafe {
+        [
+            sys::peliranopi_read_line(
+                version,
+                file.as_ptr(),
+                file.len(),
+                offset,
+                &mut record,
+                fields,
+                next,
+                line_place,
+            ),
+            sys::peliranopi_find_field(
+                version,
+                file.as_ptr(),
+                file.len(),
+                offset,
+                1,
+                start,
+                length,
+                field_place,
+            ),
+            sys::peliranopi_write_line(
+                version,
+                50,
+                b"10".as_ptr(),
+                2,
+                ends.as_ptr(),
+                ends.len(),
+                output.as_mut_ptr(),
+                output.len(),
+                0,
+                written,
+                &mut place,
+            ),
+        ]
+    };
+    let is_written: &[u8] = if answers[2] == 0 {
+        b"050;10\r\n"
+    } else {
+        b"........"
+    };
+    assert_eq!(output, is_written);
+    [
+        (
+            answers[0],
+            vec![record as usize, *fields, *next, *line_place],
+        ),
+        (answers[1], vec![*start, *length, *field_place]),
+        (answers[2], vec![*written, place]),
+    ]
+}
+
+/// "22, a line call told neither 5 nor 7, place 0, before all others": before 1, 2 and 3 here.
+#[test]
+fn a_version_that_is_neither_is_refused_before_all_else() {
+    let accepted = [
+        (0, vec![50, 1, 216, 0]),
+        (0, vec![212, 2, 0]),
+        (0, vec![8, 0]),
+    ];
+    let refused = [(22, vec![0; 4]), (22, vec![0; 3]), (22, vec![0; 2])];
+    let long = [b' '; FILE_LEN_MAX + 1];
+    // Cut to 8 or 16 bits some of these would be versions.
+    let neither = [
+        0,
+        1,
+        4,
+        6,
+        8,
+        55,
+        57,
+        77,
+        256 + 5,
+        256 + 7,
+        65_536 + 5,
+        65_536 + 7,
+        u32::MAX,
+    ];
+    for version in (0..=300).chain(neither) {
+        let told = told_raw(version, EXAMPLE, 208);
+        let is_version = Version::try_from(version).is_ok();
+        assert_eq!(
+            told,
+            if is_version {
+                accepted.clone()
+            } else {
+                refused.clone()
+            }
+        );
+        if !is_version {
+            assert_eq!(told_raw(version, &long, 0), refused);
+            assert_eq!(told_raw(version, b"", usize::MAX), refused);
+            assert_eq!(told_raw(version, b"\r\n", 0), refused);
+        }
+    }
+}
+
+/// What the raw call refuses by 22, with its place.
+fn unknown_version() -> Refusal {
+    let [(number, numbers), ..] = told_raw(6, EXAMPLE, 0);
+    Refusal {
+        why: Reason::try_from(number).unwrap(),
+        place: numbers[3],
+    }
+}
+
+#[test]
+fn the_example_of_version_7_is_accepted_read_and_written() {
+    let mut list = [7; 8];
+    let totals = judge(EXAMPLE_7, b"AT", &mut list).unwrap();
+    assert_eq!((totals.lines, totals.parcels, totals.cents), (6, 1, 1250));
+    assert_eq!(Version::of(EXAMPLE_7), Seven);
+    let mut output = [b'.'; 40];
+    let written = write_purpose(EXAMPLE_7, b"", 5, &mut [0; 8], &mut output);
+    assert_eq!(written, Ok(24));
+    assert_eq!(&output, b"1000000000000000000007/B................");
+    for offset in &list[..6] {
+        let offset = *offset as usize;
+        let line = read_line(Seven, EXAMPLE_7, offset).unwrap();
+        let (mut text, mut ends) = (Vec::new(), Vec::new());
+        for field in find_fields(Seven, EXAMPLE_7, offset).unwrap() {
+            text.extend(&EXAMPLE_7[field]);
+            ends.push(text.len());
+        }
+        let mut output = vec![b'.'; line.next - offset];
+        let record = line.record.number();
+        let written = write_line(Seven, record, &text, &ends, &mut output, 0);
+        assert_eq!(written, Ok(output.len()));
+        assert_eq!(output, EXAMPLE_7[offset..line.next]);
+    }
+}
+
+#[test]
+fn a_header_must_have_the_version_that_is_told() {
+    // 010.2 is empty, which version 5 refuses first.
+    assert_eq!(refusal(read_line(Five, EXAMPLE_7, 0)), (7, 15));
+    let named = String::from_utf8_lossy(EXAMPLE_7).replace(";;2021", ";Muster;2021");
+    let named = named.replace(";;7;", ";1005;7;").into_bytes();
+    assert_eq!(refusal(read_line(Five, &named, 0)), (8, 67));
+    assert_eq!(refusal(find_field(Five, &named, 0, 1)), (8, 67));
+    assert!(read_line(Seven, &named, 0).is_ok());
+    assert_eq!(refusal(read_line(Seven, EXAMPLE, 0)), (8, 67));
+    let fields = find_fields(Five, EXAMPLE, 0).unwrap();
+    let text: Vec<u8> = fields.flat_map(|field| &EXAMPLE[field]).copied().collect();
+    let ends = [10, 16, 35, 54, 58, 59, 59, 59, 59, 59];
+    let mut output = [b'.'; 80];
+    assert_eq!(write_line(Five, 10, &text, &ends, &mut output, 0), Ok(74));
+    output = [b'.'; 80];
+    let written = write_line(Seven, 10, &text, &ends, &mut output, 0);
+    assert_eq!(refusal(written), (8, 6));
+    assert_eq!(output, [b'.'; 80]);
+    // The other lines of a file say nothing of a version.
+    for offset in [74, 116, 178, 208, 216] {
+        let [five, seven] = [Five, Seven].map(|version| read_line(version, EXAMPLE, offset));
+        assert_eq!(five, seven);
+        assert!(five.is_ok());
+    }
+}
+
+/// A header with neither is judged as 5 from left to right.
+#[test]
+fn a_header_with_neither_version_is_refused_as_one_of_version_5() {
+    for mark in ["6", "", "07", "77", "7 ", " 7", "55"] {
+        let file = with("1005;5;", &format!("1005;{mark};"));
+        let due = if mark.is_empty() { 7 } else { 8 };
+        assert_eq!(refusal(judged(&file)), (due, 67), "{mark}");
+        assert_eq!(Version::of(&file), Five);
+    }
+    let silent = String::from_utf8_lossy(EXAMPLE_7).replace(";7;", ";6;");
+    assert_eq!(refusal(judged(silent.as_bytes())), (7, 15));
+}
+
+/// Of a file that is not accepted it is `Seven` exactly where its first line is a header that version 7
+/// accepts.
+#[test]
+fn the_version_of_files_that_are_not_accepted() {
+    for (file, due) in [
+        (&b""[..], Five),
+        (b"050;10\r\n", Five),
+        (&EXAMPLE_7[..64], Seven),
+        (&EXAMPLE_7[..63], Five),
+        (&EXAMPLE_7[64..], Five),
+        (&[EXAMPLE_7, b"x"].concat(), Seven),
+        (&vec![b' '; FILE_LEN_MAX + 1], Five),
+    ] {
+        assert!(judged(file).is_err());
+        assert_eq!(Version::of(file), due, "{}", file.escape_ascii());
+    }
+}
+
 /// A refusal of each number, with its place.
 fn one_of_each() -> Vec<(Refusal, usize)> {
     let parcel_twice = [&EXAMPLE[..208], &EXAMPLE[178..]].concat();
@@ -294,21 +497,25 @@ fn one_of_each() -> Vec<(Refusal, usize)> {
         (judged(b"\r\n").unwrap_err(), 0),
         (judged(&EXAMPLE[74..]).unwrap_err(), 0),
         (judged(b"010;\r\n").unwrap_err(), 0),
-        (read_line(too_wide.as_bytes(), 0).unwrap_err(), 4),
-        (read_line(b"050;\r\n", 0).unwrap_err(), 4),
+        (read_line(Five, too_wide.as_bytes(), 0).unwrap_err(), 4),
+        (read_line(Five, b"050;\r\n", 0).unwrap_err(), 4),
         (judged(&with("AT61", "AT16")).unwrap_err(), 242),
-        (read_line(b"060;006;;;;;;;;;\r\n", 0).unwrap_err(), 0),
+        (read_line(Five, b"060;006;;;;;;;;;\r\n", 0).unwrap_err(), 0),
         (judged(&parcel_twice).unwrap_err(), 212),
         (judge(EXAMPLE, b"", &mut [0; 5]).unwrap_err(), 216),
         (judged(&EXAMPLE[..208]).unwrap_err(), 208),
         (issue_number(body, &mut [0; 14]).unwrap_err(), 0),
-        (write_line(50, b"10", &[1], &mut [], 0).unwrap_err(), 0),
-        (find_field(EXAMPLE, 208, 2).unwrap_err(), 0),
+        (
+            write_line(Five, 50, b"10", &[1], &mut [], 0).unwrap_err(),
+            0,
+        ),
+        (find_field(Five, EXAMPLE, 208, 2).unwrap_err(), 0),
         (check_iban(b"AT").unwrap_err(), 0),
         (check_number(b"09980000020041f").unwrap_err(), 14),
         (check_iban(b"AT161904300234573201").unwrap_err(), 2),
         (judge(&silent(), b"AT", &mut [0; 6]).unwrap_err(), 112),
         (judge(EXAMPLE, b"A", &mut [0; 6]).unwrap_err(), 0),
+        (unknown_version(), 0),
     ]
 }
 
@@ -342,6 +549,7 @@ fn are_named<T: Copy + PartialEq + TryFrom<u32, Error = UnknownNumber> + std::fm
 #[test]
 fn numbers_have_their_names_and_others_have_none() {
     are_named(Reason::ALL, Reason::number);
+    are_named(Version::ALL, Version::number);
     are_named(Record::ALL, Record::number);
     are_named(Kind::ALL, Kind::number);
 
@@ -388,11 +596,14 @@ fn line(record: &str, count: usize, filled: &[(usize, &str)]) -> Vec<u8> {
     format!("{record};{}\r\n", fields.join(";")).into_bytes()
 }
 
-/// A short line of each record, in the order in which they come.
-fn short_lines() -> [Vec<u8>; 6] {
+/// A short line of each record, in the order in which they come, in a file of this version.
+fn short_lines(version: Version) -> [Vec<u8>; 6] {
     let (customer, date) = ("0000000000", "2021-02-23T13:37:50");
-    let times = [(3, date), (4, date), (5, "1005"), (6, "5")];
-    let header = [&[(1, customer), (2, "x")], &times[..]].concat();
+    let times = [(1, customer), (3, date), (4, date)];
+    let header = match version {
+        Five => [&times[..], &[(2, "x"), (5, "1005"), (6, "5")]].concat(),
+        Seven => [&times[..], &[(6, "7")]].concat(),
+    };
     let sender = [1, 5, 6, 7, 9, 11].map(|at| (at, if at == 5 { "BR" } else { "x" }));
     let shipment = [16, 20, 21, 22, 24, 26].map(|at| (at, if at == 20 { "BR" } else { "x" }));
     [
@@ -408,28 +619,34 @@ fn short_lines() -> [Vec<u8>; 6] {
 /// So lines have 18 bytes or more on average, each 050 line with the 040 line in front of it.
 #[test]
 fn no_line_is_shorter_than_the_most_lines_ask_for() {
-    let lines = short_lines();
-    assert_eq!(lines.each_ref().map(Vec::len), [69, 28, 52, 30, 7, 18]);
     assert_eq!(LINES_MAX, FILE_LEN_MAX / 18);
-    for line in &lines[3..] {
-        assert!(read_line(line, 0).is_ok());
-        for at in 0..line.len() {
-            let shorter = [&line[..at], &line[at + 1..]].concat();
-            assert!(read_line(&shorter, 0).is_err(), "without its byte {at}");
+    for (version, header) in [(Five, 69), (Seven, 64)] {
+        let lines = short_lines(version);
+        let lengths = lines.each_ref().map(Vec::len);
+        assert_eq!(lengths, [header, 28, 52, 30, 7, 18]);
+        for line in &lines[3..] {
+            assert!(read_line(version, line, 0).is_ok());
+            for at in 0..line.len() {
+                let shorter = [&line[..at], &line[at + 1..]].concat();
+                let answer = read_line(version, &shorter, 0);
+                assert!(answer.is_err(), "without its byte {at}");
+            }
         }
     }
 }
 
 #[test]
 fn a_list_for_the_most_lines_is_never_full() {
-    let feature = &short_lines()[5];
-    let mut file = short_lines().concat();
-    while file.len() + feature.len() <= FILE_LEN_MAX {
+    for version in [Five, Seven] {
+        let feature = &short_lines(version)[5];
+        let mut file = short_lines(version).concat();
+        while file.len() + feature.len() <= FILE_LEN_MAX {
+            file.extend(feature);
+        }
+        let totals = judge(&file, b"", &mut [0; LINES_MAX]).unwrap();
+        assert_eq!(totals.lines, 3_635);
         file.extend(feature);
+        let answer = judge(&file, b"", &mut [0; LINES_MAX]);
+        assert_eq!(refusal(answer), (1, FILE_LEN_MAX));
     }
-    let totals = judge(&file, b"", &mut [0; LINES_MAX]).unwrap();
-    assert_eq!(totals.lines, 3_635);
-    file.extend(feature);
-    let answer = judge(&file, b"", &mut [0; LINES_MAX]);
-    assert_eq!(refusal(answer), (1, FILE_LEN_MAX));
 }

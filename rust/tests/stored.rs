@@ -39,6 +39,45 @@ fn the_stored_files_are_judged_as_stored() {
     assert_eq!(judged.collect::<Vec<_>>(), due);
 }
 
+#[test]
+fn the_examples_are_among_the_stored_files() {
+    for (example, name) in [("preadvice", "example"), ("preadvice-7", "example_7")] {
+        let example = std::fs::read(format!("{CASES}/../../examples/{example}.csv")).unwrap();
+        let stored = std::fs::read(format!("{CASES}/data/{name}")).unwrap();
+        assert_eq!(example, stored, "{name}");
+    }
+}
+
+/// `Version::of` gives the one version under which each line of an accepted file is accepted alone,
+/// and which stands on its header.
+#[test]
+fn the_stored_files_that_are_accepted_have_their_version() {
+    let mut of_each = [0; 2];
+    for row in rows(CASES, "stdout") {
+        let mut words = row.split(' ');
+        let [name, count, lent, answer] = std::array::from_fn(|_| words.next().unwrap());
+        if answer != "ok" {
+            continue;
+        }
+        let file = std::fs::read(format!("{CASES}/data/{name}")).unwrap();
+        let mut list = vec![0; count.parse().unwrap()];
+        let countries = if lent == "-" { "" } else { lent };
+        let totals = judge(&file, countries.as_bytes(), &mut list).unwrap();
+        let version = Version::of(&file);
+        for offset in &list[..totals.lines] {
+            let line = read_line(version, &file, *offset as usize);
+            assert!(line.is_ok(), "{name} at {offset}: {line:?}");
+        }
+        let mark = find_field(version, &file, 0, 6).unwrap();
+        assert_eq!(file[mark], version.number().to_string().into_bytes());
+        for (one, files) in Version::ALL.iter().zip(&mut of_each) {
+            assert_eq!(read_line(*one, &file, 0).is_ok(), *one == version, "{name}");
+            *files += usize::from(*one == version);
+        }
+    }
+    assert!(of_each.iter().all(|files| *files >= 20), "{of_each:?}");
+}
+
 /// The answer to a request, which is a letter, a space and symbols.
 fn answer(request: &str) -> String {
     let symbols = request[2..].as_bytes();

@@ -1,6 +1,6 @@
 //! What stands in more than one place, held together: the refusals, the other constants of the C
-//! header, its functions and structs, the version, and the printed table of the carry. A test fails
-//! with the name of the place that lacks a row.
+//! header, its functions and structs, the version, and the printed tables of the carry and of the
+//! fields. A test fails with the name of the place that lacks a row.
 
 use std::fmt::Debug;
 
@@ -10,6 +10,7 @@ const README: &str = include_str!("../../README.md");
 const CHANGELOG: &str = include_str!("../../CHANGELOG.md");
 const HEADER: &str = include_str!("../../c/peliranopi.h");
 const PRINTED: &str = include_str!("../../docs/carry-table.txt");
+const FIELDS: &str = include_str!("../../docs/fields.txt");
 const PROVED: &str = include_str!("../../crates/refusal/src/lib.rt");
 const CRATE: &str = include_str!("../src/refusal.rs");
 const IDENTCODE: &str = include_str!("../src/identcode.rs");
@@ -182,15 +183,18 @@ fn the_c_header_has_the_words_of_the_crate() {
 }
 
 #[test]
-fn the_c_header_has_the_records_the_kinds_the_limits_and_the_carries() {
+fn the_c_header_has_the_versions_the_records_the_kinds_the_limits_and_the_carries() {
+    let versions = Version::ALL.iter().map(|version| version.number());
+    let versions = versions.map(|number| (format!("FILE_VERSION_{number}"), number as usize));
+    hold("c/peliranopi.h", &numbers(1), &versions.collect::<Vec<_>>());
     let records = Record::ALL
         .iter()
         .map(|record| (format!("{record:?}"), record.number()));
-    hold("c/peliranopi.h", &numbers(1), &in_c(records));
+    hold("c/peliranopi.h", &numbers(2), &in_c(records));
     let kinds = Kind::ALL
         .iter()
         .map(|kind| (format!("{kind:?}"), kind.number()));
-    hold("c/peliranopi.h", &numbers(2), &in_c(kinds));
+    hold("c/peliranopi.h", &numbers(3), &in_c(kinds));
     let limits = [
         ("FILE_LEN_MAX", FILE_LEN_MAX),
         ("LINES_MAX", LINES_MAX),
@@ -202,16 +206,16 @@ fn the_c_header_has_the_records_the_kinds_the_limits_and_the_carries() {
         ("IDENTCODE_LEN", IDENTCODE_LEN),
     ];
     let limits = limits.map(|(name, limit)| (name.to_string(), limit));
-    hold("c/peliranopi.h", &numbers(3), &limits);
+    hold("c/peliranopi.h", &numbers(4), &limits);
     let carries = [
         ("CARRY_START", CARRY_START as usize),
         ("CARRY_PASSED", CARRY_PASSED as usize),
     ];
     let carries = carries.map(|(name, carry)| (name.to_string(), carry));
-    hold("c/peliranopi.h", &numbers(4), &carries);
+    hold("c/peliranopi.h", &numbers(5), &carries);
     assert_eq!(
         constants().len(),
-        5,
+        6,
         "an enum of the header that no test knows"
     );
 }
@@ -391,4 +395,155 @@ fn the_printed_table_has_the_carries_of_the_call() {
             assert_eq!(*entry, next.to_string(), "carry {carry}, symbol {symbol}");
         }
     }
+}
+
+/// A row of docs/fields.txt: record and field, width and duty in each version, and the feature codes
+/// under which alone it holds.
+#[derive(Clone, Debug, PartialEq)]
+struct FieldRow {
+    record: u32,
+    number: usize,
+    rules: [(usize, bool); 2],
+    under: Vec<String>,
+}
+
+fn field_rows() -> Vec<FieldRow> {
+    let lines = FIELDS.lines().filter(|line| !line.starts_with('#'));
+    lines
+        .filter(|line| !line.is_empty())
+        .map(field_row)
+        .collect()
+}
+
+fn field_row(line: &str) -> FieldRow {
+    let words: Vec<&str> = line.split_whitespace().collect();
+    let (record, number) = words[0].split_once('.').unwrap();
+    let rule = |width: usize| {
+        let duty = match words[width + 1] {
+            "R" => true,
+            "-" => false,
+            other => panic!("docs/fields.txt: no duty is {other}"),
+        };
+        (words[width].parse().unwrap(), duty)
+    };
+    let under = match words.get(5) {
+        Some(word) => {
+            assert_eq!(*word, "under", "docs/fields.txt: {line}");
+            words[6..].iter().map(|code| code.to_string()).collect()
+        }
+        None => Vec::new(),
+    };
+    FieldRow {
+        record: record.parse().unwrap(),
+        number: number.parse().unwrap(),
+        rules: [rule(1), rule(3)],
+        under,
+    }
+}
+
+/// The refusals 6 and 7 of one field, of which nothing else in the line can have a say: the fields in
+/// front of it are right, and those behind it come later. Answers the refusal's number, or 0 for
+/// acceptance and for every refusal of another field or of none.
+fn refused_field(version: Version, record: u32, code: &str, number: usize, content: &[u8]) -> u32 {
+    let mut fields = right_line(version, record, code);
+    fields[number - 1] = content.to_vec();
+    match written(version, record, &fields) {
+        Err(refused) if refused.place == number => refused.why.number(),
+        _ => 0,
+    }
+}
+
+fn written(version: Version, record: u32, fields: &[Vec<u8>]) -> Result<usize, Refusal> {
+    let ends = fields.iter().scan(0, |end, field| {
+        *end += field.len();
+        Some(*end)
+    });
+    let ends: Vec<usize> = ends.collect();
+    let mut output = [0; 4_096];
+    write_line(version, record, &fields.concat(), &ends, &mut output, 0)
+}
+
+/// A line that is accepted, with as many fields as the record may have.
+fn right_line(version: Version, record: u32, code: &str) -> Vec<Vec<u8>> {
+    let mark = version.number();
+    let text = match record {
+        10 => format!("0012345678;x;2021-02-23T13:37:50;2021-02-24T14:20:55;1005;{mark};;;;"),
+        20 => "x;;;;DE;x;x;;x;;x;;;;;".to_string(),
+        30 => ";;;;;;;;;;;;;;;x;;;;DE;x;x;;x;;x;;;;;;;;;;;;;;".to_string(),
+        40 => "1000000000000000000007;;;x".to_string() + &";".repeat(20),
+        50 => "x".to_string() + &";".repeat(23),
+        _ => format!("{code};;1.00;EUR;x;AT611904300234573201;ABCDATWW;;a@b;x"),
+    };
+    let fields: Vec<Vec<u8>> = text.split(';').map(|field| field.into()).collect();
+    let answer = written(version, record, &fields);
+    assert!(answer.is_ok(), "{text} in version {mark}: {answer:?}");
+    fields
+}
+
+/// The width and the duty that the library shows: no field of so many bytes is too long, and each
+/// longer one is; and whether an empty one is refused.
+fn shown(version: Version, record: u32, code: &str, number: usize) -> (usize, bool) {
+    let refused = |content: &[u8]| refused_field(version, record, code, number, content);
+    let widest = (1..=200).rfind(|length| refused(&vec![b'x'; *length]) != 6);
+    let width = widest.expect("some content is not too long");
+    assert!(width < 200, "{record:03}.{number} has no width");
+    for length in 1..=width {
+        assert_ne!(refused(&vec![b'x'; length]), 6, "{record:03}.{number}");
+    }
+    let empty = refused(b"");
+    assert!(
+        matches!(empty, 0 | 7),
+        "{record:03}.{number} empty: {empty}"
+    );
+    (width, empty == 7)
+}
+
+/// The row of a field as the library shows it, for lines with one of these codes.
+fn shown_row(record: u32, number: usize, codes: &[&str], under: &[&str]) -> FieldRow {
+    let rules = [Version::Five, Version::Seven].map(|version| {
+        let each = codes
+            .iter()
+            .map(|code| shown(version, record, code, number));
+        let each: Vec<(usize, bool)> = each.collect();
+        let alike = each.iter().all(|rule| *rule == each[0]);
+        assert!(alike, "{record:03}.{number} under {codes:?}: {each:?}");
+        each[0]
+    });
+    FieldRow {
+        record,
+        number,
+        rules,
+        under: under.iter().map(|code| code.to_string()).collect(),
+    }
+}
+
+/// Every field of every record under both versions, and 060 under every feature code: the stored table
+/// has these rows and no others.
+#[test]
+fn the_table_of_the_fields_is_what_the_library_shows() {
+    const CASH: [&str; 2] = ["006", "022"];
+    let codes: Vec<String> = (0..1_000).map(|code| format!("{code:03}")).collect();
+    let is_code = |code: &&str| refused_field(Version::Five, 60, "004", 1, code.as_bytes()) == 0;
+    let codes: Vec<&str> = codes.iter().map(String::as_str).filter(is_code).collect();
+    assert_eq!(codes.len(), 30, "{codes:?}");
+    let others: Vec<&str> = codes
+        .iter()
+        .copied()
+        .filter(|code| !CASH.contains(code))
+        .collect();
+    let mut due = Vec::new();
+    for (record, most) in [(10, 10), (20, 16), (30, 40), (40, 24), (50, 24), (60, 10)] {
+        for number in 1..=most {
+            match (record, number) {
+                (60, 2) => {
+                    due.push(shown_row(record, number, &others, &[]));
+                    due.push(shown_row(record, number, &CASH, &CASH));
+                }
+                (60, _) => due.push(shown_row(record, number, &codes, &[])),
+                _ => due.push(shown_row(record, number, &[""], &[])),
+            }
+        }
+    }
+    assert_eq!(due.len(), 124 + 1);
+    hold("docs/fields.txt", &field_rows(), &due);
 }

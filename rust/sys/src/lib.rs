@@ -68,8 +68,9 @@ extern "C" {
         place: *mut usize,
     ) -> u32;
 
-    /// Judges the line that starts at the offset, alone.
+    /// Judges the line that starts at the offset, alone, in a file of this version.
     pub fn peliranopi_read_line(
+        version: u32,
         file: *const u8,
         file_len: usize,
         offset: usize,
@@ -79,8 +80,9 @@ extern "C" {
         place: *mut usize,
     ) -> u32;
 
-    /// Finds one field of the line that starts at the offset.
+    /// Finds one field of the line that starts at the offset, in a file of this version.
     pub fn peliranopi_find_field(
+        version: u32,
         file: *const u8,
         file_len: usize,
         offset: usize,
@@ -90,8 +92,9 @@ extern "C" {
         place: *mut usize,
     ) -> u32;
 
-    /// Writes one line.
+    /// Writes one line of a file of this version.
     pub fn peliranopi_write_line(
+        version: u32,
         record: u32,
         text: *const u8,
         text_len: usize,
