@@ -10,9 +10,13 @@
 
 #define NONSENSE 0x5A5A5A5Au
 
-/* The example has 276 bytes and these line starts, and so has the same without the sender's phone, and with a wrong identcode. */
+/* The example has 276 bytes and these line starts, and so has the same without the sender's phone, with a wrong identcode, and of version
+ * 7. */
 static const uint32_t starts[6] = {0, 74, 116, 178, 208, 216};
-static uint8_t example[276], silent[276], miskeyed[276];
+static uint8_t example[276], silent[276], miskeyed[276], seven[276];
+
+/* Numbers that are no version of a file; cut to 8 or 16 bits some would be. */
+static const uint32_t no_versions[12] = {0, 1, 4, 6, 8, 55, 57, 256 + 5, 256 + 7, 65536 + 5, 65536 + 7, UINT32_MAX};
 
 static const char *called, *with;
 static int cases;
@@ -135,12 +139,12 @@ static void judge_cases(const char *folder)
 }
 
 /* Reads the line at an offset of the example, or of a file like it; a refused one has neither record, fields nor next. */
-static void read_line(const uint8_t *file, size_t offset,
+static void read_line(uint32_t version, const uint8_t *file, size_t offset,
                       uint32_t refusal, uint32_t record, size_t fields, size_t next, size_t place)
 {
     uint32_t named = NONSENSE;
     size_t count = NONSENSE, following = NONSENSE, at = NONSENSE;
-    is("the answer", peliranopi_read_line(file, sizeof example, offset, &named, &count, &following, &at), refusal);
+    is("the answer", peliranopi_read_line(version, file, sizeof example, offset, &named, &count, &following, &at), refusal);
     is("the record", named, record);
     is("the fields", count, fields);
     is("the next line", following, next);
@@ -153,26 +157,51 @@ static void read_line_cases(void)
         PELIRANOPI_HEADER, PELIRANOPI_SENDER, PELIRANOPI_SHIPMENT, PELIRANOPI_PARCEL, PELIRANOPI_PRODUCT, PELIRANOPI_FEATURE};
     static const size_t fields[6] = {10, 16, 40, 3, 1, 10};
     for (int line = 0; line < 6; line++) {
-        open_case("read_line", "a line of the example");
         size_t next = line < 5 ? starts[line + 1] : sizeof example;
-        read_line(example, starts[line], PELIRANOPI_ACCEPTED, records[line], fields[line], next, 0);
+        open_case("read_line", "a line of the example");
+        read_line(5, example, starts[line], PELIRANOPI_ACCEPTED, records[line], fields[line], next, 0);
+        open_case("read_line", "a line of the example of version 7");
+        read_line(7, seven, starts[line], PELIRANOPI_ACCEPTED, records[line], fields[line], next, 0);
+    }
+    open_case("read_line", "a header of version 5, told 7");
+    read_line(PELIRANOPI_FILE_VERSION_7, example, 0, PELIRANOPI_FIELD_FORM, 0, 0, 0, 67);
+    open_case("read_line", "a header of version 7, told 5");
+    read_line(PELIRANOPI_FILE_VERSION_5, seven, 0, PELIRANOPI_FIELD_FORM, 0, 0, 0, 67);
+    for (int which = 0; which < 12; which++) {
+        /* Before 2 too. */
+        open_case("read_line", "no version");
+        read_line(no_versions[which], example, 0, PELIRANOPI_UNKNOWN_VERSION, 0, 0, 0, 0);
+        open_case("read_line", "no version, past the file");
+        read_line(no_versions[which], example, SIZE_MAX, PELIRANOPI_UNKNOWN_VERSION, 0, 0, 0, 0);
+    }
+    static const uint8_t zeros[PELIRANOPI_FILE_LEN_MAX + 1];
+    static const uint32_t versions[3] = {5, 7, 6};
+    for (int which = 0; which < 3; which++) {
+        open_case("read_line", "a file that is too long, under a version and none");
+        uint32_t named = NONSENSE;
+        size_t count = NONSENSE, following = NONSENSE, at = NONSENSE;
+        int known = versions[which] != 6;
+        is("the answer", peliranopi_read_line(versions[which], zeros, sizeof zeros, 0, &named, &count, &following, &at),
+           known ? PELIRANOPI_FILE_TOO_LONG : PELIRANOPI_UNKNOWN_VERSION);
+        is("the numbers", named | count | following, 0);
+        is("the place", at, known ? PELIRANOPI_FILE_LEN_MAX : 0);
     }
     open_case("read_line", "inside a line");
-    read_line(example, 4, PELIRANOPI_UNKNOWN_RECORD, 0, 0, 0, 4);
+    read_line(5, example, 4, PELIRANOPI_UNKNOWN_RECORD, 0, 0, 0, 4);
     open_case("read_line", "the file's end");
-    read_line(example, sizeof example, PELIRANOPI_NO_LINE_END, 0, 0, 0, sizeof example);
+    read_line(5, example, sizeof example, PELIRANOPI_NO_LINE_END, 0, 0, 0, sizeof example);
     open_case("read_line", "past the file");
-    read_line(example, SIZE_MAX, PELIRANOPI_NO_LINE_END, 0, 0, 0, sizeof example);
+    read_line(5, example, SIZE_MAX, PELIRANOPI_NO_LINE_END, 0, 0, 0, sizeof example);
     open_case("read_line", "an identcode with a wrong check digit");
-    read_line(miskeyed, 178, PELIRANOPI_FIELD_FORM, 0, 0, 0, 182);
+    read_line(5, miskeyed, 178, PELIRANOPI_FIELD_FORM, 0, 0, 0, 182);
 }
 
 /* Finds a field of the example, or of a file like it. */
-static void find_field(const uint8_t *file, size_t offset, size_t number,
+static void find_field(uint32_t version, const uint8_t *file, size_t offset, size_t number,
                        uint32_t refusal, size_t start, const char *field, size_t place)
 {
     size_t found = NONSENSE, length = NONSENSE, at = NONSENSE;
-    is("the answer", peliranopi_find_field(file, sizeof example, offset, number, &found, &length, &at), refusal);
+    is("the answer", peliranopi_find_field(version, file, sizeof example, offset, number, &found, &length, &at), refusal);
     is("the start", found, start);
     is("the length", length, strlen(field));
     is("the place", at, place);
@@ -183,30 +212,41 @@ static void find_field(const uint8_t *file, size_t offset, size_t number,
 static void find_field_cases(void)
 {
     open_case("find_field", "the cash amount");
-    find_field(example, 216, 3, PELIRANOPI_ACCEPTED, 225, "12.50", 0);
+    find_field(5, example, 216, 3, PELIRANOPI_ACCEPTED, 225, "12.50", 0);
     open_case("find_field", "an empty field");
-    find_field(example, 216, 2, PELIRANOPI_ACCEPTED, 224, "", 0);
+    find_field(5, example, 216, 2, PELIRANOPI_ACCEPTED, 224, "", 0);
     open_case("find_field", "the identcode");
-    find_field(example, 178, 1, PELIRANOPI_ACCEPTED, 182, "1000000000000000000007", 0);
+    find_field(5, example, 178, 1, PELIRANOPI_ACCEPTED, 182, "1000000000000000000007", 0);
     open_case("find_field", "field 0");
-    find_field(example, 216, 0, PELIRANOPI_NOT_THERE, 0, "", 0);
+    find_field(5, example, 216, 0, PELIRANOPI_NOT_THERE, 0, "", 0);
     open_case("find_field", "field 11 of 10");
-    find_field(example, 216, 11, PELIRANOPI_NOT_THERE, 0, "", 0);
+    find_field(5, example, 216, 11, PELIRANOPI_NOT_THERE, 0, "", 0);
     open_case("find_field", "inside a line");
-    find_field(example, 75, 1, PELIRANOPI_UNKNOWN_RECORD, 0, "", 75);
+    find_field(5, example, 75, 1, PELIRANOPI_UNKNOWN_RECORD, 0, "", 75);
+    open_case("find_field", "the version of a header");
+    find_field(7, seven, 0, 6, PELIRANOPI_ACCEPTED, 67, "7", 0);
+    open_case("find_field", "a header of version 7, told 5");
+    find_field(5, seven, 0, 6, PELIRANOPI_FIELD_FORM, 0, "", 67);
+    for (int which = 0; which < 12; which++) {
+        /* Before 3 and 15 too. */
+        open_case("find_field", "no version");
+        find_field(no_versions[which], example, 216, 3, PELIRANOPI_UNKNOWN_VERSION, 0, "", 0);
+        open_case("find_field", "no version, field 0 inside a line");
+        find_field(no_versions[which], example, 75, 0, PELIRANOPI_UNKNOWN_VERSION, 0, "", 0);
+    }
     open_case("find_field", "behind an identcode with a wrong check digit");
-    find_field(miskeyed, 178, 2, PELIRANOPI_FIELD_FORM, 0, "", 182);
+    find_field(5, miskeyed, 178, 2, PELIRANOPI_FIELD_FORM, 0, "", 182);
 }
 
 /* Writes a line into an output of so many bytes, 128 at most. */
-static void write_line(uint32_t record, const char *text, const size_t *ends, size_t count, size_t length, size_t fill,
-                       uint32_t refusal, const char *line, size_t place)
+static void write_line(uint32_t version, uint32_t record, const char *text, const size_t *ends, size_t count, size_t length,
+                       size_t fill, uint32_t refusal, const char *line, size_t place)
 {
     uint8_t output[128];
     memset(output, '.', sizeof output);
     size_t written = NONSENSE, at = NONSENSE;
-    uint32_t answer = peliranopi_write_line(record, (const uint8_t *)text, strlen(text), ends, count, output, length, fill,
-                                            &written, &at);
+    uint32_t answer = peliranopi_write_line(version, record, (const uint8_t *)text, strlen(text), ends, count, output, length,
+                                            fill, &written, &at);
     is("the answer", answer, refusal);
     is("the bytes written", written, strlen(line));
     is("the place", at, place);
@@ -222,27 +262,47 @@ static void write_line_cases(void)
     open_case("write_line", "the example's last line");
     if (memcmp(line, example + 216, 60) != 0)
         fail("the example has another");
-    write_line(PELIRANOPI_FEATURE, text, cash, 10, 60, 0, PELIRANOPI_ACCEPTED, line, 0);
+    write_line(5, PELIRANOPI_FEATURE, text, cash, 10, 60, 0, PELIRANOPI_ACCEPTED, line, 0);
     open_case("write_line", "behind 40 bytes");
-    write_line(PELIRANOPI_FEATURE, text, cash, 10, 128, 40, PELIRANOPI_ACCEPTED, line, 0);
+    write_line(5, PELIRANOPI_FEATURE, text, cash, 10, 128, 40, PELIRANOPI_ACCEPTED, line, 0);
     open_case("write_line", "one byte short");
-    write_line(PELIRANOPI_FEATURE, text, cash, 10, 99, 40, PELIRANOPI_OUTPUT_TOO_SHORT, "", 0);
+    write_line(5, PELIRANOPI_FEATURE, text, cash, 10, 99, 40, PELIRANOPI_OUTPUT_TOO_SHORT, "", 0);
     open_case("write_line", "a fill past the output");
-    write_line(PELIRANOPI_PRODUCT, "10", product, 1, 128, SIZE_MAX, PELIRANOPI_OUTPUT_TOO_SHORT, "", 0);
+    write_line(5, PELIRANOPI_PRODUCT, "10", product, 1, 128, SIZE_MAX, PELIRANOPI_OUTPUT_TOO_SHORT, "", 0);
     open_case("write_line", "record 51");
-    write_line(51, "10", product, 1, 128, 0, PELIRANOPI_UNKNOWN_RECORD, "", 0);
+    write_line(5, 51, "10", product, 1, 128, 0, PELIRANOPI_UNKNOWN_RECORD, "", 0);
     open_case("write_line", "an end behind the text");
-    write_line(PELIRANOPI_PRODUCT, "1", product, 1, 128, 0, PELIRANOPI_FIELD_ENDS, "", 0);
+    write_line(5, PELIRANOPI_PRODUCT, "1", product, 1, 128, 0, PELIRANOPI_FIELD_ENDS, "", 0);
     open_case("write_line", "one field of ten");
-    write_line(PELIRANOPI_FEATURE, "10", product, 1, 128, 0, PELIRANOPI_FIELD_COUNT, "", 0);
+    write_line(5, PELIRANOPI_FEATURE, "10", product, 1, 128, 0, PELIRANOPI_FIELD_COUNT, "", 0);
     open_case("write_line", "a semicolon in field 1");
-    write_line(PELIRANOPI_PRODUCT, "1;", product, 1, 128, 0, PELIRANOPI_FIELD_FORM, "", 1);
+    write_line(5, PELIRANOPI_PRODUCT, "1;", product, 1, 128, 0, PELIRANOPI_FIELD_FORM, "", 1);
+    static const size_t wide[1] = {3}, typed[4] = {22, 22, 22, 23}, untyped[4] = {22, 22, 22, 22};
+    open_case("write_line", "a product code of three bytes in version 5");
+    write_line(5, PELIRANOPI_PRODUCT, "010", wide, 1, 128, 0, PELIRANOPI_ACCEPTED, "050;010\r\n", 0);
+    open_case("write_line", "a product code of three bytes in version 7");
+    write_line(7, PELIRANOPI_PRODUCT, "010", wide, 1, 128, 0, PELIRANOPI_FIELD_TOO_LONG, "", 1);
+    open_case("write_line", "a parcel with its type in version 7");
+    write_line(7, PELIRANOPI_PARCEL, "1000000000000000000007C", typed, 4, 128, 0, PELIRANOPI_ACCEPTED,
+               "040;1000000000000000000007;;;C\r\n", 0);
+    open_case("write_line", "a parcel with an empty type in version 7");
+    write_line(7, PELIRANOPI_PARCEL, "1000000000000000000007", untyped, 4, 128, 0, PELIRANOPI_FIELD_EMPTY, "", 4);
+    open_case("write_line", "a parcel with an empty type in version 5");
+    write_line(5, PELIRANOPI_PARCEL, "1000000000000000000007", untyped, 4, 128, 0, PELIRANOPI_ACCEPTED,
+               "040;1000000000000000000007;;;\r\n", 0);
+    for (int which = 0; which < 12; which++) {
+        /* Before 3, 14 and 13 too. */
+        open_case("write_line", "no version");
+        write_line(no_versions[which], PELIRANOPI_PRODUCT, "10", product, 1, 128, 0, PELIRANOPI_UNKNOWN_VERSION, "", 0);
+        open_case("write_line", "no version, no record, no such ends and no output");
+        write_line(no_versions[which], 51, "1", product, 1, 0, 1, PELIRANOPI_UNKNOWN_VERSION, "", 0);
+    }
     static const size_t parcel[3] = {22, 22, 22};
     open_case("write_line", "an identcode");
-    write_line(PELIRANOPI_PARCEL, "8546379003275981863426", parcel, 3, 128, 7, PELIRANOPI_ACCEPTED,
+    write_line(5, PELIRANOPI_PARCEL, "8546379003275981863426", parcel, 3, 128, 7, PELIRANOPI_ACCEPTED,
                "040;8546379003275981863426;;\r\n", 0);
     open_case("write_line", "an identcode with a wrong check digit");
-    write_line(PELIRANOPI_PARCEL, "8546379003275981863427", parcel, 3, 128, 7, PELIRANOPI_FIELD_FORM, "", 1);
+    write_line(5, PELIRANOPI_PARCEL, "8546379003275981863427", parcel, 3, 128, 7, PELIRANOPI_FIELD_FORM, "", 1);
 }
 
 /* Writes the purpose of a line of the example, or of a file like it, into an output of so many bytes, 64 at most. */
@@ -269,6 +329,8 @@ static void write_purpose_cases(void)
     const char *purpose = "1000000000000000000007/B";
     open_case("write_purpose", "the cash line");
     write_purpose(example, "", 5, 64, PELIRANOPI_ACCEPTED, purpose, 0);
+    open_case("write_purpose", "the cash line in version 7");
+    write_purpose(seven, "CHAT", 5, 64, PELIRANOPI_ACCEPTED, purpose, 0);
     open_case("write_purpose", "an output of 35 bytes");
     write_purpose(example, "", 5, PELIRANOPI_PURPOSE_LEN_MAX, PELIRANOPI_ACCEPTED, purpose, 0);
     open_case("write_purpose", "an output of 34 bytes");
@@ -527,6 +589,9 @@ int main(int argc, char **argv)
     /* The check digit 1 in place of 7. */
     memcpy(miskeyed, example, sizeof example);
     miskeyed[203] = '1';
+    /* `7` in field 6 of the header. */
+    memcpy(seven, example, sizeof example);
+    seven[67] = '7';
     judge_cases(argv[1]);
     read_line_cases();
     find_field_cases();

@@ -1,6 +1,6 @@
 #!/usr/bin/env python3
-"""Writes the stored files of crates/test_cases with the answers that document 01 and the requests 1 and 2 of document 02 give them, worked
-out from how each file is made: python3 tests/cases.py [FOLDER] (default crates/test_cases)"""
+"""Writes the stored files of crates/test_cases with the answers that document 01 and the requests 1, 2 and 5 of document 02 give them,
+worked out from how each file is made: python3 tests/cases.py [FOLDER] (default crates/test_cases)"""
 import os
 import sys
 
@@ -101,12 +101,13 @@ def field_case(i, make, number, n):
     return refused(lines, number, place(lines, i, n))
 
 
-def full_file(size):
-    """An accepted file of so many bytes: parcels, then a last line lengthened by its free fields."""
-    lines = [header(), sender(), shipment()] + [parcel(k) for k in range(1, 2100)] + [product()]
+def full_file(size, version="5", widths=(64, 64, 40)):
+    """An accepted file of so many bytes: parcels, then a last line lengthened by its free fields. The widths are those of 060.2, 060.5
+    and 060.10."""
+    lines = [header(f6=version), sender(), shipment()] + [parcel(k) for k in range(1, 2100)] + [product()]
     left = size - len(render(lines))
     while left > 2000:
-        lines.append(feature("011", f3="1.00", f4="EUR", f2="x" * 60, f5="y" * 60))
+        lines.append(feature("011", f3="1.00", f4="EUR", f2="x" * min(60, widths[0]), f5="y" * min(60, widths[1])))
         left = size - len(render(lines))
     # The bytes that are still missing go into free fields of 050 lines' successors.
     while left:
@@ -115,7 +116,7 @@ def full_file(size):
         need = take - len(render([pad])) if take >= len(render([pad])) else None
         if need is None:
             break
-        for n, width in ((2, 64), (5, 64), (10, 40)):
+        for n, width in zip((2, 5, 10), widths):
             use = min(width, need)
             pad[n] = b"z" * use
             need -= use
@@ -339,6 +340,275 @@ def identcode_order_cases():
     yield "code_with_control_byte", refused(with_line(3, control), 2, place(with_line(3, control), 3, 1) + 11)
 
 
+def told(version, lines):
+    """The lines with this version on their header."""
+    return [lines[0][:6] + [version.encode()] + lines[0][7:]] + lines[1:]
+
+
+def wide_parcel(**put):
+    """A parcel with the twelve fields that document 002 has, of which the first and the type are filled."""
+    return filled("040", 12, {1: identcode(10**20), 4: "C"}, put)
+
+
+def mail(length):
+    return "m" * (length - 2) + "@m"
+
+
+def of(symbol):
+    """What fills a field to a length with one symbol."""
+    return lambda length: symbol * length
+
+
+# An IBAN as long as one may be; its check digits make the remainder of 0..0 AT00 by 97, with AT00 as 102900, 1.
+LONGEST_IBAN = f"AT{98 - 102900 % 97:02d}" + "0" * 30
+
+# Each field whose width or duty depends on the version: its name, its line in the example, the maker of that line, its number, its
+# width in 5 and in 7, what fills it to a length, and the lengths that have its form, where it has one (document 01, 'Widths and rules';
+# document 002, tables 8, 14, 22 and 25).
+DIFFERING = (
+    ("010_2", 0, header, 2, 40, 80, of("x"), None),
+    ("010_5", 0, header, 5, 4, 10, of("1"), (4,)),
+    ("040_1", 3, wide_parcel, 1, 22, 24, lambda n: identcode(10**20) if n == 22 else "1" * n, (22,)),
+    ("040_2", 3, wide_parcel, 2, 64, 11, of("x"), None),
+    ("040_3", 3, wide_parcel, 3, 64, 40, of("x"), None),
+    ("040_4", 3, wide_parcel, 4, 64, 1, of("x"), None),
+    ("040_5", 3, wide_parcel, 5, 64, 40, of("x"), None),
+    ("040_6", 3, wide_parcel, 6, 64, 40, of("x"), None),
+    ("040_7", 3, wide_parcel, 7, 64, 9, of("x"), None),
+    ("040_8", 3, wide_parcel, 8, 64, 3, of("x"), None),
+    ("040_9", 3, wide_parcel, 9, 64, 100, of("x"), None),
+    ("040_10", 3, wide_parcel, 10, 64, 2, of("x"), None),
+    ("040_11", 3, wide_parcel, 11, 64, 1, of("x"), None),
+    ("040_12", 3, wide_parcel, 12, 64, 100, of("x"), None),
+    ("050_1", 4, product, 1, 20, 2, of("x"), None),
+    ("060_2", 5, lambda **put: feature("004", **put), 2, 64, 40, of("&"), None),
+    ("060_2_under_006", 5, feature, 2, 35, 40, of("x"), None),
+    ("060_2_under_022", 5, lambda **put: feature("022", **put), 2, 35, 40, of("x"), None),
+    ("060_5", 5, feature, 5, 64, 35, of("x"), None),
+    ("060_6", 5, feature, 6, 34, 40, lambda n: LONGEST_IBAN if n == 34 else "A" * n, (34,)),
+    ("060_9", 5, feature, 9, 64, 40, mail, None),
+)
+
+
+def version_width_cases():
+    """Each of these fields at its width and one over, by the widths of both versions, in both."""
+    for name, i, make, n, five, seven, fill, lengths in DIFFERING:
+        for version, width in (("5", five), ("7", seven)):
+            for length in sorted({five, five + 1, seven, seven + 1}):
+                lines = told(version, with_line(i, make(**{f"f{n}": fill(length)})))
+                cents = 0 if lines[5][1] == b"004" else 1250
+                if length > width:
+                    case = refused(lines, 6, place(lines, i, n))
+                elif lengths is not None and length not in lengths:
+                    case = refused(lines, 8, place(lines, i, n))
+                else:
+                    case = accepted(lines, 4096, cents)
+                yield f"v{version}_{name}_of_{length}", case
+
+
+def version_duty_cases():
+    """Empty fields whose duty depends on the version, and the other fields of 002's tables, empty and filled."""
+    for n in (2, 5):
+        lines = with_line(0, header(**{f"f{n}": ""}))
+        yield f"v5_010_{n}_empty", refused(lines, 7, place(lines, 0, n))
+        yield f"v7_010_{n}_empty", accepted(told("7", lines), 4096, 1250)
+    lines = with_line(3, wide_parcel(f4=""))
+    yield "v5_040_4_empty", accepted(lines, 4096, 1250)
+    yield "v7_040_4_empty", refused(told("7", lines), 7, place(lines, 3, 4))
+    # A count is neither a width nor a duty: a parcel that ends in front of its type has none to fill.
+    yield "v7_parcel_3_fields", accepted(told("7", EXAMPLE), 4096, 1250)
+    lines = told("7", with_line(3, EXAMPLE[3] + [b""]))
+    yield "v7_parcel_4_fields_type_empty", refused(lines, 7, place(lines, 3, 4))
+    yield "v7_parcel_4_fields", accepted(told("7", with_line(3, EXAMPLE[3] + [b"P"])), 4096, 1250)
+    yield "v7_parcel_type_of_a_space", accepted(told("7", with_line(3, EXAMPLE[3] + [b" "])), 4096, 1250)
+    two = told("7", with_line(3, parcel(1)))
+    two = two[:4] + [parcel(2) + [b""]] + two[4:]
+    yield "v7_second_parcel_type_empty", refused(two, 7, place(two, 4, 4))
+    lines = told("7", with_line(3, wide_parcel()[:3]))
+    yield "v7_parcel_2_fields", refused(lines, 5, place(lines, 3))
+    lines = told("7", with_line(3, wide_parcel() + [b"x" * 64] * 12))
+    yield "v7_parcel_24_fields", accepted(lines, 4096, 1250)
+    lines = told("7", with_line(3, wide_parcel() + [b"x" * 64] * 13))
+    yield "v7_parcel_25_fields", refused(lines, 5, place(lines, 3))
+    lines = told("7", with_line(3, wide_parcel() + [b"x" * 65]))
+    yield "v7_040_13_of_65", refused(lines, 6, place(lines, 3, 13))
+    lines = told("7", with_line(4, product() + [b"x" * 64] * 23))
+    yield "v7_050_24_of_64", accepted(lines, 4096, 1250)
+    lines = told("7", with_line(4, product() + [b"x" * 65]))
+    yield "v7_050_2_of_65", refused(lines, 6, place(lines, 4, 2))
+    for n in (1, 3, 4, 6):
+        lines = told("7", with_line(0, header(f2="", f5="")))
+        lines[0][n] = b""
+        # Without its version the header is judged as 5, which wants 010.2 first.
+        yield f"v7_010_{n}_empty", refused(lines, 7, place(lines, 0, 2 if n == 6 else n))
+    for n in (1, 5, 6, 7, 9, 11):
+        lines = told("7", with_line(1, sender(**{f"f{n}": ""})))
+        yield f"v7_020_{n}_empty", refused(lines, 7, place(lines, 1, n))
+    for n in (16, 20, 21, 22, 24, 26):
+        lines = told("7", with_line(2, shipment(**{f"f{n}": ""})))
+        yield f"v7_030_{n}_empty", refused(lines, 7, place(lines, 2, n))
+    for name, i, make in (("040", 3, wide_parcel), ("050", 4, product), ("060", 5, feature)):
+        lines = told("7", with_line(i, make(f1="")))
+        yield f"v7_{name}_1_empty", refused(lines, 7, place(lines, i, 1))
+    # A few of the widths that are the same in both.
+    for name, i, make, n, width in (
+        ("010_3", 0, header, 3, 19),
+        ("010_7", 0, header, 7, 20),
+        ("020_6", 1, sender, 6, 10),
+        ("020_13", 1, sender, 13, 64),
+        ("030_37", 2, shipment, 37, 100),
+        ("030_38", 2, shipment, 38, 19),
+        ("030_40", 2, shipment, 40, 20),
+        ("060_3", 5, feature, 3, 9),
+        ("060_7", 5, feature, 7, 11),
+        ("060_8", 5, feature, 8, 35),
+        ("060_10", 5, feature, 10, 40),
+    ):
+        lines = told("7", with_line(i, make(**{f"f{n}": "x" * (width + 1)})))
+        yield f"v7_{name}_of_{width + 1}", refused(lines, 6, place(lines, i, n))
+
+
+def version_header_cases():
+    """Which version a file has: 7 exactly where its first line is a 010 line with `7` alone in field 6."""
+    e = EXAMPLE
+    # 002 wants no customer's name, so that an empty 010.2 tells which version a header is judged as.
+    unnamed = header(f2="")
+    for name, mark in (
+        ("5", "5"),
+        ("6", "6"),
+        ("8", "8"),
+        ("07", "07"),
+        ("70", "70"),
+        ("77", "77"),
+        ("57", "57"),
+        ("75", "75"),
+        ("space_7", " 7"),
+        ("7_space", "7 "),
+        ("7_point", "7."),
+        ("spaces", "  "),
+        ("none", ""),
+        ("ten_sevens", "7" * 10),
+        ("eleven_sevens", "7" * 11),
+        ("upper_7", bytes([183]).decode("latin-1")),
+    ):
+        lines = [unnamed[:6] + [mark.encode("latin-1")] + unnamed[7:]] + e[1:]
+        yield f"mark_{name}_unnamed", refused(lines, 7, place(lines, 0, 2))
+        if mark != "5":
+            lines = [e[0][:6] + [mark.encode("latin-1")] + e[0][7:]] + e[1:]
+            number = 7 if mark == "" else 6 if len(mark) > 10 else 8
+            yield f"mark_{name}", refused(lines, number, place(lines, 0, 6))
+    yield "mark_7", accepted(told("7", e), 4096, 1250)
+    # `7` in another field of the header.
+    for n, put in ((2, {"f2": "7"}), (7, {"f7": "7"}), (10, {"f10": "7"})):
+        lines = [header(**put), sender(), shipment(), wide_parcel(f4="long"), product(f1="product"), feature()]
+        yield f"seven_in_010_{n}", accepted(lines, 4096, 1250)
+    lines = [header(f5="7")] + e[1:]
+    yield "seven_in_010_5", refused(lines, 8, place(lines, 0, 5))
+    lines = [header(f2="", f5="7", f6="5")] + e[1:]
+    yield "seven_in_010_5_unnamed", refused(lines, 7, place(lines, 0, 2))
+    lines = [header(f2="", f6="", f7="7")] + e[1:]
+    yield "seven_in_010_7_only", refused(lines, 7, place(lines, 0, 2))
+    yield "seven_and_five", accepted([header(f2="", f6="7", f7="5")] + e[1:], 4096, 1250)
+    # In field 6 of another line.
+    lines = [header(), sender(f5="DE", f6="7")] + e[2:4] + [product(f1="product"), feature()]
+    yield "seven_in_020_6", accepted(lines, 4096, 1250)
+    lines = [sender(f5="DE", f6="7"), unnamed] + e[2:]
+    yield "seven_in_first_020_6", refused(lines, 4, 0)
+    yield "seven_on_second_header", refused(e[:1] + told("7", e), 4, place(e, 1))
+    yield "five_on_second_header", refused(told("7", e[:1]) + e, 4, place(e, 1))
+    yield "seven_on_second_line", refused(e[1:2] + told("7", e[:1]) + e[2:], 4, 0)
+    # A first line that is no 010 line, or not whole.
+    for name, kind, number in (("020", "020", 4), ("0100", "0100", 3), ("10", "10", 3), ("space_010", " 010", 3), ("empty_type", "", 3)):
+        lines = told("7", e)
+        yield f"seven_on_{name}", refused([[kind] + lines[0][1:]] + lines[1:], number, 0)
+    lines = told("7", [unnamed] + e[1:])
+    yield "seven_field_less", refused([lines[0][:-1]] + lines[1:], 5, 0)
+    yield "seven_6_fields", refused([lines[0][:7]] + lines[1:], 5, 0)
+    yield "seven_5_fields", refused([lines[0][:1] + lines[0][2:7]] + lines[1:], 5, 0)
+    yield "seven_field_more", refused([lines[0] + [b""]] + lines[1:], 5, 0)
+    whole = render(lines)
+    yield "seven_no_line_end", refused(text(lines[0]), 2, len(text(lines[0])))
+    yield "seven_cr_alone", refused(text(lines[0]) + b"\r", 2, len(text(lines[0])))
+    yield "seven_lf_alone", refused(whole.replace(CRLF, b"\n"), 2, len(text(lines[0])))
+    yield "seven_no_last_end", refused(whole[:-2], 2, len(whole) - 2)
+    at = place(lines, 0, 6)
+    yield "seven_control_byte_before", refused(whole[:at] + b"\x1f" + whole[at:], 2, at)
+    yield "seven_control_byte_behind", refused(whole[: at + 1] + b"\x1f" + whole[at + 1 :], 2, at + 1)
+    yield "seven_behind_line_end", refused(CRLF + whole, 3, 0)
+    # The other fields of a header, in front of its version and behind it.
+    for version in ("5", "6", "7"):
+        lines = [header(f1="0112345678", f6=version)] + e[1:]
+        yield f"customer_01_in_{version}", refused(lines, 8, place(lines, 0, 1))
+        lines = [header(f6=version, f7="x" * 21)] + e[1:]
+        number, n = (8, 6) if version == "6" else (6, 7)
+        yield f"system_21_in_{version}", refused(lines, number, place(lines, 0, n))
+
+
+def version_7_cases():
+    """Whole files of version 7: what is common to both versions, and the order of refusals."""
+    e = told("7", EXAMPLE)
+    typed = EXAMPLE[3][:2] + [b"2.500", b"", b"C"]
+    yield "example_7", accepted([header(f2="", f5="", f6="7"), sender(), shipment(), typed, product(), feature()], 4096, 1250)
+    filled_all = [
+        header(f2="x" * 80, f6="7", f7="x" * 20, f8="x" * 40, f9="x" * 40, f10="x" * 64),
+        sender(),
+        shipment(),
+        wide_parcel(
+            f2="1234567.123", f3="x" * 40, f5="x" * 40, f6="x" * 40, f7="999999.99", f8="EUR", f9="x" * 100, f10="99", f11="R",
+            f12="x" * 100,
+        ),
+        product(f1="49"),
+        feature(f2="x" * 40, f5="x" * 35, f6=LONGEST_IBAN, f7="ABCDATWWXXX", f8="x" * 35, f9=mail(40), f10="1" * 40),
+    ]
+    yield "v7_all_full", accepted(filled_all, 4096, 1250)
+    lines = told("5", filled_all)
+    yield "v7_all_full_as_5", refused(lines, 6, place(lines, 0, 2))
+    lines = [header()] + filled_all[1:]
+    yield "v7_lines_under_5", refused(lines, 6, place(lines, 3, 9))
+    # The forms stay as they are.
+    for name, i, new, n in (
+        ("post_code", 0, header(f5="100a", f6="7"), 5),
+        ("date", 0, header(f3="2023-02-29T00:00:00", f6="7"), 3),
+        ("carriers_own", 2, shipment(f39="x"), 39),
+        ("code_check", 3, parcel(0, f1="1" + "0" * 21), 1),
+        ("feature_005", 5, feature("005"), 1),
+        ("reference_sign_006", 5, feature(f2="a&b"), 2),
+        ("reference_sign_022", 5, feature("022", f2="x" * 39 + "&"), 2),
+        ("amount", 5, feature(f3="01.00"), 3),
+        ("currency", 5, feature(f4="eur"), 4),
+        ("iban", 5, feature(f6="AT161904300234573201"), 6),
+        ("bic", 5, feature(f7="ABCDATWW1"), 7),
+        ("purpose_sign", 5, feature("004", f8="a_b"), 8),
+        ("mail", 5, feature("004", f9="a@b@c"), 9),
+    ):
+        lines = e[:i] + [new] + e[i + 1 :]
+        yield f"v7_{name}_form", refused(lines, 8, place(lines, i, n))
+    # What features need, and the rules of the whole file.
+    for n in (3, 4, 5, 6, 7):
+        lines = e[:5] + [feature(**{f"f{n}": ""})]
+        yield f"v7_cash_lacks_{n}", refused(lines, 9, place(lines, 5))
+    lines = e[:5] + [feature("054")]
+    yield "v7_contact_lacks_both", refused(lines, 9, place(lines, 5))
+    lines = e[:4] + [e[3]] + e[4:]
+    yield "v7_code_next_line", refused(lines, 10, place(lines, 4, 1))
+    yield "v7_list_one_short", refused(e, 11, place(e, 5), 5)
+    yield "v7_list_just_full", accepted(e, 6, 1250)
+    yield "v7_ends_after_parcel", refused(e[:4], 12, len(render(e[:4])))
+    yield "v7_two_senders", accepted(e + [sender()] + shipped("DE", 2), 4096, 1250)
+    yield "v7_no_sender", refused(e[:1] + e[2:], 4, place(e, 1))
+    yield "v7_content_line", refused(e[:4] + [line("041", "x")] + e[4:], 3, place(e, 4))
+    lines = e[:5] + [feature("022", f3="1.00"), feature(f3="2.00", f4="USD"), feature(f3="8.00")]
+    yield "v7_cash", accepted(lines, 4096, 900)
+    lines = e[:1] + [NO_CONTACTS] + e[2:]
+    yield "v7_no_contacts", accepted(lines, 4096, 1250)
+    yield "v7_no_contacts_listed", refused(lines, 19, place(lines, 2), countries="AT")
+    yield "v7_contacts_listed", accepted(e, 4096, 1250, "AT")
+    yield "v7_odd", refused(e, 20, 0, countries="ATD")
+    lines, cents = full_file(65535, "7", (40, 35, 40))
+    yield "v7_at_limit", accepted(lines, 4096, cents)
+    yield "v7_over_limit", refused(render(lines) + b" ", 1, 65535)
+
+
 def cases():
     e = EXAMPLE
     yield "example", accepted(e, 4096, 1250)
@@ -460,6 +730,11 @@ def cases():
     yield from contact_cases()
     yield from contact_order_cases()
     yield from odd_cases()
+    # version 7
+    yield from version_width_cases()
+    yield from version_duty_cases()
+    yield from version_header_cases()
+    yield from version_7_cases()
 
 
 def main(folder):

@@ -83,10 +83,14 @@ int main(int argc, char **argv)
     fclose(example);
     run((any *)mark_top, (const word[11]){0});
     PRINT(judge, PELIRANOPI_ACCEPTED, AT(file), length, TEXT("CH"), AT(list), 16, AT(&one), AT(&two), AT(&cents), AT(&place));
-    PRINT(read_line, PELIRANOPI_ACCEPTED, AT(file), length, 216, AT(&kind), AT(&one), AT(&two), AT(&place));
-    PRINT(find_field, PELIRANOPI_ACCEPTED, AT(file), length, 216, 6, AT(&one), AT(&two), AT(&place));
-    PRINT(write_line, PELIRANOPI_ACCEPTED, PELIRANOPI_FEATURE, TEXT("00612.50EURMusterAT611904300234573201ABCDATWW"), AT(ends), 10,
-          AT(output), 128, 0, AT(&one), AT(&place));
+    PRINT(read_line, PELIRANOPI_ACCEPTED, PELIRANOPI_FILE_VERSION_5, AT(file), length, 216, AT(&kind), AT(&one), AT(&two), AT(&place));
+    PRINT(find_field, PELIRANOPI_ACCEPTED, PELIRANOPI_FILE_VERSION_5, AT(file), length, 216, 6, AT(&one), AT(&two), AT(&place));
+    PRINT(write_line, PELIRANOPI_ACCEPTED, PELIRANOPI_FILE_VERSION_5, PELIRANOPI_FEATURE,
+          TEXT("00612.50EURMusterAT611904300234573201ABCDATWW"), AT(ends), 10, AT(output), 128, 0, AT(&one), AT(&place));
+    PRINT(read_line, PELIRANOPI_ACCEPTED, PELIRANOPI_FILE_VERSION_7, AT(file), length, 216, AT(&kind), AT(&one), AT(&two), AT(&place));
+    PRINT(find_field, PELIRANOPI_ACCEPTED, PELIRANOPI_FILE_VERSION_7, AT(file), length, 216, 6, AT(&one), AT(&two), AT(&place));
+    PRINT(write_line, PELIRANOPI_ACCEPTED, PELIRANOPI_FILE_VERSION_7, PELIRANOPI_FEATURE,
+          TEXT("00612.50EURMusterAT611904300234573201ABCDATWW"), AT(ends), 10, AT(output), 128, 0, AT(&one), AT(&place));
     PRINT(write_purpose, PELIRANOPI_ACCEPTED, AT(file), length, TEXT("CH"), 5, AT(list), 16, AT(output), 128, AT(&one), AT(&place));
     PRINT(check_number, PELIRANOPI_ACCEPTED, TEXT("0002800099800000200371550566"), AT(&kind), AT(&place));
     PRINT(issue_number, PELIRANOPI_ACCEPTED, TEXT("000280009980000020037155056"), AT(output), 128, AT(&one), AT(&place));

@@ -18,9 +18,9 @@ PREFIXES = r"(?:(?:bnd|notrack|rep|repz|repnz|lock|data16|cs) )*"
 C_LIBRARY = ("memcmp", "memcpy", "memmove", "memset")
 UNKNOWN = r"\(bad\)|i?ret|l(?:call|jmp|ret)|sys|int"
 
-# A jump by a table, and what the compiler may put between its instructions.
+# A jump by a table, and what the compiler may put between its instructions. Over %rbp and %r13 an address has a 0 besides.
 OTHERS = r"(?:(?!j|call|ret|loop).*\n)*"
-SWITCH = rf"lea \S+,(%\w+)\n{OTHERS}movslq \(\1,%\w+,4\),(%\w+)\n{OTHERS}add \1,\2\n{OTHERS}jmp \*\2"
+SWITCH = rf"lea \S+,(%\w+)\n{OTHERS}movslq (?:0x0)?\(\1,%\w+,4\),(%\w+)\n{OTHERS}add \1,\2\n{OTHERS}jmp \*\2"
 
 
 def objdump(program, option, path):

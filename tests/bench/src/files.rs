@@ -1,13 +1,14 @@
 //! The files to measure on, each exactly as long as asked.
 
 use reference::generate::{identcode_of, valid_iban, valid_identcode, Rng};
+use reference::profile::Record;
+use reference::version::Version;
 
 /// What is drawn comes from here.
 pub const SEED: u64 = 7;
 
-/// The shortest 060 line, which fills files up, and the longest.
+/// The shortest 060 line, which fills files up.
 const SHORTEST: usize = 18;
-const LONGEST: usize = SHORTEST + 64 + 64 + 40;
 
 const NAMES: [&str; 8] = [
     "Muster", "Gruber", "Huber", "Bauer", "Wagner", "Pichler", "Steiner", "Hofer",
@@ -34,7 +35,9 @@ const TOWNS: [(&str, &str); 6] = [
 pub enum Kind {
     /// Senders, shipments with a parcel or two, products and features, most of them cash.
     Typical,
-    /// The same with a feature code in its last line that there is not.
+    /// The same of version 7: each parcel has its type.
+    TypicalSeven,
+    /// The typical file with a feature code in its last line that there is not.
     RefusedAtItsEnd,
     /// The typical file, but its senders have neither phone nor mail.
     WithoutContacts,
@@ -59,16 +62,17 @@ pub enum Codes {
 /// A file of this kind and size.
 pub fn file(kind: Kind, size: usize) -> Vec<u8> {
     match kind {
-        Kind::Typical => typical(size, sender),
+        Kind::Typical => typical(Version::V5, size, sender),
+        Kind::TypicalSeven => typical(Version::V7, size, sender),
         Kind::RefusedAtItsEnd => refused_at_its_end(size),
-        Kind::WithoutContacts => typical(size, sender_without_contacts),
+        Kind::WithoutContacts => typical(Version::V5, size, sender_without_contacts),
         Kind::Parcels(codes) => parcels(codes, size),
     }
 }
 
-fn typical(size: usize, sender: fn(&mut Rng) -> Vec<u8>) -> Vec<u8> {
+fn typical(version: Version, size: usize, sender: fn(&mut Rng) -> Vec<u8>) -> Vec<u8> {
     let mut rng = Rng::new(SEED);
-    let mut file = [header(), sender(&mut rng)].concat();
+    let mut file = [header(version), sender(&mut rng)].concat();
     loop {
         let mut block = Vec::new();
         if rng.percent(5) {
@@ -76,7 +80,11 @@ fn typical(size: usize, sender: fn(&mut Rng) -> Vec<u8>) -> Vec<u8> {
         }
         block.extend(shipment(&mut rng));
         for _ in 0..rng.between(1, 2) {
-            block.extend(parcel(&valid_identcode(&mut rng)));
+            let code = valid_identcode(&mut rng);
+            block.extend(match version {
+                Version::V5 => parcel(&code),
+                Version::V7 => parcel_with_type(&code),
+            });
         }
         block.extend(product());
         for _ in 0..rng.between(0, 2) {
@@ -87,12 +95,12 @@ fn typical(size: usize, sender: fn(&mut Rng) -> Vec<u8>) -> Vec<u8> {
         }
         file.extend(block);
     }
-    fill_up(&mut file, size);
+    fill_up(version, &mut file, size);
     file
 }
 
 fn refused_at_its_end(size: usize) -> Vec<u8> {
-    let mut file = typical(size, sender);
+    let mut file = typical(Version::V5, size, sender);
     let end = file.windows(4).rposition(|part| part == b"\n060");
     let code = end.expect("the last line is a feature") + 5;
     file[code..code + 3].copy_from_slice(b"005");
@@ -101,7 +109,8 @@ fn refused_at_its_end(size: usize) -> Vec<u8> {
 
 fn parcels(codes: Codes, size: usize) -> Vec<u8> {
     let mut rng = Rng::new(SEED);
-    let mut file = [header(), sender(&mut rng), shipment(&mut rng)].concat();
+    let version = Version::V5;
+    let mut file = [header(version), sender(&mut rng), shipment(&mut rng)].concat();
     let room = size - file.len() - product().len() - SHORTEST;
     let count = room / parcel(&[b'0'; 22]).len();
     for index in 0..count {
@@ -113,7 +122,7 @@ fn parcels(codes: Codes, size: usize) -> Vec<u8> {
         )));
     }
     file.extend(product());
-    fill_up(&mut file, size);
+    fill_up(version, &mut file, size);
     file
 }
 
@@ -146,8 +155,9 @@ fn deep(index: u128) -> u128 {
     ((index - 1) % 9 + 2) * digit - 1
 }
 
-fn header() -> Vec<u8> {
-    b"010;0012345678;Muster;2021-02-23T13:37:50;2021-02-24T14:20:55;1005;5;;;;\r\n".to_vec()
+fn header(version: Version) -> Vec<u8> {
+    let front = b"010;0012345678;Muster;2021-02-23T13:37:50;2021-02-24T14:20:55;1005;";
+    [&front[..], version.mark(), b";;;;\r\n"].concat()
 }
 
 fn sender(rng: &mut Rng) -> Vec<u8> {
@@ -182,6 +192,10 @@ fn parcel(code: &[u8]) -> Vec<u8> {
     [b"040;", code, b";;\r\n"].concat()
 }
 
+fn parcel_with_type(code: &[u8]) -> Vec<u8> {
+    [b"040;", code, b";2.500;;C\r\n"].concat()
+}
+
 fn product() -> Vec<u8> {
     b"050;10\r\n".to_vec()
 }
@@ -214,21 +228,22 @@ fn austrian_iban(rng: &mut Rng) -> Vec<u8> {
 }
 
 /// Adds 060 lines up to exactly this size; the room is 0, or at least the shortest line.
-fn fill_up(file: &mut Vec<u8>, size: usize) {
+fn fill_up(version: Version, file: &mut Vec<u8>, size: usize) {
+    let widths = [2, 5, 10].map(|number| Record::R060.widths(version)[number - 1]);
+    let longest = SHORTEST + widths.iter().sum::<usize>();
     while file.len() < size {
         let room = size - file.len();
-        let length = if room <= LONGEST {
+        let length = if room <= longest {
             room
         } else {
-            LONGEST.min(room / 2)
+            longest.min(room / 2)
         };
         let mut left = length - SHORTEST;
-        let mut text = |width: usize| {
+        let [second, fifth, tenth] = widths.map(|width| {
             let length = left.min(width);
             left -= length;
             "x".repeat(length)
-        };
-        let (second, fifth, tenth) = (text(64), text(64), text(40));
+        });
         file.extend(format!("060;004;{second};;;{fifth};;;;;{tenth}\r\n").into_bytes());
     }
 }

@@ -6,7 +6,7 @@ mod splitting;
 mod timing;
 
 use files::{file, Codes, Kind, SEED};
-use peliranopi::{CARRY_PASSED, CARRY_START, IDENTCODE_LEN, LABEL_LEN, TRACKING_LEN};
+use peliranopi::{Version, CARRY_PASSED, CARRY_START, IDENTCODE_LEN, LABEL_LEN, TRACKING_LEN};
 use reference::generate::{valid_iban, valid_identcode, valid_number, Rng};
 use splitting::Splitter;
 use std::hint::black_box;
@@ -32,8 +32,9 @@ const COUNTRIES: &[u8] = b"ALARAUBABRCACHCLCNGBGEILINISJPKRLIMDMEMKMXNONZRSSGTRU
 type Row = (&'static str, Kind, &'static [u8]);
 
 #[rustfmt::skip]
-const ROWS: [Row; 11] = [
+const ROWS: [Row; 12] = [
     ("typical", Kind::Typical, b""),
+    ("typical, version 7", Kind::TypicalSeven, b""),
     ("typical, refused at its last line", Kind::RefusedAtItsEnd, b""),
     ("typical, 30 countries lent", Kind::Typical, COUNTRIES),
     ("typical without contacts, 30 countries lent", Kind::WithoutContacts, COUNTRIES),
@@ -46,9 +47,10 @@ const ROWS: [Row; 11] = [
     ("parcels, deep tree", Kind::Parcels(Codes::DeepTree), b""),
 ];
 
-/// The rows whose parts are measured as well. From the second on the files are crafted.
+/// The rows whose parts are measured as well. From the third on the files are crafted.
 const TYPICAL: usize = 0;
-const PARCELS: usize = 4;
+const TYPICAL_SEVEN: usize = 1;
+const PARCELS: usize = 5;
 
 fn main() {
     let measured = measure_files();
@@ -263,7 +265,7 @@ fn measure_parts() {
         "ns a byte",
         "Share of judging",
     ]);
-    for (name, kind, _) in [ROWS[TYPICAL], ROWS[PARCELS]] {
+    for (name, kind, _) in [ROWS[TYPICAL], ROWS[TYPICAL_SEVEN], ROWS[PARCELS]] {
         measure_parts_of(name, &file(kind, LONG));
     }
     let cleared = format!("{:.0}", judged(b"", b"")[0]);
@@ -272,6 +274,7 @@ fn measure_parts() {
 
 fn measure_parts_of(name: &str, file: &[u8]) {
     let whole = judged(file, b"")[0];
+    let version = Version::of(file);
     let print = |part: &str, lines: &[Range<usize>], micros: f64| {
         let bytes: usize = lines.iter().map(Range::len).sum();
         row(&[
@@ -288,14 +291,14 @@ fn measure_parts_of(name: &str, file: &[u8]) {
     print(
         "line ends found",
         &all,
-        read(&renamed(file, |_| *b"999"), &all),
+        read(version, &renamed(file, |_| *b"999"), &all),
     );
     print(
         "and fields counted",
         &all,
-        read(&renamed(file, with_other_count), &all),
+        read(version, &renamed(file, with_other_count), &all),
     );
-    let tested = read(file, &all);
+    let tested = read(version, file, &all);
     print("and fields tested: lines read", &all, tested);
     for record in ["020", "030", "040", "050", "060"] {
         let mut some = all.clone();
@@ -303,7 +306,7 @@ fn measure_parts_of(name: &str, file: &[u8]) {
         print(
             &format!("of these the {record} lines"),
             &some,
-            read(file, &some),
+            read(version, file, &some),
         );
     }
     print("left: order, identcodes, cash, list", &all, whole - tested);
@@ -311,10 +314,11 @@ fn measure_parts_of(name: &str, file: &[u8]) {
 }
 
 /// Microseconds that the library takes to read these lines, each by itself.
-fn read(file: &[u8], lines: &[Range<usize>]) -> f64 {
+fn read(version: Version, file: &[u8], lines: &[Range<usize>]) -> f64 {
     let mut task = || {
         for line in lines {
-            _ = black_box(peliranopi::read_line(black_box(file), line.start));
+            let read = peliranopi::read_line(version, black_box(file), line.start);
+            _ = black_box(read);
         }
     };
     best(ROUNDS, [&mut task])[0]

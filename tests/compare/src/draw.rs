@@ -31,6 +31,7 @@ pub fn call(kind: Kind, rng: &mut Rng) -> Call {
         Kind::Line => {
             let call = line_call(rng);
             Call::Line {
+                version: call.version,
                 file: call.file,
                 offset: call.offset,
             }

@@ -6,6 +6,7 @@ pub mod library;
 pub mod promised;
 
 use reference::generate::{CarryCall, IssueCall, LineCall, PurposeCall, Rng, WriterCall};
+use reference::version::Version;
 
 /// A call with all that goes into it.
 #[derive(Clone, Debug)]
@@ -16,6 +17,7 @@ pub enum Call {
         words: usize,
     },
     Line {
+        version: u32,
         file: Vec<u8>,
         offset: usize,
     },
@@ -82,6 +84,19 @@ impl Call {
         }
     }
 
+    /// The version by whose rules the call answers: the one that it is told, or that of its file. None
+    /// where it is told neither, and for calls on numbers.
+    pub fn version(&self) -> Option<Version> {
+        match self {
+            Call::File { file, .. } => Some(Version::of_file(file)),
+            Call::Purpose(call) => Some(Version::of_file(&call.file)),
+            Call::Line { version, .. } => Version::told(*version).ok(),
+            Call::Field(call) => Version::told(call.version).ok(),
+            Call::Write(call) => Version::told(call.version).ok(),
+            _ => None,
+        }
+    }
+
     /// What goes in beside the bytes, for a report.
     pub fn arguments(&self) -> String {
         match self {
@@ -91,11 +106,16 @@ impl Call {
                 "countries \"{}\", list of {words}",
                 countries.escape_ascii()
             ),
-            Call::Line { offset, .. } => format!("offset {offset}"),
-            Call::Field(call) => format!("offset {}, field {}", call.offset, call.number),
+            Call::Line {
+                version, offset, ..
+            } => format!("version {version}, offset {offset}"),
+            Call::Field(call) => format!(
+                "version {}, offset {}, field {}",
+                call.version, call.offset, call.number
+            ),
             Call::Write(call) => format!(
-                "record {}, ends {:?}, output of {}, fill {}",
-                call.record, call.ends, call.output, call.fill
+                "version {}, record {}, ends {:?}, output of {}, fill {}",
+                call.version, call.record, call.ends, call.output, call.fill
             ),
             Call::Purpose(call) => format!(
                 "countries \"{}\", line {}, list of {}, output of {}",

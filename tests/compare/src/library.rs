@@ -2,14 +2,16 @@
 
 use crate::{lent, Call, Left, NONSENSE};
 use peliranopi::sys;
-use reference::generate::{CarryCall, WriterCall};
+use reference::generate::{CarryCall, LineCall, WriterCall};
 
 /// What the library leaves of what was there before the call.
 pub fn left(call: &Call, mut left: Left) -> Left {
     match call {
         Call::File { .. } => judge(&mut left),
-        Call::Line { offset, .. } => read_line(&mut left, *offset),
-        Call::Field(call) => find_field(&mut left, call.offset, call.number),
+        Call::Line {
+            version, offset, ..
+        } => read_line(&mut left, *version, *offset),
+        Call::Field(call) => find_field(&mut left, call),
         Call::Write(call) => write_line(&mut left, call),
         Call::Purpose(call) => write_purpose(&mut left, call.line),
         Call::Check(_) => check_number(&mut left),
@@ -47,11 +49,12 @@ fn judge(left: &mut Left) {
     left.values = vec![lines as u64, parcels as u64, cents];
 }
 
-fn read_line(left: &mut Left, offset: usize) {
+fn read_line(left: &mut Left, version: u32, offset: usize) {
     let (mut record, mut fields, mut next) = (NONSENSE as u32, NONSENSE, NONSENSE);
     // SAFETY: as said above.
     left.answer = unsafe {
         sys::peliranopi_read_line(
+            version,
             left.input.as_ptr(),
             left.input.len(),
             offset,
@@ -64,15 +67,16 @@ fn read_line(left: &mut Left, offset: usize) {
     left.values = vec![u64::from(record), fields as u64, next as u64];
 }
 
-fn find_field(left: &mut Left, offset: usize, number: usize) {
+fn find_field(left: &mut Left, call: &LineCall) {
     let (mut start, mut length) = (NONSENSE, NONSENSE);
     // SAFETY: as said above.
     left.answer = unsafe {
         sys::peliranopi_find_field(
+            call.version,
             left.input.as_ptr(),
             left.input.len(),
-            offset,
-            number,
+            call.offset,
+            call.number,
             &mut start,
             &mut length,
             &mut left.place,
@@ -87,6 +91,7 @@ fn write_line(left: &mut Left, call: &WriterCall) {
     // SAFETY: as said above.
     left.answer = unsafe {
         sys::peliranopi_write_line(
+            call.version,
             call.record,
             left.input.as_ptr(),
             left.input.len(),

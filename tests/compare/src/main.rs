@@ -6,6 +6,7 @@ use compare::{difference, library, promised, Call, Left};
 use peliranopi::Reason;
 use reference::generate::Rng;
 use reference::profile::LIMIT;
+use reference::version::Version;
 use std::collections::{BTreeMap, BTreeSet};
 use std::process::exit;
 
@@ -32,19 +33,19 @@ const SHARES: [Share; 12] = [
         kind: Kind::Line,
         name: "lines",
         share: 90,
-        refusals: &[1, 2, 3, 5, 6, 7, 8, 9],
+        refusals: &[1, 2, 3, 5, 6, 7, 8, 9, 22],
     },
     Share {
         kind: Kind::Field,
         name: "fields",
         share: 70,
-        refusals: &[1, 2, 3, 5, 6, 7, 8, 9, 15],
+        refusals: &[1, 2, 3, 5, 6, 7, 8, 9, 15, 22],
     },
     Share {
         kind: Kind::Write,
         name: "written lines",
         share: 110,
-        refusals: &[3, 5, 6, 7, 8, 9, 13, 14],
+        refusals: &[3, 5, 6, 7, 8, 9, 13, 14, 22],
     },
     Share {
         kind: Kind::Purpose,
@@ -96,10 +97,12 @@ const SHARES: [Share; 12] = [
     },
 ];
 
-/// How often each answer occurred, 0 being acceptance, and how many inputs were as long as a file may be.
+/// How often each answer occurred, 0 being acceptance, how often under each version, and how many inputs were as long as a file may
+/// be.
 #[derive(Default)]
 struct Tally {
     answers: BTreeMap<u32, usize>,
+    versions: BTreeMap<u32, BTreeMap<u32, usize>>,
     full: usize,
 }
 
@@ -115,6 +118,18 @@ impl Tally {
             .into_iter()
             .filter(|answer| !self.answers.contains_key(answer))
             .collect()
+    }
+
+    /// How often a call was answered by the rules of a version.
+    fn of_version(&self, version: Version) -> usize {
+        self.answers_of(version).values().sum()
+    }
+
+    fn answers_of(&self, version: Version) -> BTreeMap<u32, usize> {
+        self.versions
+            .get(&version.number())
+            .cloned()
+            .unwrap_or_default()
     }
 
     fn refusals(&self) -> String {
@@ -146,12 +161,31 @@ fn main() {
     }
 }
 
-/// Ends the run where an answer never occurred that the call can give, or no file was as long as it may be.
+/// Ends the run where an answer never occurred that the call can give, under each version where it has one, where fewer than a third
+/// of such calls are of either version, or no file was as long as it may be.
 fn require_all(share: &Share, tally: &Tally) {
     let missing = tally.missing(share.refusals);
     if !missing.is_empty() {
         println!("test: answers that never occurred: {missing:?}");
         exit(1);
+    }
+    let calls: usize = tally.answers.values().sum();
+    let has_version = !tally.versions.is_empty();
+    for version in Version::ALL.into_iter().filter(|_| has_version) {
+        let (count, answers) = (tally.of_version(version), tally.answers_of(version));
+        println!(
+            "test: of these {} {count} are of version {}, {} of them accepted",
+            share.name,
+            version.number(),
+            answers.get(&0).copied().unwrap_or(0)
+        );
+        let possible = [&[0], share.refusals].concat();
+        let mut missing = possible.iter().filter(|answer| **answer != 22);
+        let missing = missing.find(|answer| !answers.contains_key(answer));
+        if 3 * count < calls || missing.is_some() {
+            println!("test: too few of this version, or none with the answer {missing:?}");
+            exit(1);
+        }
     }
     if share.kind != Kind::File {
         return;
@@ -193,6 +227,10 @@ fn compare_all(share: &Share, count: usize, seed: u64) -> Tally {
             exit(1);
         }
         *tally.answers.entry(promised.answer).or_default() += 1;
+        if let Some(version) = call.version() {
+            let answers = tally.versions.entry(version.number()).or_default();
+            *answers.entry(promised.answer).or_default() += 1;
+        }
         tally.full += usize::from(call.input().len() == LIMIT);
     }
     tally

@@ -53,8 +53,12 @@ fn values(call: &Call, left: &mut Left) -> Result<Vec<u64>, Refusal> {
                 totals.cents,
             ])
         }
-        Call::Line { file, offset } => {
-            let line = read_line(file, *offset)?;
+        Call::Line {
+            version,
+            file,
+            offset,
+        } => {
+            let line = read_line(*version, file, *offset)?;
             Ok(vec![
                 u64::from(line.record),
                 line.fields as u64,
@@ -62,11 +66,12 @@ fn values(call: &Call, left: &mut Left) -> Result<Vec<u64>, Refusal> {
             ])
         }
         Call::Field(call) => {
-            let (start, length) = find_field(&call.file, call.offset, call.number)?;
+            let (start, length) = find_field(call.version, &call.file, call.offset, call.number)?;
             Ok(vec![start as u64, length as u64])
         }
         Call::Write(call) => {
-            let written = write_line(call.record, &call.text, &call.ends, output, call.fill)?;
+            let (version, record) = (call.version, call.record);
+            let written = write_line(version, record, &call.text, &call.ends, output, call.fill)?;
             Ok(vec![written as u64])
         }
         Call::Purpose(call) => {

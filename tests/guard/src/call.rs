@@ -11,6 +11,7 @@ pub enum Call {
         words: usize,
     },
     ReadLine {
+        version: u32,
         file: Vec<u8>,
         offset: usize,
     },

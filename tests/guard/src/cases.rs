@@ -3,12 +3,20 @@
 
 use crate::call::Call;
 use reference::generate::*;
+use reference::version::Version;
 
-/// Six lines that are accepted, the last of them a cash line. The shipment goes to AT.
+/// Six lines that are accepted, the last of them a cash line, as a file of each version. The shipment goes
+/// to AT.
 const EXAMPLE: &[u8] = include_bytes!("../../../examples/preadvice.csv");
-/// Where they start.
-const STARTS: [usize; 6] = [0, 74, 116, 178, 208, 216];
+const EXAMPLE_7: &[u8] = include_bytes!("../../../examples/preadvice-7.csv");
+/// The two, and where their lines start.
+const EXAMPLES: [(u32, &[u8], [usize; 6]); 2] = [
+    (5, EXAMPLE, [0, 74, 116, 178, 208, 216]),
+    (7, EXAMPLE_7, [0, 64, 106, 168, 205, 213]),
+];
 const CASH_LINE: usize = 5;
+/// Numbers that are no version; cut to 8 or 16 bits some of them would be one.
+const NO_VERSIONS: [u32; 9] = [0, 4, 6, 8, 57, 256 + 5, 256 + 7, 65_536 + 7, u32::MAX];
 
 /// Bounds of the lengths of numbers, countries and outputs, and of lists.
 const BYTES: usize = 64;
@@ -30,6 +38,7 @@ pub fn all(rng: &mut Rng) -> Vec<Call> {
     generated_writings(rng, &mut calls);
     purposes(rng, &mut calls);
     carries(rng, &mut calls);
+    versions(&mut calls);
     calls
 }
 
@@ -102,10 +111,13 @@ fn identcodes(rng: &mut Rng, calls: &mut Vec<Call>) {
 fn cut_files(rng: &mut Rng, calls: &mut Vec<Call>) {
     for whole in [
         EXAMPLE.to_vec(),
-        valid_file_of(rng, 5),
-        valid_file_of(rng, 12),
-        valid_file_of(rng, 20),
+        EXAMPLE_7.to_vec(),
+        valid_file_as(Version::V5, rng, 5),
+        valid_file_as(Version::V7, rng, 5),
+        valid_file_as(Version::V5, rng, 12),
+        valid_file_as(Version::V7, rng, 20),
     ] {
+        let version = Version::of_file(&whole).number();
         for length in 0..=whole.len() {
             let file = whole[..length].to_vec();
             calls.push(Call::Judge {
@@ -116,11 +128,16 @@ fn cut_files(rng: &mut Rng, calls: &mut Vec<Call>) {
             let offset = last_line(&file);
             let number = rng.between(0, 41);
             calls.push(Call::FindField(LineCall {
+                version,
                 file: file.clone(),
                 offset,
                 number,
             }));
-            calls.push(Call::ReadLine { file, offset });
+            calls.push(Call::ReadLine {
+                version,
+                file,
+                offset,
+            });
         }
     }
 }
@@ -135,8 +152,9 @@ fn last_line(file: &[u8]) -> usize {
 fn lists(rng: &mut Rng, calls: &mut Vec<Call>) {
     let files = [
         EXAMPLE.to_vec(),
-        valid_file_of(rng, 20),
-        valid_file_of(rng, 38),
+        EXAMPLE_7.to_vec(),
+        valid_file_as(Version::V5, rng, 20),
+        valid_file_as(Version::V7, rng, 38),
     ];
     for file in files {
         for words in 0..=WORDS {
@@ -206,7 +224,8 @@ fn files_at_the_limit(rng: &mut Rng, calls: &mut Vec<Call>) {
         Damage::PadPastLimit,
     ];
     for way in WAYS {
-        let mut grown = EXAMPLE.to_vec();
+        let (version, example, _) = rng.pick(&EXAMPLES);
+        let mut grown = example.to_vec();
         damage(way, rng, &mut grown);
         for length in 65_534..=65_537 {
             let mut file = grown.clone();
@@ -224,22 +243,30 @@ fn files_at_the_limit(rng: &mut Rng, calls: &mut Vec<Call>) {
                 words: 4_096,
                 output: 35,
             }));
-            calls.push(Call::ReadLine { file, offset });
+            calls.push(Call::ReadLine {
+                version,
+                file,
+                offset,
+            });
         }
     }
 }
 
-/// Every offset of the example, and generated lines.
+/// Every offset of the examples, and generated lines.
 fn lines(rng: &mut Rng, calls: &mut Vec<Call>) {
     let generated = (0..1_500).map(|_| line_call(rng)).collect::<Vec<_>>();
-    let offsets = (0..=EXAMPLE.len() + 1).chain([usize::MAX]);
-    let of_example = offsets.map(|offset| LineCall {
-        file: EXAMPLE.to_vec(),
-        offset,
-        number: 1,
+    let of_examples = EXAMPLES.iter().flat_map(|(version, file, _)| {
+        let offsets = (0..=file.len() + 1).chain([usize::MAX]);
+        offsets.map(|offset| LineCall {
+            version: *version,
+            file: file.to_vec(),
+            offset,
+            number: 1,
+        })
     });
-    for call in of_example.chain(generated) {
+    for call in of_examples.chain(generated) {
         calls.push(Call::ReadLine {
+            version: call.version,
             file: call.file.clone(),
             offset: call.offset,
         });
@@ -247,21 +274,25 @@ fn lines(rng: &mut Rng, calls: &mut Vec<Call>) {
     }
 }
 
-/// Every field number of each line of the example, and fields at the boundaries of their rules, each
+/// Every field number of each line of the examples, and fields at the boundaries of their rules, each
 /// line being a file by itself.
 fn fields(calls: &mut Vec<Call>) {
-    for offset in STARTS {
-        for number in (0..=42).chain([usize::MAX]) {
-            calls.push(Call::FindField(LineCall {
-                file: EXAMPLE.to_vec(),
-                offset,
-                number,
-            }));
+    for (version, file, starts) in EXAMPLES {
+        for offset in starts {
+            for number in (0..=42).chain([usize::MAX]) {
+                calls.push(Call::FindField(LineCall {
+                    version,
+                    file: file.to_vec(),
+                    offset,
+                    number,
+                }));
+            }
         }
     }
     // One in 101, to be quick; this is prime, so the steps meet other cases in each field.
     for case in field_cases().into_iter().step_by(101) {
         calls.push(Call::ReadLine {
+            version: case.version,
             file: case.line(),
             offset: 0,
         });
@@ -272,10 +303,14 @@ fn fields(calls: &mut Vec<Call>) {
 /// A line of each record: written into outputs of every length and around its own, and with its
 /// text and its ends cut everywhere.
 fn writings(rng: &mut Rng, calls: &mut Vec<Call>) {
-    for record in [10, 20, 30, 40, 50, 60] {
+    let records = [10, 20, 30, 40, 50, 60];
+    for (version, record) in [5, 7]
+        .into_iter()
+        .flat_map(|version| records.map(|record| (version, record)))
+    {
         let whole = loop {
             let call = valid_writer_call(rng);
-            if call.record == record {
+            if (call.version, call.record) == (version, record) {
                 break call;
             }
         };
@@ -308,17 +343,19 @@ fn generated_writings(rng: &mut Rng, calls: &mut Vec<Call>) {
     }
 }
 
-/// Outputs of every length, every line of the example, and generated calls.
+/// Outputs of every length, every line of the examples, and generated calls.
 fn purposes(rng: &mut Rng, calls: &mut Vec<Call>) {
     for output in 0..=BYTES {
         for line in (0..=6).chain([usize::MAX]) {
-            calls.push(Call::WritePurpose(PurposeCall {
-                file: EXAMPLE.to_vec(),
-                countries: Vec::new(),
-                line,
-                words: 6,
-                output,
-            }));
+            for (_, file, _) in EXAMPLES {
+                calls.push(Call::WritePurpose(PurposeCall {
+                    file: file.to_vec(),
+                    countries: Vec::new(),
+                    line,
+                    words: 6,
+                    output,
+                }));
+            }
         }
     }
     for _ in 0..300 {
@@ -335,5 +372,39 @@ fn carries(rng: &mut Rng, calls: &mut Vec<Call>) {
     }
     for _ in 0..500 {
         calls.push(Call::NextCarry(carry_call(rng)));
+    }
+}
+
+/// Line calls that are told no version, on lines and outputs that would be accepted and on others.
+fn versions(calls: &mut Vec<Call>) {
+    for version in NO_VERSIONS.into_iter().chain([5, 7]) {
+        for (_, file, starts) in EXAMPLES {
+            for offset in starts.into_iter().chain([file.len(), usize::MAX]) {
+                let file = file.to_vec();
+                calls.push(Call::FindField(LineCall {
+                    version,
+                    file: file.clone(),
+                    offset,
+                    number: 1,
+                }));
+                calls.push(Call::ReadLine {
+                    version,
+                    file,
+                    offset,
+                });
+            }
+        }
+        calls.push(Call::ReadLine {
+            version,
+            file: vec![b' '; 65_536],
+            offset: 0,
+        });
+        for record in [50, 51] {
+            for output in 0..=12 {
+                let mut call = WriterCall::new(version, record, &[b"10".to_vec()]);
+                call.output = output;
+                calls.push(Call::WriteLine(call));
+            }
+        }
     }
 }

@@ -32,7 +32,11 @@ impl Desk {
                 countries,
                 words,
             } => self.judge(file, countries, *words),
-            Call::ReadLine { file, offset } => self.read_line(file, *offset),
+            Call::ReadLine {
+                version,
+                file,
+                offset,
+            } => self.read_line(*version, file, *offset),
             Call::FindField(call) => self.find_field(call),
             Call::WriteLine(call) => self.write_line(call),
             Call::WritePurpose(call) => self.write_purpose(call),
@@ -84,13 +88,14 @@ impl Desk {
         answer("judge", refusal, place, numbers).with_list(list)
     }
 
-    fn read_line(&mut self, bytes: &[u8], offset: usize) -> Answer {
+    fn read_line(&mut self, version: u32, bytes: &[u8], offset: usize) -> Answer {
         let file = self.lay(bytes);
         let record = self.lay(&[WORD]);
         let (fields, next, place) = (self.number(), self.number(), self.number());
         // SAFETY: as in `judge`.
         let refusal = unsafe {
             sys::peliranopi_read_line(
+                version,
                 file.start,
                 file.length,
                 offset,
@@ -111,6 +116,7 @@ impl Desk {
         // SAFETY: as in `judge`.
         let refusal = unsafe {
             sys::peliranopi_find_field(
+                call.version,
                 file.start,
                 file.length,
                 call.offset,
@@ -133,6 +139,7 @@ impl Desk {
         // SAFETY: as in `judge`.
         let refusal = unsafe {
             sys::peliranopi_write_line(
+                call.version,
                 call.record,
                 text.start,
                 text.length,

@@ -1,7 +1,7 @@
 //! Answers a call by the safe functions, on plain buffers.
 
 use crate::call::{Answer, Call, BYTE, WORD};
-use peliranopi::{IdentcodeParts, Refusal};
+use peliranopi::{IdentcodeParts, Reason, Refusal, Version};
 
 /// The answer, with the numbers as the C header has them: 0 where the call refuses.
 pub fn answer(call: &Call) -> Answer {
@@ -45,21 +45,30 @@ fn result(call: &Call, list: &mut [u32], output: &mut [u8]) -> Named {
             let numbers = totals.map(|t| [t.lines as u64, t.parcels as u64, t.cents]);
             named("judge", numbers)
         }
-        Call::ReadLine { file, offset } => {
-            let line = peliranopi::read_line(file, *offset);
+        Call::ReadLine {
+            version,
+            file,
+            offset,
+        } => {
+            let line =
+                told(*version).and_then(|version| peliranopi::read_line(version, file, *offset));
             let numbers = line.map(|l| [l.record as u64, l.fields as u64, l.next as u64]);
             named("read_line", numbers)
         }
         Call::FindField(call) => {
-            let field = peliranopi::find_field(&call.file, call.offset, call.number);
+            let (file, offset) = (&call.file, call.offset);
+            let field = told(call.version)
+                .and_then(|version| peliranopi::find_field(version, file, offset, call.number));
             named(
                 "find_field",
                 field.map(|f| [f.start as u64, f.len() as u64]),
             )
         }
         Call::WriteLine(call) => {
-            let (record, fill) = (call.record, call.fill);
-            let written = peliranopi::write_line(record, &call.text, &call.ends, output, fill);
+            let (record, text, ends) = (call.record, &call.text, &call.ends);
+            let written = told(call.version).and_then(|version| {
+                peliranopi::write_line(version, record, text, ends, output, call.fill)
+            });
             named("write_line", written.map(|count| [count as u64]))
         }
         Call::WritePurpose(call) => {
@@ -96,6 +105,15 @@ fn result(call: &Call, list: &mut [u32], output: &mut [u8]) -> Named {
             named("issue_identcode", written.map(|count| [count as u64]))
         }
     }
+}
+
+/// The safe functions take no number that is no version. What the header promises for one stands here:
+/// refusal 22 at 0, before all others, and nothing is written.
+fn told(version: u32) -> Result<Version, Refusal> {
+    Version::try_from(version).map_err(|_| Refusal {
+        why: Reason::UnknownVersion,
+        place: 0,
+    })
 }
 
 fn named<const N: usize>(function: &'static str, numbers: Result<[u64; N], Refusal>) -> Named {

@@ -1,10 +1,11 @@
 //! The whole file (document 01, 'Whole file'), with the countries whose senders need their contacts
-//! (document 02, request 1).
+//! (document 02, request 1), under the field rules of the version on its header (request 5).
 
 use std::collections::HashSet;
 
 use crate::line::{judged_parts, line_end, record_of, within_limit};
 use crate::profile::{cents, is_cash, may_end, may_follow, Record};
+use crate::version::Version;
 use crate::{refuse, Refusal};
 
 /// "Accepted: number of lines, number of 040 lines, and the cash total in cents."
@@ -34,6 +35,7 @@ pub fn judge(file: &[u8], countries: &[u8], list: &mut [u32]) -> Result<Totals, 
 fn judge_lines(file: &[u8], countries: &[u8], list: &mut [u32]) -> Result<Totals, Refusal> {
     within_limit(file)?;
     let countries = pairs(countries)?;
+    let version = Version::of_file(file);
     let mut totals = Totals::default();
     let mut identcodes = HashSet::new();
     let mut lacks_contact = false; // of the sender above
@@ -45,7 +47,7 @@ fn judge_lines(file: &[u8], countries: &[u8], list: &mut [u32]) -> Result<Totals
         if !may_follow(before, record) {
             return refuse(4, offset);
         }
-        let parts = judged_parts(file, offset, end, record)?;
+        let parts = judged_parts(version, file, offset, end, record)?;
         let field = |number: usize| &file[parts[number].clone()];
         if record == Record::R020 {
             lacks_contact = field(12).is_empty() || field(13).is_empty();

@@ -1,4 +1,4 @@
-//! A second, independent implementation of document 01 and of the requests 1, 2 and 4 of document
+//! A second, independent implementation of document 01 and of the requests 1, 2, 4 and 5 of document
 //! 02, for tests only.
 //!
 //! It is written from the paper alone, in ways that are easy to believe. Nothing here is proved: it
@@ -18,6 +18,7 @@ pub mod line;
 pub mod numbers;
 pub mod profile;
 pub mod purpose;
+pub mod version;
 pub mod writer;
 
 /// A number of the refusal table and its place.

@@ -3,6 +3,7 @@
 use std::ops::Range;
 
 use crate::profile::{is_text, judge_field, needs_are_met, Record, LIMIT};
+use crate::version::Version;
 use crate::{refuse, Refusal};
 
 /// "The answer names the record kind, the field count and where the next line starts."
@@ -14,9 +15,10 @@ pub struct Line {
     pub next: usize,
 }
 
-/// "One line at an offset, judged alone (1, 2, 3, 5 to 9)."
-pub fn read_line(file: &[u8], offset: usize) -> Result<Line, Refusal> {
-    let (record, parts) = parts_of_line(file, offset)?;
+/// "One line at an offset, judged alone (1, 2, 3, 5 to 9)." "Line calls are told the version": 22 for
+/// another "before all others".
+pub fn read_line(version: u32, file: &[u8], offset: usize) -> Result<Line, Refusal> {
+    let (record, parts) = parts_of_line(version, file, offset)?;
     let end = parts[parts.len() - 1].end;
     Ok(Line {
         record: record.number(),
@@ -26,8 +28,13 @@ pub fn read_line(file: &[u8], offset: usize) -> Result<Line, Refusal> {
 }
 
 /// "One field adds a field number, then 15 for 0 or above the count, and answers start and length."
-pub fn find_field(file: &[u8], offset: usize, number: usize) -> Result<(usize, usize), Refusal> {
-    let (_, parts) = parts_of_line(file, offset)?;
+pub fn find_field(
+    version: u32,
+    file: &[u8],
+    offset: usize,
+    number: usize,
+) -> Result<(usize, usize), Refusal> {
+    let (_, parts) = parts_of_line(version, file, offset)?;
     match parts.get(number) {
         Some(part) if number != 0 => Ok((part.start, part.len())),
         _ => refuse(15, 0),
@@ -36,11 +43,16 @@ pub fn find_field(file: &[u8], offset: usize, number: usize) -> Result<(usize, u
 
 /// A line's record and its parts: the record type, then the fields, so that a field's number is its
 /// place in the list.
-fn parts_of_line(file: &[u8], offset: usize) -> Result<(Record, Vec<Range<usize>>), Refusal> {
+fn parts_of_line(
+    version: u32,
+    file: &[u8],
+    offset: usize,
+) -> Result<(Record, Vec<Range<usize>>), Refusal> {
+    let version = Version::told(version)?;
     within_limit(file)?;
     let end = line_end(file, offset)?;
     let record = record_of(file, offset, end)?;
-    let parts = judged_parts(file, offset, end, record)?;
+    let parts = judged_parts(version, file, offset, end, record)?;
     Ok((record, parts))
 }
 
@@ -74,6 +86,7 @@ pub(crate) fn record_of(file: &[u8], offset: usize, end: usize) -> Result<Record
 
 /// The parts of a line after 5, "then the fields from left to right (6, 7, 8 for each), then 9".
 pub(crate) fn judged_parts(
+    version: Version,
     file: &[u8],
     offset: usize,
     end: usize,
@@ -93,7 +106,8 @@ pub(crate) fn judged_parts(
     }
     let field = |number: usize| &file[parts[number].clone()];
     for (number, part) in parts.iter().enumerate().skip(1) {
-        judge_field(record, number, &field).or_else(|refusal| refuse(refusal, part.start))?;
+        judge_field(version, record, number, &field)
+            .or_else(|refusal| refuse(refusal, part.start))?;
     }
     if !needs_are_met(record, &field) {
         return refuse(9, offset);

@@ -1,8 +1,10 @@
 //! Our profile of the pre-advice manual: records, widths, duties and forms (document 01, 'The
-//! file'). The reader and the writer test their fields here, each over its own bytes.
+//! file'), and the widths and duties of version 7 (document 002, tables 8, 10, 12, 14, 22 and 25). The
+//! reader and the writer test their fields here, each over its own bytes.
 
 use crate::identcode::check_identcode;
 use crate::numbers::check_iban;
+use crate::version::Version::{self, V5, V7};
 
 /// "At most 65,535 bytes."
 pub const LIMIT: usize = 65_535;
@@ -69,31 +71,44 @@ impl Record {
             R050 => 1,
             R060 => 10,
         };
-        (least..=self.widths().len()).contains(&count)
+        (least..=self.widths(V5).len()).contains(&count)
     }
 
     /// The widths of the record's fields, field 1 first.
-    pub fn widths(self) -> &'static [usize] {
-        match self {
-            R010 => &WIDTHS_010,
-            R020 => &WIDTHS_020,
-            R030 => &WIDTHS_030,
-            R040 => &WIDTHS_040,
-            R050 => &WIDTHS_050,
-            R060 => &WIDTHS_060,
+    pub fn widths(self, version: Version) -> &'static [usize] {
+        match (version, self) {
+            (V5, R010) => &WIDTHS_010,
+            (V5, R020) => &WIDTHS_020,
+            (V5, R030) => &WIDTHS_030,
+            (V5, R040) => &WIDTHS_040,
+            (V5, R050) => &WIDTHS_050,
+            (V5, R060) => &WIDTHS_060,
+            (V7, R010) => &SEVEN_010,
+            (V7, R020) => &SEVEN_020,
+            (V7, R030) => &SEVEN_030,
+            (V7, R040) => &SEVEN_040,
+            (V7, R050) => &SEVEN_050,
+            (V7, R060) => &SEVEN_060,
         }
     }
 
-    /// "R = must be filled": the numbers of these fields. Not 020.12 and 020.13: "A line read or
-    /// written alone no longer asks for the two" (document 02, request 1).
-    pub fn required(self) -> &'static [usize] {
-        match self {
-            R010 => &[1, 2, 3, 4, 5, 6],
-            R020 => &[1, 5, 6, 7, 9, 11],
-            R030 => &[16, 20, 21, 22, 24, 26],
-            R040 => &[1],
-            R050 => &[1],
-            R060 => &[1],
+    /// "R = must be filled": the numbers of these fields; in version 7 those that 002 calls
+    /// required. Not 020.12 and 020.13: "A line read or written alone no longer asks for the two"
+    /// (document 02, request 1), and they "follow the lent country list in both" (request 5).
+    pub fn required(self, version: Version) -> &'static [usize] {
+        match (version, self) {
+            (V5, R010) => &[1, 2, 3, 4, 5, 6],
+            (V5, R020) => &[1, 5, 6, 7, 9, 11],
+            (V5, R030) => &[16, 20, 21, 22, 24, 26],
+            (V5, R040) => &[1],
+            (V5, R050) => &[1],
+            (V5, R060) => &[1],
+            (V7, R010) => &[1, 3, 4, 6],
+            (V7, R020) => &[1, 5, 6, 7, 9, 11],
+            (V7, R030) => &[16, 20, 21, 22, 24, 26],
+            (V7, R040) => &[1, 4],
+            (V7, R050) => &[1],
+            (V7, R060) => &[1],
         }
     }
 }
@@ -166,6 +181,116 @@ const WIDTHS_060: [usize; 10] = [
     40, // 10
 ];
 
+// Version 7, each row as 002 prints it. Where 002 gives no length, or has no such field, the page's
+// stands.
+
+#[rustfmt::skip]
+const SEVEN_010: [usize; 10] = [
+    10, // DebitorPayer
+    80, // Customer
+    19, // CreationDate: the page's
+    19, // ShipmentDate: the page's
+    10, // ShipmentPostalCode
+    10, // AvisoVersion
+    20, // AvisoSystem
+    40, // ITContactName
+    40, // ITContactTelephoneNr
+    64, // ITContactMails
+];
+
+#[rustfmt::skip]
+const SEVEN_020: [usize; 16] = [
+    40, 40, 40, 40, // ShipperName1 to 4
+    2, // ShipperCountry
+    10, // ShipperPostalCode
+    40, // ShipperCity
+    40, // ShipperRegion
+    40, // ShipperStreet
+    40, // ShipperAdditionalStreet
+    10, // ShipperStreetNr
+    40, // ShipperTelephoneNr
+    64, // ShipperMail
+    64, // ShipperTaxCode
+    64, // ShipperVATNo
+    64, // ShipperCustomsReference
+];
+
+#[rustfmt::skip]
+const SEVEN_030: [usize; 40] = [
+    40, // ShipmentNr
+    10, // ReturnDebitor
+    40, 40, 40, 40, // ReturnName1 to 4
+    2, // ReturnCountry
+    10, // ReturnPostalCode
+    40, // ReturnCity
+    40, // ReturnRegion
+    40, // ReturnStreet
+    40, // ReturnAdditionalStreet
+    10, // ReturnStreetNr
+    40, // ReturnTelephoneNr
+    64, // ReturnMail
+    40, 40, 40, 40, // ConsigneeName1 to 4
+    2, // ConsigneeCountry
+    10, // ConsigneePostalCode
+    40, // ConsigneeCity
+    40, // ConsigneeRegion
+    40, // ConsigneeStreet
+    40, // ConsigneeAdditionalStreet
+    10, // ConsigneeStreetNr
+    15, // ConsigneePAC
+    40, // ConsigneeTelephoneNr
+    64, // ConsigneeMail
+    64, // ConsigneeInfo
+    64, // ConsigneeTaxCode
+    64, // ConsigneeVATNo
+    64, // ConsigneeCustomsReference
+    40, // ShpRefNr
+    40, // CostCenterRefNr
+    40, // AlternativeRefNr
+    100, // DeliveryRemark
+    19, // DeliveryDay: the page's
+    20, // LabelType
+    20, // MovementReferenceNumber
+];
+
+#[rustfmt::skip]
+const SEVEN_040: [usize; 24] = [
+    24, // IdentCode
+    11, // Weight, 7.3: seven digits, the point, three digits
+    40, // ColliRefNr
+    1, // ParcelType
+    40, // InternalRefNr
+    40, // ReferencedParcelIdentCode
+    9, // TotalValue, 6.2: six digits, the point, two digits
+    3, // Currency
+    100, // Comment
+    2, // NumberOfDocuments
+    1, // NonDeliveryRemark
+    100, // ReasonForExport
+    64, 64, 64, 64, 64, 64, 64, 64, 64, 64, 64, 64, // 13 to 24: the page's
+];
+
+#[rustfmt::skip]
+const SEVEN_050: [usize; 24] = [
+    2, // ProductCode
+    64, 64, 64, 64, 64, 64, 64, 64, 64, 64, 64, // 2 to 24: the page's
+    64, 64, 64, 64, 64, 64, 64, 64, 64, 64, 64, 64,
+];
+
+#[rustfmt::skip]
+const SEVEN_060: [usize; 10] = [
+    3, // FeatureCode
+    40, // Value, under every code
+    9, // Amount, 6.2
+    3, // Currency
+    35, // CodAccountHolder
+    40, // IBAN
+    11, // BIC
+    35, // CodPaymentReason
+    40, // Email
+    40, // PhoneNumber
+];
+
 /// "Feature codes (002)".
 #[rustfmt::skip]
 pub const FEATURES: [&[u8; 3]; 30] = [
@@ -199,37 +324,49 @@ pub fn is_text(byte: u8) -> bool {
 
 /// One field's refusals, "6, 7, 8 for each"; `field` gives a field of the line by its number.
 pub(crate) fn judge_field<'a>(
+    version: Version,
     record: Record,
     number: usize,
     field: &impl Fn(usize) -> &'a [u8],
 ) -> Result<(), u32> {
     let part = field(number);
-    if part.len() > width(record, number, field) {
+    if part.len() > width(version, record, number, field) {
         return Err(6);
     }
     if part.is_empty() {
-        return match record.required().contains(&number) {
+        return match record.required(version).contains(&number) {
             true => Err(7),
             false => Ok(()),
         };
     }
-    if !form_holds(record, number, field) {
+    if !form_holds(version, record, number, field) {
         return Err(8);
     }
     Ok(())
 }
 
-/// The field's width; of 060.2: "64, but 35 under 006 and 022".
-fn width<'a>(record: Record, number: usize, field: &impl Fn(usize) -> &'a [u8]) -> usize {
-    if record == R060 && number == 2 && is_cash(field(1)) {
+/// The field's width; of 060.2 in version 5: "64, but 35 under 006 and 022".
+fn width<'a>(
+    version: Version,
+    record: Record,
+    number: usize,
+    field: &impl Fn(usize) -> &'a [u8],
+) -> usize {
+    if version == V5 && record == R060 && number == 2 && is_cash(field(1)) {
         35
     } else {
-        record.widths()[number - 1]
+        record.widths(version)[number - 1]
     }
 }
 
-/// "Forms apply to filled fields": this one is filled.
-fn form_holds<'a>(record: Record, number: usize, field: &impl Fn(usize) -> &'a [u8]) -> bool {
+/// "Forms apply to filled fields": this one is filled. 002's tables give widths and duties; the forms
+/// are the page's in both versions, but for 010.6.
+fn form_holds<'a>(
+    version: Version,
+    record: Record,
+    number: usize,
+    field: &impl Fn(usize) -> &'a [u8],
+) -> bool {
     let part = field(number);
     match (record, number) {
         // "1 R ten digits, the first two 00"
@@ -238,8 +375,9 @@ fn form_holds<'a>(record: Record, number: usize, field: &impl Fn(usize) -> &'a [
         (R010, 3 | 4) => is_date_time(part),
         // "5 R four digits"
         (R010, 5) => is_four_digits(part),
-        // "6 R width 10, exactly `5`"
-        (R010, 6) => part == b"5",
+        // "6 R width 10, exactly `5`"; "Line calls are told the version, and 010.6 must be it, else
+        // 8" (document 02, request 5).
+        (R010, 6) => part == version.mark(),
         // "Countries (020.5, 030.7, 030.20) are two capitals."
         (R020, 5) | (R030, 7 | 20) => part.len() == 2 && all_capitals(part),
         // "Where one is `AT`, the filled post code of that address (020.6, 030.8, 030.21) is four

@@ -2,6 +2,7 @@
 
 use crate::file::judge;
 use crate::line::find_field;
+use crate::version::Version;
 use crate::{refuse, Refusal};
 
 /// "The first 35 bytes count", and an "output under 35" is 13.
@@ -35,8 +36,9 @@ pub fn purpose(
 /// "For a 006 line: 060.8 if filled; else the first filled of 030.1, 030.34, 030.36 and field 3 of
 /// the shipment's first 040; else that 040's field 1, `/`, 030.16." None for any other line.
 fn purpose_text(file: &[u8], line: usize, starts: &[u32]) -> Option<Vec<u8>> {
+    let version = Version::of_file(file).number();
     let field = |line: usize, number: usize| {
-        let (start, length) = find_field(file, starts[line] as usize, number)
+        let (start, length) = find_field(version, file, starts[line] as usize, number)
             .expect("the line was accepted and has this field");
         &file[start..start + length]
     };

@@ -1,19 +1,23 @@
 //! Writing one line (document 01, 'Writer').
 
 use crate::profile::{is_text, judge_field, needs_are_met, Record};
+use crate::version::Version;
 use crate::{refuse, Refusal};
 
 /// "Record type as a number (10 for 010, up to 60), one text with all fields joined, a list of
 /// field ends, an output and its fill. Order: 3, 14, 5, fields (6, 7, 8), 9, 13." "Place is the
 /// field number for 6 to 8, else 0. The line goes at the fill, other output bytes stay; a refusal
-/// changes none." "The answer is how many bytes were written."
+/// changes none." "The answer is how many bytes were written." It is a line call, so it is "told the
+/// version", and 22 comes before 3.
 pub fn write_line(
+    version: u32,
     record: u32,
     text: &[u8],
     ends: &[usize],
     out: &mut [u8],
     fill: usize,
 ) -> Result<usize, Refusal> {
+    let version = Version::told(version)?;
     let Some(record) = Record::from_number(record) else {
         return refuse(3, 0);
     };
@@ -33,7 +37,7 @@ pub fn write_line(
         &text[start..ends[number - 1]]
     };
     for number in 1..=ends.len() {
-        judge_field(record, number, &field).or_else(|refusal| refuse(refusal, number))?;
+        judge_field(version, record, number, &field).or_else(|refusal| refuse(refusal, number))?;
         // "A semicolon or non-text byte is 8."
         let clean = |byte: &u8| is_text(*byte) && *byte != b';';
         if !field(number).iter().all(clean) {

@@ -7,7 +7,9 @@ use reference::generate::*;
 use reference::identcode::{check_identcode, issue_identcode, read_identcode};
 use reference::line::{find_field, read_line};
 use reference::numbers::{check_iban, check_number, issue_number, next_carry, Kind};
+use reference::profile::Record;
 use reference::purpose::purpose;
+use reference::version::Version;
 use reference::writer::write_line;
 use reference::Refusal;
 
@@ -73,6 +75,66 @@ fn valid_files_are_accepted() {
         upper += usize::from(file.iter().any(|byte| *byte >= 160));
     }
     assert!(shortest == 5 && longest > 300 && upper > 1000);
+}
+
+/// About half of all files are of either version, and what each version alone allows is among them.
+#[test]
+fn files_of_both_versions() {
+    let mut rng = Rng::new(23);
+    let mut files = [0; 2];
+    let (mut unnamed, mut typed, mut untyped, mut long, mut other) = (0, 0, 0, 0, Counts::new());
+    for _ in 0..4_000 {
+        let file = valid_file(&mut rng);
+        let version = Version::of_file(&file);
+        files[usize::from(version == Version::V7)] += 1;
+        let mut lines = take_apart(&file);
+        for line in &lines {
+            match (version, &line[0][..]) {
+                (Version::V7, b"010") => unnamed += usize::from(line[2].is_empty()),
+                (Version::V7, b"040") if line.len() > 4 => typed += 1,
+                (Version::V7, b"040") => untyped += 1,
+                (Version::V5, b"050") => long += usize::from(line[1].len() > 2),
+                _ => {}
+            }
+        }
+        // Under the other version it is accepted, or refused for a width or a duty.
+        lines[0][6] = match version {
+            Version::V5 => b"7".to_vec(),
+            Version::V7 => b"5".to_vec(),
+        };
+        let answer = judge(&put_together(&lines), b"", &mut [0; 4096]);
+        count(&mut other, &answer);
+    }
+    assert!(files.iter().all(|count| *count > 1_500), "{files:?}");
+    let each = [unnamed, typed, untyped, long];
+    assert!(each.iter().all(|count| *count > 500), "{each:?}");
+    assert_each(&other, &[0, 6, 7]);
+    assert!(other.values().all(|count| *count > 100), "{other:?}");
+    println!("{files:?}, {each:?}, under the other version {other:?}");
+}
+
+/// Mostly the file's own version, and one time in 20 neither.
+#[test]
+fn versions_that_are_told() {
+    let mut rng = Rng::new(24);
+    let (mut own, mut other, mut neither) = (0, 0, HashSet::new());
+    let mut refused = 0;
+    for _ in 0..40_000 {
+        let version = version(&mut rng);
+        match told(&mut rng, version) {
+            number if number == version.number() => own += 1,
+            5 | 7 => other += 1,
+            number => {
+                refused += 1;
+                neither.insert(number);
+            }
+        }
+    }
+    assert!((1_700..2_300).contains(&refused), "{refused}");
+    assert!(own > 30_000 && other > 2_000, "{own} {other}");
+    for number in [0, 6, 57, 261, u32::MAX] {
+        assert!(neither.contains(&number), "{neither:?}");
+    }
 }
 
 #[test]
@@ -269,8 +331,8 @@ fn lines_and_fields() {
     let (mut lines, mut fields) = (Counts::new(), Counts::new());
     for _ in 0..20_000 {
         let call = line_call(&mut rng);
-        let line = read_line(&call.file, call.offset);
-        let field = find_field(&call.file, call.offset, call.number);
+        let line = read_line(call.version, &call.file, call.offset);
+        let field = find_field(call.version, &call.file, call.offset, call.number);
         match (line, field) {
             (Err(refusal), field) => assert_eq!(field, Err(refusal)),
             (Ok(line), Err(refusal)) => {
@@ -289,8 +351,8 @@ fn lines_and_fields() {
         count(&mut lines, &line);
         count(&mut fields, &field);
     }
-    assert_each(&lines, &[0, 1, 2, 3, 5, 6, 7, 8, 9]);
-    assert_each(&fields, &[0, 1, 2, 3, 5, 6, 7, 8, 9, 15]);
+    assert_each(&lines, &[0, 1, 2, 3, 5, 6, 7, 8, 9, 22]);
+    assert_each(&fields, &[0, 1, 2, 3, 5, 6, 7, 8, 9, 15, 22]);
     println!("{lines:?}\n{fields:?}");
 }
 
@@ -299,10 +361,11 @@ fn a_file_is_its_lines() {
     let mut rng = Rng::new(6);
     for _ in 0..2_000 {
         let file = valid_file(&mut rng);
+        let version = Version::of_file(&file).number();
         let mut offset = 0;
         let mut read = 0;
         while offset < file.len() {
-            offset = read_line(&file, offset).unwrap().next;
+            offset = read_line(version, &file, offset).unwrap().next;
             read += 1;
         }
         assert_eq!(judge(&file, b"", &mut [0; 4096]).unwrap().lines, read);
@@ -312,7 +375,14 @@ fn a_file_is_its_lines() {
 /// Writes into an output of nines and tests that only the line changed, and only on acceptance.
 fn write(call: &WriterCall) -> Result<Vec<u8>, Refusal> {
     let mut out = vec![9; call.output];
-    let answer = write_line(call.record, &call.text, &call.ends, &mut out, call.fill);
+    let answer = write_line(
+        call.version,
+        call.record,
+        &call.text,
+        &call.ends,
+        &mut out,
+        call.fill,
+    );
     let (fill, length) = match answer {
         Ok(length) => (call.fill, length),
         Err(_) => (0, 0),
@@ -325,13 +395,13 @@ fn write(call: &WriterCall) -> Result<Vec<u8>, Refusal> {
 
 /// A written line reads back to its fields.
 fn assert_reads_back(call: &WriterCall, line: &[u8]) {
-    let read = read_line(line, 0).unwrap();
+    let read = read_line(call.version, line, 0).unwrap();
     assert_eq!(read.record, call.record);
     assert_eq!(read.fields, call.ends.len());
     assert_eq!(read.next, line.len());
     let mut start = 0;
     for (index, end) in call.ends.iter().enumerate() {
-        let (at, length) = find_field(line, 0, index + 1).unwrap();
+        let (at, length) = find_field(call.version, line, 0, index + 1).unwrap();
         assert_eq!(line[at..at + length], call.text[start..*end]);
         start = *end;
     }
@@ -353,7 +423,7 @@ fn written_lines_read_back() {
         }
         count(&mut counts, &answer);
     }
-    assert_each(&counts, &[0, 3, 5, 6, 7, 8, 9, 13, 14]);
+    assert_each(&counts, &[0, 3, 5, 6, 7, 8, 9, 13, 14, 22]);
     println!("{counts:?}");
 }
 
@@ -362,9 +432,10 @@ fn an_accepted_line_written_again_gives_its_bytes() {
     let mut rng = Rng::new(8);
     for _ in 0..500 {
         let file = valid_file(&mut rng);
+        let version = Version::of_file(&file).number();
         for parts in take_apart(&file).iter().rev().skip(1) {
             let name = String::from_utf8(parts[0].clone()).unwrap();
-            let call = WriterCall::new(name.parse().unwrap(), &parts[1..]);
+            let call = WriterCall::new(version, name.parse().unwrap(), &parts[1..]);
             let line = [&parts.join(&b';')[..], b"\r\n"].concat();
             assert_eq!(write(&call), Ok(line));
         }
@@ -378,11 +449,11 @@ fn field_rules_at_their_boundaries() {
     let mut known = 0;
     for case in &cases {
         let line = case.line();
-        let answer = read_line(&line, 0);
+        let answer = read_line(case.version, &line, 0);
         assert!(case.read.allows(&answer), "{case:?} {answer:?}");
         // The same behind other bytes: the places move along.
         let behind = [&b"\0;\n;\r"[..], &line].concat();
-        match (answer, read_line(&behind, 5)) {
+        match (answer, read_line(case.version, &behind, 5)) {
             (Ok(one), Ok(two)) => {
                 assert_eq!((one.record, one.fields), (two.record, two.fields));
                 assert_eq!(one.next + 5, two.next);
@@ -403,7 +474,9 @@ fn field_rules_at_their_boundaries() {
             (Ok(_), Err(refusal)) => {
                 // A semicolon that makes one more field of a line is a byte of the field to the
                 // writer: too long, or else not allowed.
-                let width = if case.number == 1 { 22 } else { 64 };
+                let version = Version::told(case.version).unwrap();
+                let width =
+                    Record::from_number(case.record).unwrap().widths(version)[case.number - 1];
                 let field = &case.fields[case.number - 1];
                 let number = if field.len() > width { 6 } else { 8 };
                 assert!(case.record == 40 || case.record == 50);
@@ -417,11 +490,11 @@ fn field_rules_at_their_boundaries() {
         count(&mut read, &answer);
         count(&mut written, &line_written);
     }
-    let fields: HashSet<(u32, usize)> = cases
+    let fields: HashSet<(u32, u32, usize)> = cases
         .iter()
-        .map(|case| (case.record, case.number))
+        .map(|case| (case.version, case.record, case.number))
         .collect();
-    assert_eq!(fields.len(), 10 + 16 + 40 + 24 + 24 + 10);
+    assert_eq!(fields.len(), 2 * (10 + 16 + 40 + 24 + 24 + 10));
     assert_each(&read, &[0, 2, 5, 6, 7, 8, 9]);
     assert_each(&written, &[0, 6, 7, 8, 9]);
     println!("{} cases, {known} known, {read:?}", cases.len());

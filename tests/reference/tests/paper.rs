@@ -6,6 +6,7 @@ use reference::identcode::{check_identcode, issue_identcode, read_identcode};
 use reference::line::{find_field, read_line, Line};
 use reference::numbers::{check_iban, check_number, issue_number, next_carry, Kind};
 use reference::purpose::purpose;
+use reference::version::Version;
 use reference::writer::write_line;
 use reference::Refusal;
 
@@ -439,8 +440,8 @@ fn identcodes_in_files_lines_and_purposes() {
     ] {
         let file = with_code(code);
         assert_eq!(judged(&file), no(8, place), "{code}");
-        assert_eq!(read_line(file.as_bytes(), 178), no(8, place));
-        assert_eq!(find_field(file.as_bytes(), 178, 2), no(8, place));
+        assert_eq!(read_line(5, file.as_bytes(), 178), no(8, place));
+        assert_eq!(find_field(5, file.as_bytes(), 178, 2), no(8, place));
         let (mut list, mut out) = ([7; 6], [9; 35]);
         let answer = purpose(file.as_bytes(), b"", 5, &mut list, &mut out);
         assert_eq!(answer, no(8, place));
@@ -448,7 +449,7 @@ fn identcodes_in_files_lines_and_purposes() {
         let ends = [code.len(); 3];
         let mut out = [9; 40];
         assert_eq!(
-            write_line(40, code.as_bytes(), &ends, &mut out, 0),
+            write_line(5, 40, code.as_bytes(), &ends, &mut out, 0),
             no(8, 1)
         );
         assert_eq!(out, [9; 40]);
@@ -595,7 +596,7 @@ fn contacts_are_needed_for_the_lent_countries() {
         // "With an empty list [..] nobody needs them." "A line read or written alone no longer asks
         // for the two."
         assert_eq!(judged(&file), totals(6, 1, 1250));
-        assert!(read_line(file.as_bytes(), 74).is_ok());
+        assert!(read_line(5, file.as_bytes(), 74).is_ok());
         // The pairs stand at even places; what are no capitals names nothing.
         for countries in ["DE", "TA", "XATX", "DEXATX", "at", "At", "\0\0", "  "] {
             let answer = judged_under(countries.as_bytes(), &file);
@@ -722,35 +723,35 @@ fn one_line_and_one_field() {
             next,
         })
     };
-    assert_eq!(read_line(file, 0), line(10, 10, 74));
-    assert_eq!(read_line(file, 74), line(20, 16, 116));
-    assert_eq!(read_line(file, 116), line(30, 40, 178));
-    assert_eq!(read_line(file, 178), line(40, 3, 208));
-    assert_eq!(read_line(file, 208), line(50, 1, 216));
-    assert_eq!(read_line(file, 216), line(60, 10, 276));
+    assert_eq!(read_line(5, file, 0), line(10, 10, 74));
+    assert_eq!(read_line(5, file, 74), line(20, 16, 116));
+    assert_eq!(read_line(5, file, 116), line(30, 40, 178));
+    assert_eq!(read_line(5, file, 178), line(40, 3, 208));
+    assert_eq!(read_line(5, file, 208), line(50, 1, 216));
+    assert_eq!(read_line(5, file, 216), line(60, 10, 276));
     // Past the file, and inside a line.
-    assert_eq!(read_line(file, 276), no(2, 276));
-    assert_eq!(read_line(file, 277), no(2, 276));
-    assert_eq!(read_line(file, usize::MAX), no(2, 276));
-    assert_eq!(read_line(b"", 0), no(2, 0));
-    assert_eq!(read_line(file, 1), no(3, 1));
-    assert_eq!(read_line(b"x050;1\r\n", 1), line(50, 1, 8));
+    assert_eq!(read_line(5, file, 276), no(2, 276));
+    assert_eq!(read_line(5, file, 277), no(2, 276));
+    assert_eq!(read_line(5, file, usize::MAX), no(2, 276));
+    assert_eq!(read_line(5, b"", 0), no(2, 0));
+    assert_eq!(read_line(5, file, 1), no(3, 1));
+    assert_eq!(read_line(5, b"x050;1\r\n", 1), line(50, 1, 8));
     // Judged alone: no order, no identcodes, no list.
-    assert_eq!(read_line(b"050;1\r\n", 0), line(50, 1, 7));
-    assert_eq!(read_line(&[b'x'; 65_536], 7), no(1, 65_535));
-    assert_eq!(read_line(&[b'x'; 65_536], usize::MAX), no(1, 65_535));
-    assert_eq!(read_line(b"\x00050;;\r\n", 1), no(7, 5));
-    assert_eq!(read_line(b"\x00060;006;;;;;;;;;\r\n", 1), no(9, 1));
+    assert_eq!(read_line(5, b"050;1\r\n", 0), line(50, 1, 7));
+    assert_eq!(read_line(5, &[b'x'; 65_536], 7), no(1, 65_535));
+    assert_eq!(read_line(5, &[b'x'; 65_536], usize::MAX), no(1, 65_535));
+    assert_eq!(read_line(5, b"\x00050;;\r\n", 1), no(7, 5));
+    assert_eq!(read_line(5, b"\x00060;006;;;;;;;;;\r\n", 1), no(9, 1));
 
-    assert_eq!(find_field(file, 216, 1), Ok((220, 3)));
-    assert_eq!(find_field(file, 216, 2), Ok((224, 0)));
-    assert_eq!(find_field(file, 216, 3), Ok((225, 5)));
-    assert_eq!(find_field(file, 216, 10), Ok((274, 0)));
-    assert_eq!(find_field(file, 216, 11), no(15, 0));
-    assert_eq!(find_field(file, 216, 0), no(15, 0));
-    assert_eq!(find_field(file, 216, usize::MAX), no(15, 0));
-    assert_eq!(find_field(file, 276, 0), no(2, 276));
-    assert_eq!(find_field(file, 1, 0), no(3, 1));
+    assert_eq!(find_field(5, file, 216, 1), Ok((220, 3)));
+    assert_eq!(find_field(5, file, 216, 2), Ok((224, 0)));
+    assert_eq!(find_field(5, file, 216, 3), Ok((225, 5)));
+    assert_eq!(find_field(5, file, 216, 10), Ok((274, 0)));
+    assert_eq!(find_field(5, file, 216, 11), no(15, 0));
+    assert_eq!(find_field(5, file, 216, 0), no(15, 0));
+    assert_eq!(find_field(5, file, 216, usize::MAX), no(15, 0));
+    assert_eq!(find_field(5, file, 276, 0), no(2, 276));
+    assert_eq!(find_field(5, file, 1, 0), no(3, 1));
 }
 
 #[test]
@@ -825,7 +826,7 @@ fn refusals_of_the_purpose() {
 fn refusals_of_the_writer() {
     let write = |record: u32, text: &str, ends: &[usize], bytes: usize, fill: usize| {
         let mut out = vec![9; bytes];
-        let answer = write_line(record, text.as_bytes(), ends, &mut out, fill);
+        let answer = write_line(5, record, text.as_bytes(), ends, &mut out, fill);
         let changed = out.iter().filter(|byte| **byte != 9).count();
         assert_eq!(changed, answer.unwrap_or(0));
         answer
@@ -872,14 +873,14 @@ fn refusals_of_the_writer() {
 #[test]
 fn a_written_line_stands_at_the_fill() {
     let mut out = *b"................";
-    assert_eq!(write_line(50, b"10x", &[2, 2, 3], &mut out, 3), Ok(11));
+    assert_eq!(write_line(5, 50, b"10x", &[2, 2, 3], &mut out, 3), Ok(11));
     assert_eq!(&out, b"...050;10;;x\r\n..");
 }
 
 /// The example's first line with this date-time.
 fn date_time_holds(text: &str) -> bool {
     let line = EXAMPLE[..74].replace("2021-02-23T13:37:50", text);
-    read_line(line.as_bytes(), 0).is_ok()
+    read_line(5, line.as_bytes(), 0).is_ok()
 }
 
 #[test]
@@ -927,4 +928,239 @@ fn amounts_are_written_cents() {
     }
     // 3, 6 and 18 whole parts of up to three symbols with 9 fractions each, without 0.00.
     assert_eq!(held, (3 + 6 + 18) * 9 - 1);
+}
+
+/// The example with this in 010.6, and other pieces put for some of its own.
+fn marked(mark: &str, pieces: &[(&str, &str)]) -> String {
+    let mut file = EXAMPLE.replace("1005;5;", &format!("1005;{mark};"));
+    for (old, new) in pieces {
+        assert_eq!(file.matches(old).count(), 1, "{old}");
+        file = file.replace(old, new);
+    }
+    file
+}
+
+/// No customer's name, which version 5 refuses and version 7 does not.
+const UNNAMED: (&str, &str) = (";Muster;2021", ";;2021");
+
+/// "The version on the header decides for the whole file": one byte `7` in field 6 of a first line of
+/// type 010; "a file header with neither is judged as 5".
+#[test]
+fn the_header_decides_the_version() {
+    assert_eq!(judged(marked("7", &[])), totals(6, 1, 1250));
+    assert_eq!(judged(marked("7", &[UNNAMED])), totals(6, 1, 1250));
+    assert_eq!(judged(marked("5", &[UNNAMED])), no(7, 15));
+    for mark in [
+        "6",
+        "8",
+        "07",
+        "77",
+        "75",
+        "57",
+        " 7",
+        "7 ",
+        "7.",
+        " ",
+        "7777777777",
+    ] {
+        let file = marked(mark, &[]);
+        assert_eq!(judged(&file), no(8, 67), "{mark}");
+        assert_eq!(judged(marked(mark, &[UNNAMED])), no(7, 15), "{mark}");
+        assert_eq!(Version::of_file(file.as_bytes()), Version::V5);
+    }
+    assert_eq!(judged(marked("", &[])), no(7, 67));
+    assert_eq!(judged(marked("77777777777", &[])), no(6, 67));
+    // In other fields, or in field 6 of other lines.
+    assert_eq!(
+        judged(marked("5", &[UNNAMED, (";5;;;;", ";5;7;;;")])),
+        no(7, 15)
+    );
+    assert_eq!(
+        judged(marked("7", &[UNNAMED, (";7;;;;", ";7;5;;;")])),
+        totals(6, 1, 1250)
+    );
+    let seven_below = marked("5", &[("AT;1010", "DE;7"), ("050;10", "050;product")]);
+    assert_eq!(judged(seven_below), totals(6, 1, 1250));
+    let of = |file: &[u8]| Version::of_file(file);
+    for (file, due) in [
+        ("", Version::V5),
+        ("010", Version::V5),
+        ("010;;;;;;7", Version::V7),
+        ("010;;;;;;7;;", Version::V7),
+        ("010;;;;;7", Version::V5),
+        ("010;;;;;;;7", Version::V5),
+        ("010;;;;;;77", Version::V5),
+        ("010;;;;;;\r\n7", Version::V5),
+        ("010;;;;;;7\n", Version::V7),
+        ("010;;;\0;;;7", Version::V5),
+        ("020;;;;;;7", Version::V5),
+        ("0100;;;;;;7", Version::V5),
+        (" 010;;;;;;7", Version::V5),
+        ("\r\n010;;;;;;7", Version::V5),
+    ] {
+        assert_eq!(of(file.as_bytes()), due, "{file}");
+    }
+}
+
+/// "Line calls are told the version, and 010.6 must be it, else 8"; "22, a line call told neither 5 nor
+/// 7, place 0, before all others."
+#[test]
+fn line_calls_are_told_the_version() {
+    let (five, seven) = (EXAMPLE.to_string(), marked("7", &[]));
+    assert_eq!(
+        read_line(5, five.as_bytes(), 0).map(|line| line.next),
+        Ok(74)
+    );
+    assert_eq!(
+        read_line(7, seven.as_bytes(), 0).map(|line| line.next),
+        Ok(74)
+    );
+    assert_eq!(read_line(7, five.as_bytes(), 0), no(8, 67));
+    assert_eq!(read_line(5, seven.as_bytes(), 0), no(8, 67));
+    assert_eq!(find_field(7, seven.as_bytes(), 0, 6), Ok((67, 1)));
+    assert_eq!(find_field(5, seven.as_bytes(), 0, 6), no(8, 67));
+    let text = b"0012345678Muster2021-02-23T13:37:502021-02-24T14:20:5510057";
+    let ends = [10, 16, 35, 54, 58, 59, 59, 59, 59, 59];
+    let mut out = [9; 80];
+    assert_eq!(write_line(5, 10, text, &ends, &mut out, 0), no(8, 6));
+    assert_eq!(out, [9; 80]);
+    assert_eq!(write_line(7, 10, text, &ends, &mut out, 0), Ok(74));
+    assert_eq!(out[..74], seven.as_bytes()[..74]);
+    for version in [0, 1, 4, 6, 8, 55, 57, 77, 261, 263, 65_541, u32::MAX] {
+        assert_eq!(read_line(version, five.as_bytes(), 0), no(22, 0));
+        assert_eq!(read_line(version, &[b' '; 65_536], 0), no(22, 0));
+        assert_eq!(read_line(version, b"", usize::MAX), no(22, 0));
+        assert_eq!(find_field(version, five.as_bytes(), 0, 1), no(22, 0));
+        assert_eq!(find_field(version, b"", 0, 0), no(22, 0));
+        let mut out = [9; 20];
+        assert_eq!(write_line(version, 50, b"10", &[2], &mut out, 0), no(22, 0));
+        assert_eq!(write_line(version, 51, b"10", &[2], &mut out, 0), no(22, 0));
+        assert_eq!(write_line(version, 50, b"10", &[1], &mut out, 0), no(22, 0));
+        assert_eq!(write_line(version, 50, b"10", &[2], &mut [], 9), no(22, 0));
+        assert_eq!(out, [9; 20]);
+    }
+}
+
+/// Each field whose width is another one in 7, at both widths and one byte over, alone in a line of
+/// each version. 002 "only widens" three of them: the form stays, and in between is 8.
+#[test]
+fn the_fields_that_differ() {
+    let mail = |length: usize| "m".repeat(length - 2) + "@m";
+    let text = |length: usize| "x".repeat(length);
+    let parcel = |number: usize, field: &str| {
+        let mut fields = [
+            "1000000000000000000007",
+            "",
+            "",
+            "C",
+            "",
+            "",
+            "",
+            "",
+            "",
+            "",
+            "",
+            "",
+        ];
+        fields[number - 1] = field;
+        format!("040;{}\r\n", fields.join(";"))
+    };
+    let feature = |code: &str, number: usize, field: &str| {
+        let iban = "AT611904300234573201";
+        let mut fields = [
+            code, "", "1.00", "EUR", "x", iban, "ABCDATWW", "", "a@b", "",
+        ];
+        fields[number - 1] = field;
+        format!("060;{}\r\n", fields.join(";"))
+    };
+    let verdict = |version: u32, line: &str| match read_line(version, line.as_bytes(), 0) {
+        Ok(_) => 0,
+        Err(refusal) => refusal.number,
+    };
+    let free = |line: &dyn Fn(usize) -> String, widths: [usize; 2]| {
+        for (version, width) in [5, 7].into_iter().zip(widths) {
+            for length in widths.into_iter().flat_map(|width| [width, width + 1]) {
+                let due = if length > width { 6 } else { 0 };
+                let line = line(length);
+                assert_eq!(verdict(version, &line), due, "{version} {line}");
+            }
+        }
+    };
+    let widths = [11, 40, 1, 40, 40, 9, 3, 100, 2, 1, 100];
+    for (number, width) in (2..).zip(widths) {
+        free(&|length| parcel(number, &text(length)), [64, width]);
+    }
+    free(&|length| format!("050;{}\r\n", text(length)), [20, 2]);
+    free(&|length| feature("004", 2, &text(length)), [64, 40]);
+    free(&|length| feature("006", 2, &text(length)), [35, 40]);
+    free(&|length| feature("022", 2, &text(length)), [35, 40]);
+    free(&|length| feature("006", 5, &text(length)), [64, 35]);
+    free(&|length| feature("006", 9, &mail(length)), [64, 40]);
+    let header = |mark: u32, name: &str, code: &str| {
+        format!(
+            "010;0012345678;{name};2021-02-23T13:37:50;2021-02-24T14:20:55;{code};{mark};;;;\r\n"
+        )
+    };
+    for (length, due) in [
+        (0, [7, 0]),
+        (40, [0, 0]),
+        (41, [6, 0]),
+        (80, [6, 0]),
+        (81, [6, 6]),
+    ] {
+        let lines = [5, 7].map(|mark| (mark, header(mark, &text(length), "1005")));
+        assert_eq!(lines.map(|(mark, line)| verdict(mark, &line)), due);
+    }
+    for (code, due) in [
+        ("", [7, 0]),
+        ("1005", [0, 0]),
+        ("10050", [6, 8]),
+        ("1005100510", [6, 8]),
+        ("10051005100", [6, 6]),
+        ("100", [8, 8]),
+    ] {
+        let lines = [5, 7].map(|mark| (mark, header(mark, "x", code)));
+        assert_eq!(lines.map(|(mark, line)| verdict(mark, &line)), due);
+    }
+    let both = |line: String| [5, 7].map(|version| verdict(version, &line));
+    for (length, due) in [(21, [8, 8]), (23, [6, 8]), (24, [6, 8]), (25, [6, 6])] {
+        assert_eq!(both(parcel(1, &"0".repeat(length))), due);
+    }
+    assert_eq!(both(parcel(1, &"0".repeat(22))), [0, 0]);
+    for (length, due) in [(34, [8, 8]), (35, [6, 8]), (40, [6, 8]), (41, [6, 6])] {
+        assert_eq!(both(feature("006", 6, &"A".repeat(length))), due);
+    }
+    // The set of characters stays, and so do the needs of a feature.
+    assert_eq!(both(feature("006", 2, "a&b")), [8, 8]);
+    assert_eq!(both(feature("004", 2, "a&b")), [0, 0]);
+    assert_eq!(both(feature("022", 5, "")), [9, 9]);
+    assert_eq!(both(parcel(4, "")), [0, 7]);
+    // A count is neither a width nor a duty.
+    assert_eq!(both("040;1000000000000000000007;;\r\n".to_string()), [0, 0]);
+    assert_eq!(
+        both("040;1000000000000000000007;;;\r\n".to_string()),
+        [0, 7]
+    );
+    assert_eq!(both("040;1000000000000000000007;\r\n".to_string()), [5, 5]);
+}
+
+/// Phone and mail "follow the lent country list in both"; the purpose of a file of version 7 is cut at
+/// 35 as well.
+#[test]
+fn contacts_and_purposes_in_version_7() {
+    let silent = marked("7", &[(";1;1;a@b;", ";1;;;")]);
+    assert_eq!(judged(&silent), totals(6, 1, 1250));
+    assert_eq!(judged_under(b"AT", &silent), no(19, 112));
+    assert_eq!(judged_under(b"ATD", &silent), no(20, 0));
+    let reference = "0123456789".repeat(4);
+    let parcel = format!("07;;{reference};C\r");
+    let file = marked("7", &[("07;;\r", &parcel)]);
+    let (mut list, mut out) = ([7; 6], [9; 40]);
+    let answer = purpose(file.as_bytes(), b"", 5, &mut list, &mut out);
+    assert_eq!(answer, Ok(35));
+    assert_eq!(out[..35], reference.as_bytes()[..35]);
+    assert_eq!(out[35..], [9; 5]);
+    let over = marked("7", &[("07;;\r", &format!("07;;{reference}x;C\r"))]);
+    let answer = purpose(over.as_bytes(), b"", 5, &mut list, &mut out);
+    assert_eq!(answer, no(6, 206));
 }

@@ -20,15 +20,15 @@ fn main() -> std::io::Result<()> {
     std::io::stdout().write_all(&answers(&input))
 }
 
-/// "record, fill, room, how many ends, the ends, each with a space behind it, and the text": a call a line. The answer, a space and
-/// the whole output, which was all points before.
+/// "version, record, fill, room, how many ends, the ends, each with a space behind it, and the text": a call a line. The answer, a space
+/// and the whole output, which was all points before.
 fn writings(input: &[u8]) -> Vec<u8> {
     let mut answers = Vec::new();
     for mut line in lines(input) {
-        let record = number(&mut line) as u32;
+        let [version, record] = [(); 2].map(|()| number(&mut line) as u32);
         let (fill, mut output) = (number(&mut line), vec![b'.'; number(&mut line)]);
         let ends: Vec<usize> = (0..number(&mut line)).map(|_| number(&mut line)).collect();
-        let answer = write_line(record, line, &ends, &mut output, fill);
+        let answer = write_line(version, record, line, &ends, &mut output, fill);
         answers.extend(said("written", answer).bytes());
         answers.extend([b" ", &output[..], b"\n"].concat());
     }

@@ -2,14 +2,18 @@
 //! carry.
 
 use super::countries::countries;
-use super::damage::{damage, file_case, Damage};
-use super::files::{take_apart, valid_file_of};
+use super::damage::{damage, damage_as, file_case, Damage};
+use super::files::{take_apart, valid_file_as, valid_file_of};
 use super::values::number_body;
+use super::versions::{told, version};
 use super::Rng;
+use crate::version::Version;
 
 /// A call of the line reader and, with the number, of the field finder.
 #[derive(Clone, Debug)]
 pub struct LineCall {
+    /// 5 or 7; any other number is refused.
+    pub version: u32,
     pub file: Vec<u8>,
     pub offset: usize,
     pub number: usize,
@@ -17,9 +21,11 @@ pub struct LineCall {
 
 /// Mostly a line that may be damaged, between others; sometimes anywhere in a file or past it.
 pub fn line_call(rng: &mut Rng) -> LineCall {
+    let mut version = version(rng);
     let (file, offset) = match rng.below(5) {
         0 => {
             let file = file_case(rng).file;
+            version = Version::of_file(&file);
             let offset = match rng.below(4) {
                 0 => file.len(),
                 1 => rng.pick(&[0, file.len() + 1, usize::MAX]),
@@ -28,10 +34,10 @@ pub fn line_call(rng: &mut Rng) -> LineCall {
             (file, offset)
         }
         _ => {
-            let mut lines = any_lines(rng);
+            let mut lines = any_lines(rng, version);
             let index = any_index(rng, &lines);
             let damages = rng.below(3);
-            damage_line(rng, &mut lines[index], damages);
+            damage_line(rng, version, &mut lines[index], damages);
             (lines.concat(), lines[..index].concat().len())
         }
     };
@@ -43,6 +49,7 @@ pub fn line_call(rng: &mut Rng) -> LineCall {
         _ => rng.between(1, 41),
     };
     LineCall {
+        version: told(rng, version),
         file,
         offset,
         number,
@@ -50,9 +57,9 @@ pub fn line_call(rng: &mut Rng) -> LineCall {
 }
 
 /// The lines of a short accepted file, each with its CR LF.
-fn any_lines(rng: &mut Rng) -> Vec<Vec<u8>> {
+fn any_lines(rng: &mut Rng, version: Version) -> Vec<Vec<u8>> {
     let lines = rng.pick(&[5, 12]);
-    let mut lines = take_apart(&valid_file_of(rng, lines));
+    let mut lines = take_apart(&valid_file_as(version, rng, lines));
     lines.pop(); // what follows the last CR LF: nothing
     lines
         .iter()
@@ -70,7 +77,7 @@ fn any_index(rng: &mut Rng, lines: &[Vec<u8>]) -> usize {
 }
 
 /// Damages one line so many times, in ways that can stay within it.
-fn damage_line(rng: &mut Rng, line: &mut Vec<u8>, times: usize) {
+fn damage_line(rng: &mut Rng, version: Version, line: &mut Vec<u8>, times: usize) {
     const DAMAGES: &[Damage] = &[
         Damage::FlipByte,
         Damage::InsertByte,
@@ -80,6 +87,7 @@ fn damage_line(rng: &mut Rng, line: &mut Vec<u8>, times: usize) {
         Damage::DropField,
         Damage::ToWidth,
         Damage::PastWidth,
+        Damage::OtherWidth,
         Damage::EmptyRequired,
         Damage::EmptyNeeded,
         Damage::Spaces,
@@ -92,16 +100,19 @@ fn damage_line(rng: &mut Rng, line: &mut Vec<u8>, times: usize) {
         Damage::Feature,
         Damage::RecordType,
         Damage::Form,
+        Damage::Header,
     ];
     for _ in 0..times {
         let kind = rng.pick(DAMAGES);
-        damage(kind, rng, line);
+        damage_as(version, kind, rng, line);
     }
 }
 
 /// A call of the writer: what is lent is an output of so many bytes.
 #[derive(Clone, Debug)]
 pub struct WriterCall {
+    /// 5 or 7; any other number is refused.
+    pub version: u32,
     pub record: u32,
     pub text: Vec<u8>,
     pub ends: Vec<usize>,
@@ -111,7 +122,7 @@ pub struct WriterCall {
 
 impl WriterCall {
     /// A call for these fields whose output just takes the line.
-    pub fn new(record: u32, fields: &[Vec<u8>]) -> WriterCall {
+    pub fn new(version: u32, record: u32, fields: &[Vec<u8>]) -> WriterCall {
         let text = fields.concat();
         let ends = fields
             .iter()
@@ -121,6 +132,7 @@ impl WriterCall {
             })
             .collect();
         WriterCall {
+            version,
             record,
             output: 3 + fields.len() + text.len() + 2,
             text,
@@ -143,11 +155,13 @@ pub fn writer_call(rng: &mut Rng) -> WriterCall {
     for _ in 0..rng.pick(&[0, 0, 1, 1, 1, 2, 3]) {
         damage_writer_call(rng, &mut call);
     }
+    call.version = told(rng, Version::told(call.version).expect("it was drawn"));
     call
 }
 
 fn call_for_line(rng: &mut Rng, damages: usize) -> WriterCall {
-    let mut lines = any_lines(rng);
+    let version = version(rng);
+    let mut lines = any_lines(rng, version);
     let index = any_index(rng, &lines);
     let line = &mut lines[index];
     let record = match &line[..3] {
@@ -158,8 +172,8 @@ fn call_for_line(rng: &mut Rng, damages: usize) -> WriterCall {
         b"050" => 50,
         _ => 60,
     };
-    damage_line(rng, line, damages);
-    let mut call = WriterCall::new(record, &take_apart(line)[0][1..]);
+    damage_line(rng, version, line, damages);
+    let mut call = WriterCall::new(version.number(), record, &take_apart(line)[0][1..]);
     if rng.percent(70) {
         call.fill = rng.below(100);
         call.output += call.fill + rng.pick(&[0, 1, 50]);

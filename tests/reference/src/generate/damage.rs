@@ -2,9 +2,12 @@
 
 use super::countries::{countries, under};
 use super::files::{put_together, take_apart, valid_file, Lines};
-use super::values::{barred_iban, boundary_values, damaged_iban, text, Style};
+use super::values::{
+    barred_iban, boundary_values, damaged_iban, may_have_form, text, Style, VERSIONS, VERSIONS_5,
+};
 use super::{Outcome, Rng};
 use crate::profile::{is_cash, Record, FEATURES, LIMIT};
+use crate::version::Version;
 
 /// One way to damage a file.
 #[derive(Clone, Copy, Debug, PartialEq, Eq, Hash)]
@@ -22,6 +25,8 @@ pub enum Damage {
     ToWidth,
     /// Lengthens a field to its width and one byte.
     PastWidth,
+    /// Lengthens a field whose width is not the same in both versions around one of the two.
+    OtherWidth,
     EmptyRequired,
     /// Empties a field of a 060 line that its feature may need.
     EmptyNeeded,
@@ -56,12 +61,14 @@ pub enum Damage {
     RecordType,
     /// Puts a boundary value for any field that has a form.
     Form,
+    /// Puts the other version or none on the header.
+    Header,
 }
 
 use Damage::*;
 
 impl Damage {
-    pub const ALL: [Damage; 30] = [
+    pub const ALL: [Damage; 32] = [
         FlipByte,
         InsertByte,
         DeleteByte,
@@ -73,6 +80,7 @@ impl Damage {
         DropField,
         ToWidth,
         PastWidth,
+        OtherWidth,
         EmptyRequired,
         EmptyNeeded,
         Spaces,
@@ -92,6 +100,7 @@ impl Damage {
         Feature,
         RecordType,
         Form,
+        Header,
     ];
 }
 
@@ -166,10 +175,24 @@ fn line_starts(file: &[u8]) -> Vec<usize> {
 /// a list that is long enough and no countries. A damage that finds nothing to damage leaves the
 /// file as it was.
 pub fn damage(kind: Damage, rng: &mut Rng, file: &mut Vec<u8>) -> Outcome {
+    let version = version_of(&take_apart(file)[0]);
+    damage_as(version, kind, rng, file)
+}
+
+/// The version on a header.
+fn version_of(header: &[Vec<u8>]) -> Version {
+    match header.first().zip(header.get(6)) {
+        Some((name, mark)) if name == b"010" && mark == b"7" => Version::V7,
+        _ => Version::V5,
+    }
+}
+
+/// The same of lines of this version, which need have no header.
+pub fn damage_as(version: Version, kind: Damage, rng: &mut Rng, file: &mut Vec<u8>) -> Outcome {
     match kind {
         FlipByte | InsertByte | DeleteByte | Truncate => damage_bytes(kind, rng, file),
-        GrowToLimit => grow(rng, file, LIMIT),
-        GrowPastLimit => grow(rng, file, LIMIT + 1),
+        GrowToLimit => grow(version, rng, file, LIMIT),
+        GrowPastLimit => grow(version, rng, file, LIMIT + 1),
         PadToLimit => pad(rng, file, LIMIT),
         PadPastLimit => pad(rng, file, LIMIT + 1),
         BreakLineEnd => break_line_end(rng, file),
@@ -178,7 +201,7 @@ pub fn damage(kind: Damage, rng: &mut Rng, file: &mut Vec<u8>) -> Outcome {
             if lines.len() == 1 {
                 return Outcome::Unknown;
             }
-            let outcome = damage_lines(kind, rng, &mut lines);
+            let outcome = damage_lines(version, kind, rng, &mut lines);
             *file = put_together(&lines);
             outcome
         }
@@ -199,9 +222,10 @@ fn damage_bytes(kind: Damage, rng: &mut Rng, file: &mut Vec<u8>) -> Outcome {
 }
 
 /// Adds 060 lines to an exact length, which is possible from 18 bytes of room on.
-fn grow(rng: &mut Rng, file: &mut Vec<u8>, length: usize) -> Outcome {
+fn grow(version: Version, rng: &mut Rng, file: &mut Vec<u8>, length: usize) -> Outcome {
     const SHORTEST: usize = 18;
-    const LONGEST: usize = SHORTEST + 64 + 64 + 35 + 40;
+    let widths = [2, 5, 8, 10].map(|number| Record::R060.widths(version)[number - 1]);
+    let longest = SHORTEST + widths.iter().sum::<usize>();
     let shortest_only = rng.percent(30);
     if file.len() + SHORTEST > length {
         return Outcome::Unknown;
@@ -209,17 +233,16 @@ fn grow(rng: &mut Rng, file: &mut Vec<u8>, length: usize) -> Outcome {
     while file.len() < length {
         let room = length - file.len();
         let size = match room {
-            _ if room <= LONGEST => room,
+            _ if room <= longest => room,
             _ if shortest_only => SHORTEST,
-            _ => rng.between(SHORTEST, LONGEST.min(room - SHORTEST)),
+            _ => rng.between(SHORTEST, longest.min(room - SHORTEST)),
         };
         let mut extra = size - SHORTEST;
-        let mut filler = |width: usize| {
+        let [second, fifth, eighth, tenth] = widths.map(|width| {
             let length = extra.min(width);
             extra -= length;
             "x".repeat(length)
-        };
-        let (second, fifth, eighth, tenth) = (filler(64), filler(64), filler(35), filler(40));
+        });
         file.extend(format!("060;004;{second};;;{fifth};;;{eighth};;{tenth}\r\n").bytes());
     }
     match length {
@@ -273,7 +296,7 @@ fn break_line_end(rng: &mut Rng, file: &mut Vec<u8>) -> Outcome {
 }
 
 /// Damage by lines and fields; the last of the lines, the rest behind the last CR LF, is left.
-fn damage_lines(kind: Damage, rng: &mut Rng, lines: &mut Lines) -> Outcome {
+fn damage_lines(version: Version, kind: Damage, rng: &mut Rng, lines: &mut Lines) -> Outcome {
     let count = lines.len() - 1;
     let line = rng.below(count);
     let other = rng.below(count);
@@ -302,7 +325,8 @@ fn damage_lines(kind: Damage, rng: &mut Rng, lines: &mut Lines) -> Outcome {
         }
         RepeatNear | RepeatFar => return repeat_identcode(kind, lines),
         RecordType => change_record_type(rng, &mut lines[line][0]),
-        _ => return damage_field(kind, rng, lines, line),
+        Header => return change_version(version, rng, lines),
+        _ => return damage_field(version, kind, rng, lines, line),
     }
     Outcome::Unknown
 }
@@ -334,12 +358,39 @@ fn change_record_type(rng: &mut Rng, name: &mut Vec<u8>) {
     *name = rng.pick(NAMES).to_vec();
 }
 
+/// Puts another version on the header, if there is one. What was a file of version 5 is still one
+/// where that is none: 8 at the field, or 6.
+fn change_version(version: Version, rng: &mut Rng, lines: &mut Lines) -> Outcome {
+    if lines[0][0] != b"010" || lines[0].len() != 11 {
+        return Outcome::Unknown;
+    }
+    let (mark, verdict) = match rng.below(10) {
+        0..=2 => VERSIONS_5[0],
+        3..=5 => VERSIONS_5[1],
+        6 => (&b""[..], 7),
+        _ => rng.pick(VERSIONS),
+    };
+    lines[0][6] = mark.to_vec();
+    match (version, mark) {
+        (Version::V5, b"5") | (Version::V7, b"7") => Outcome::Accepted,
+        (Version::V5, b"7") | (Version::V7, _) => Outcome::Unknown,
+        _ => Outcome::refused(verdict, start_of(lines, 0, 6)),
+    }
+}
+
 /// Damage to one field of a line, or of another line where this one has no such field.
-fn damage_field(kind: Damage, rng: &mut Rng, lines: &mut Lines, line: usize) -> Outcome {
+fn damage_field(
+    version: Version,
+    kind: Damage,
+    rng: &mut Rng,
+    lines: &mut Lines,
+    line: usize,
+) -> Outcome {
     let wanted: &[&[u8]] = match kind {
         Amount | Iban | Feature | EmptyNeeded => &[b"060"],
         DateTime => &[b"010"],
         Identcode => &[b"040"],
+        OtherWidth => &[b"010", b"040", b"050", b"060"],
         Form => &[b"010", b"020", b"030", b"040", b"060"],
         _ => &[b"010", b"020", b"030", b"040", b"050", b"060"],
     };
@@ -360,17 +411,29 @@ fn damage_field(kind: Damage, rng: &mut Rng, lines: &mut Lines, line: usize) -> 
         Feature | Identcode => 1,
         DateTime => rng.between(3, 4),
         EmptyNeeded => rng.pick(&[3, 4, 5, 6, 7, 9, 10]),
-        EmptyRequired => rng.pick(record.required()),
+        // A parcel may lack 040.4 in version 7, though that must be filled where it stands.
+        EmptyRequired => loop {
+            let number = rng.pick(record.required(version));
+            if number <= fields {
+                break number;
+            }
+        },
         Form => with_form(rng, record, fields),
+        OtherWidth => match other_width(rng, record, fields) {
+            Some(number) => number,
+            None => return Outcome::Unknown,
+        },
         _ => rng.between(1, fields),
     };
-    let width = match (record, number) {
-        (Record::R060, 2) if is_cash(&lines[line][1]) => 35,
-        _ => record.widths()[number - 1],
+    let width = |version: Version| match (record, number) {
+        (Record::R060, 2) if is_cash(&lines[line][1]) && version == Version::V5 => 35,
+        _ => record.widths(version)[number - 1],
     };
+    let widths = Version::ALL.map(width);
+    let width = width(version);
     let start = start_of(lines, line, number);
     let field = &mut lines[line][number];
-    match kind {
+    let outcome = match kind {
         EmptyRequired => {
             field.clear();
             Outcome::refused(7, start)
@@ -385,16 +448,25 @@ fn damage_field(kind: Damage, rng: &mut Rng, lines: &mut Lines, line: usize) -> 
         }
         ToWidth => {
             lengthen(rng, field, width);
-            match boundary_values(record.number(), number) {
-                [] => Outcome::Accepted,
-                _ => Outcome::Unknown,
+            match may_have_form(record.number(), number) {
+                false => Outcome::Accepted,
+                true => Outcome::Unknown,
+            }
+        }
+        OtherWidth => {
+            let length = rng.pick(&widths) + rng.below(2);
+            lengthen(rng, field, length);
+            match may_have_form(record.number(), number) {
+                _ if length > width => Outcome::refused(6, start),
+                false => Outcome::Accepted,
+                true => Outcome::Unknown,
             }
         }
         Spaces => {
             *field = vec![b' '; rng.between(1, width)];
-            match boundary_values(record.number(), number) {
-                [] => Outcome::Accepted,
-                _ => Outcome::Unknown,
+            match may_have_form(record.number(), number) {
+                false => Outcome::Accepted,
+                true => Outcome::Unknown,
             }
         }
         Iban if rng.percent(50) => {
@@ -411,12 +483,12 @@ fn damage_field(kind: Damage, rng: &mut Rng, lines: &mut Lines, line: usize) -> 
         Feature => {
             *field = match rng.percent(70) {
                 true => rng.pick(&FEATURES).to_vec(),
-                false => rng.pick(boundary_values(60, 1)).0.to_vec(),
+                false => rng.pick(&boundary_values(version, 60, 1)).0.to_vec(),
             };
             Outcome::Unknown
         }
         Amount | DateTime | Iban => {
-            let (value, verdict) = rng.pick(boundary_values(record.number(), number));
+            let (value, verdict) = rng.pick(&boundary_values(version, record.number(), number));
             *field = value.to_vec();
             match verdict {
                 0 => Outcome::Accepted,
@@ -425,12 +497,15 @@ fn damage_field(kind: Damage, rng: &mut Rng, lines: &mut Lines, line: usize) -> 
         }
         // Any field with a form: what stands beside it may settle the answer.
         _ => {
-            *field = rng
-                .pick(boundary_values(record.number(), number))
-                .0
-                .to_vec();
+            let values = boundary_values(version, record.number(), number);
+            *field = rng.pick(&values).0.to_vec();
             Outcome::Unknown
         }
+    };
+    match (record, number, version) {
+        // What was a file of version 7 is judged as one of version 5 from here on.
+        (Record::R010, 6, Version::V7) if *field != b"7" => Outcome::Unknown,
+        _ => outcome,
     }
 }
 
@@ -463,9 +538,18 @@ fn damage_identcode(rng: &mut Rng, code: &mut [u8]) -> Option<u32> {
 /// The number of a field with boundary values, among the first so many.
 fn with_form(rng: &mut Rng, record: Record, fields: usize) -> usize {
     let formed: Vec<usize> = (1..=fields)
-        .filter(|number| !boundary_values(record.number(), *number).is_empty())
+        .filter(|number| may_have_form(record.number(), *number))
         .collect();
     rng.pick(&formed)
+}
+
+/// The number of a field whose width depends on the version, among the first so many.
+fn other_width(rng: &mut Rng, record: Record, fields: usize) -> Option<usize> {
+    let [one, other] = Version::ALL.map(|version| record.widths(version));
+    let numbers: Vec<usize> = (1..=fields)
+        .filter(|number| one[number - 1] != other[number - 1])
+        .collect();
+    (!numbers.is_empty()).then(|| rng.pick(&numbers))
 }
 
 /// Lengthens a field with more of its last byte, so that digits stay digits.

@@ -1,14 +1,17 @@
 //! Each field's rule at its boundaries, for every record and field number.
 
 use super::calls::WriterCall;
-use super::values::boundary_values;
+use super::values::{boundary_values, may_have_form};
 use super::Outcome;
 use crate::profile::{is_text, Record, FEATURES};
+use crate::version::Version;
 
 /// A line in which one field has a telling content, with what reading the line at offset 0 and
 /// writing its fields must answer.
 #[derive(Clone, Debug)]
 pub struct FieldCase {
+    /// The version that both calls are told.
+    pub version: u32,
     /// 10 for 010, up to 60.
     pub record: u32,
     /// The field with the telling content.
@@ -32,15 +35,21 @@ impl FieldCase {
 
     /// The same fields for the writer, with an output that just takes the line.
     pub fn writer_call(&self) -> WriterCall {
-        WriterCall::new(self.record, &self.fields)
+        WriterCall::new(self.version, self.record, &self.fields)
     }
 }
 
-/// All cases, in the order of records and fields.
+/// All cases, by version and in the order of records and fields.
 pub fn field_cases() -> Vec<FieldCase> {
     let mut cases = Vec::new();
-    for (record, line) in base_lines() {
+    let versions = Version::ALL.into_iter();
+    for (version, (record, line)) in versions.flat_map(|version| {
+        base_lines(version)
+            .into_iter()
+            .map(move |base| (version, base))
+    }) {
         let base = Base {
+            version,
             record,
             fields: line.split(';').map(|part| part.into()).collect(),
         };
@@ -53,13 +62,15 @@ pub fn field_cases() -> Vec<FieldCase> {
     cases
 }
 
-/// Lines that are accepted, written without their type, with different things beside each field.
-fn base_lines() -> Vec<(Record, String)> {
+/// Lines that are accepted in this version, written without their type, with different things beside
+/// each field.
+fn base_lines(version: Version) -> Vec<(Record, String)> {
+    let mark = version.number();
     let cash = "Ref;12.50;EUR;Muster;AT611904300234573201;ABCDATWW;Zweck;a@b;x";
     let mut lines = vec![
         (
             Record::R010,
-            "0012345678;Muster;2021-02-23T13:37:50;2021-02-24T14:20:55;1005;5;;;;".into(),
+            format!("0012345678;Muster;2021-02-23T13:37:50;2021-02-24T14:20:55;1005;{mark};;;;"),
         ),
         (Record::R020, "A;;;;AT;1010;Wien;;Gasse;;1;1;a@b;;;".into()),
         (Record::R020, "A;;;;DE;1010;Bonn;;Gasse;;1;1;a@b;;;".into()),
@@ -80,6 +91,7 @@ fn base_lines() -> Vec<(Record, String)> {
             Record::R040,
             "1000000000000000000007".to_string() + &";x".repeat(23),
         ),
+        (Record::R040, "1000000000000000000007;;;C".into()),
         (Record::R050, "10".into()),
         (Record::R050, "10".to_string() + &";x".repeat(23)),
         (Record::R060, "054;;;;;;;;a@b;".into()),
@@ -93,6 +105,7 @@ fn base_lines() -> Vec<(Record, String)> {
 }
 
 struct Base {
+    version: Version,
     record: Record,
     fields: Vec<Vec<u8>>,
 }
@@ -102,6 +115,7 @@ impl Base {
         let mut fields = self.fields.clone();
         fields[number - 1] = content.to_vec();
         FieldCase {
+            version: self.version.number(),
             record: self.record.number(),
             number,
             fields,
@@ -129,14 +143,21 @@ impl Base {
         4 + before.iter().map(|field| field.len() + 1).sum::<usize>()
     }
 
+    fn other(&self) -> Version {
+        match self.version {
+            Version::V5 => Version::V7,
+            Version::V7 => Version::V5,
+        }
+    }
+
     fn is_cash(&self) -> bool {
         self.record == Record::R060 && matches!(&self.fields[0][..], b"006" | b"022")
     }
 
     fn width(&self, number: usize) -> usize {
-        match (self.is_cash(), number) {
-            (true, 2) => 35,
-            _ => self.record.widths()[number - 1],
+        match (self.version, self.is_cash(), number) {
+            (Version::V5, true, 2) => 35,
+            _ => self.record.widths(self.version)[number - 1],
         }
     }
 
@@ -145,13 +166,13 @@ impl Base {
         match (self.record, number) {
             (Record::R020, 6) | (Record::R030, 8 | 21) => self.fields[number - 2] == b"AT",
             (Record::R060, 2) => self.is_cash(),
-            _ => !boundary_values(self.record.number(), number).is_empty(),
+            _ => may_have_form(self.record.number(), number),
         }
     }
 
     /// What an empty content brings: 7, 9 or nothing.
     fn verdict_when_empty(&self, number: usize) -> u32 {
-        if self.record.required().contains(&number) {
+        if self.record.required(self.version).contains(&number) {
             return 7;
         }
         if self.record != Record::R060 {
@@ -176,7 +197,14 @@ impl Base {
     fn lengths(&self, number: usize, cases: &mut Vec<FieldCase>) {
         let width = self.width(number);
         cases.push(self.judged(number, b"", self.verdict_when_empty(number)));
-        for length in [1, width - 1, width, width + 1, width + 100] {
+        let mut lengths = vec![1, width - 1, width, width + 1, width + 100];
+        // Around the other version's width.
+        let other = self.record.widths(self.other())[number - 1];
+        lengths.extend([other - 1, other, other + 1]);
+        lengths.retain(|length| *length > 0);
+        lengths.sort();
+        lengths.dedup();
+        for length in lengths {
             for byte in [b'x', b'A', b'0', b'1', b' ', 160, 255] {
                 let content = vec![byte; length];
                 let case = match (length > width, self.has_form(number)) {
@@ -213,9 +241,9 @@ impl Base {
     /// The boundary values of the field's form; where the form does not hold here, only the width
     /// counts.
     fn values(&self, number: usize, cases: &mut Vec<FieldCase>) {
-        for (value, verdict) in boundary_values(self.record.number(), number) {
+        for (value, verdict) in boundary_values(self.version, self.record.number(), number) {
             let here = match self.has_form(number) {
-                true => *verdict,
+                true => verdict,
                 false if value.len() > self.width(number) => 6,
                 false => 0,
             };

@@ -3,8 +3,10 @@
 use std::collections::HashSet;
 
 use super::values::*;
+use super::versions::version;
 use super::Rng;
 use crate::profile::{Record, LIMIT};
+use crate::version::Version;
 
 /// A file as lines of parts, the record type first; the last line is what follows the last CR LF.
 pub type Lines = Vec<Vec<Vec<u8>>>;
@@ -49,9 +51,17 @@ pub fn valid_file(rng: &mut Rng) -> Vec<u8> {
     valid_file_of(rng, lines)
 }
 
-/// Such a file of about so many lines, five at least, fewer where the limit stops it.
+/// Such a file of about so many lines, five at least, fewer where the limit stops it; of either
+/// version.
 pub fn valid_file_of(rng: &mut Rng, lines: usize) -> Vec<u8> {
+    let version = version(rng);
+    valid_file_as(version, rng, lines)
+}
+
+/// Such a file of this version.
+pub fn valid_file_as(version: Version, rng: &mut Rng, lines: usize) -> Vec<u8> {
     let mut maker = Maker {
+        version,
         style: Style::any(rng),
         identcodes: HashSet::new(),
         latest: None,
@@ -88,6 +98,7 @@ pub fn valid_file_of(rng: &mut Rng, lines: usize) -> Vec<u8> {
 }
 
 struct Maker {
+    version: Version,
     style: Style,
     identcodes: HashSet<Vec<u8>>,
     latest: Option<Vec<u8>>,
@@ -120,20 +131,24 @@ impl Maker {
 
     /// A line that is accepted by itself: the record type, then its fields.
     fn line(&mut self, rng: &mut Rng, record: Record) -> Vec<Vec<u8>> {
-        let most = record.widths().len();
+        let most = record.widths(self.version).len();
         let least = match record {
             Record::R040 => 3,
             Record::R050 => 1,
             _ => most,
         };
-        let count = match rng.below(4) {
-            0 => rng.between(least, most),
-            1 => most,
+        let count = match rng.below(8) {
+            0..=1 => rng.between(least, most),
+            2 => most,
+            // A parcel with its type, or with all fields that 002 has.
+            3 if record == Record::R040 => rng.pick(&[4, 12]),
+            3 => most,
             _ => least,
         };
         let mut line = vec![record.type_name().to_vec()];
         for number in 1..=count {
-            let needed = record.required().contains(&number) || self.is_needed(&line, number);
+            let needed =
+                record.required(self.version).contains(&number) || self.is_needed(&line, number);
             let field = match needed || rng.percent(self.share(record, number)) {
                 true => self.field(rng, record, number, &line),
                 false => Vec::new(),
@@ -169,12 +184,12 @@ impl Maker {
     /// A filled field that holds, behind the parts of the line before it.
     fn field(&mut self, rng: &mut Rng, record: Record, number: usize, line: &[Vec<u8>]) -> Vec<u8> {
         let style = self.style;
-        let width = record.widths()[number - 1];
+        let width = record.widths(self.version)[number - 1];
         match (record.number(), number) {
             (10, 1) => [b"00".to_vec(), rng.digits(8)].concat(),
             (10, 3 | 4) => date_time(rng),
             (10, 5) => rng.digits(4),
-            (10, 6) => b"5".to_vec(),
+            (10, 6) => self.version.mark().to_vec(),
             (20, 5) | (30, 7 | 20) => country(rng),
             (20, 6) | (30, 8 | 21) => post_code(rng, style, &line[number - 1]),
             (20, 12 | 13) if rng.percent(20) => vec![b' '; rng.between(1, width)],
@@ -182,13 +197,16 @@ impl Maker {
             (30, 39) => Vec::new(),
             (40, 1) => self.identcode(rng),
             (60, 1) => feature(rng),
-            (60, 2) if line[1] == b"006" || line[1] == b"022" => transfer_text(rng, style, 35),
+            (60, 2) if line[1] == b"006" || line[1] == b"022" => match self.version {
+                Version::V5 => transfer_text(rng, style, 35),
+                Version::V7 => transfer_text(rng, style, width),
+            },
             (60, 3) => amount(rng),
             (60, 4) => currency(rng),
             (60, 6) => valid_iban(rng),
             (60, 7) => bic(rng),
             (60, 8) => transfer_text(rng, style, width),
-            (60, 9) => email(rng, style),
+            (60, 9) => email(rng, style, width),
             _ => text(rng, style, width),
         }
     }

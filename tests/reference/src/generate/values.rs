@@ -5,6 +5,7 @@ use super::Rng;
 use crate::identcode::check_digit;
 use crate::numbers::{issue_number, remainder_by_97};
 use crate::profile::FEATURES;
+use crate::version::Version::{self, V5, V7};
 
 /// A value and its verdict.
 pub type Value = (&'static [u8], u32);
@@ -86,24 +87,45 @@ pub const FOUR_DIGITS: &[Value] = &[
     (b"100a", 8),
     (b"1 05", 8),
     (b"    ", 8),
-    (b"10000", 6),
+    (b"10000000000", 6),
+];
+/// and by version: the width is 4 and 10
+pub const FOUR_DIGITS_5: &[Value] = &[(b"10000", 6), (b"1000000000", 6)];
+pub const FOUR_DIGITS_7: &[Value] = &[
+    (b"10000", 8),
+    (b"1005 ", 8),
+    (b"1000000000", 8),
+    (b"          ", 8),
 ];
 
 /// 010.6
 pub const VERSIONS: &[Value] = &[
-    (b"5", 0),
     (b"4", 8),
     (b"6", 8),
-    (b"7", 8),
+    (b"8", 8),
     (b"05", 8),
     (b"55", 8),
+    (b"57", 8),
     (b"5 ", 8),
     (b" 5", 8),
     (b"5.0", 8),
+    (b"07", 8),
+    (b"75", 8),
+    (b"77", 8),
+    (b"7 ", 8),
+    (b" 7", 8),
+    (b"7.0", 8),
+    (b"V", 8),
+    (b"\xB7", 8),
     (b" ", 8),
     (b"5555555555", 8),
     (b"55555555555", 6),
+    (b"7777777777", 8),
+    (b"77777777777", 6),
 ];
+/// and by version: it must be the version
+pub const VERSIONS_5: &[Value] = &[(b"5", 0), (b"7", 8)];
+pub const VERSIONS_7: &[Value] = &[(b"7", 0), (b"5", 8)];
 
 /// 020.5, 030.7 and 030.20, beside a post code of four digits
 pub const COUNTRIES: &[Value] = &[
@@ -179,7 +201,6 @@ pub const IDENTCODES: &[Value] = &[
     // The remainder 0, which gives 0 and not 10.
     (b"1700000000000000000000", 0),
     (b"1700000000000000000001", 8),
-    (b"17000000000000000000010", 6),
     // Other check digits: the next ones, the remainder itself, and that of weights 1, 3, 1, 3.
     (b"1000000000000000000006", 8),
     (b"1000000000000000000008", 8),
@@ -206,7 +227,21 @@ pub const IDENTCODES: &[Value] = &[
     (b"10000000000:0000000007", 8),
     (b"100000000000000000000:", 8),
     (b"                      ", 8),
+    (b"1000000000000000000000007", 6),
+];
+/// and by version: the width is 22 and 24
+pub const IDENTCODES_5: &[Value] = &[
+    (b"17000000000000000000010", 6),
     (b"10000000000000000000007", 6),
+    (b"100000000000000000000007", 6),
+];
+pub const IDENTCODES_7: &[Value] = &[
+    (b"17000000000000000000010", 8),
+    (b"10000000000000000000007", 8),
+    (b"01000000000000000000007", 8),
+    (b"1000000000000000000007 ", 8),
+    (b"100000000000000000000007", 8),
+    (b"                        ", 8),
 ];
 
 /// 060.1 (the codes that hold are in the profile)
@@ -306,8 +341,18 @@ pub const IBANS: &[Value] = &[
     (b"NO938601111794", 8),
     (b"X", 8),
     (b"              ", 8),
+    (b"AT61190430023457320111111111111111111111111", 6),
+];
+/// and by version: the width is 34 and 40
+pub const IBANS_5: &[Value] = &[
     (b"AT6119043002345732011111111111111111", 6),
     (b"AT611904300234573201               ", 6),
+];
+pub const IBANS_7: &[Value] = &[
+    (b"AT6119043002345732011111111111111111", 8),
+    (b"AT611904300234573201               ", 8),
+    (b"AT61190430023457320111111111111111111111", 8),
+    (b"AT611904300234573201                    ", 8),
 ];
 
 /// 060.7
@@ -331,13 +376,23 @@ pub const TRANSFER_TEXTS: &[Value] = &[
     (b"azAZ09.,:'+-/()? ", 0),
     (b" ", 0),
     (b"12345678901234567890123456789012345", 0),
-    (b"123456789012345678901234567890123456", 6),
+    (b"12345678901234567890123456789012345678901", 6),
     (b"a&b", 8),
     (b"a@b", 8),
     (b"a_b", 8),
     (b"a\"b", 8),
     (b"M\xFCller", 8),
     (b"a*b", 8),
+];
+/// and by width: 35, and 40 of 060.2 in version 7
+pub const TRANSFER_TEXTS_35: &[Value] = &[
+    (b"123456789012345678901234567890123456", 6),
+    (b"1234567890123456789012345678901234567890", 6),
+];
+pub const TRANSFER_TEXTS_40: &[Value] = &[
+    (b"123456789012345678901234567890123456", 0),
+    (b"1234567890123456789012345678901234567890", 0),
+    (b"123456789012345678901234567890123456&", 8),
 ];
 
 /// 060.9
@@ -357,8 +412,31 @@ pub const EMAILS: &[Value] = &[
     (b" ", 8),
 ];
 
-/// The boundary values of a field that has a form, by record number and field number.
-pub fn boundary_values(record: u32, number: usize) -> &'static [Value] {
+/// The boundary values of a field that has a form, by record number and field number: those of both
+/// versions, and those of this one.
+pub fn boundary_values(version: Version, record: u32, number: usize) -> Vec<Value> {
+    let own = match (version, record, number) {
+        (V5, 10, 5) => FOUR_DIGITS_5,
+        (V7, 10, 5) => FOUR_DIGITS_7,
+        (V5, 10, 6) => VERSIONS_5,
+        (V7, 10, 6) => VERSIONS_7,
+        (V5, 40, 1) => IDENTCODES_5,
+        (V7, 40, 1) => IDENTCODES_7,
+        (V7, 60, 2) => TRANSFER_TEXTS_40,
+        (_, 60, 2 | 8) => TRANSFER_TEXTS_35,
+        (V5, 60, 6) => IBANS_5,
+        (V7, 60, 6) => IBANS_7,
+        _ => &[],
+    };
+    [common_values(record, number), own].concat()
+}
+
+/// Whether a field has a form, at least beside some other field.
+pub fn may_have_form(record: u32, number: usize) -> bool {
+    !common_values(record, number).is_empty()
+}
+
+fn common_values(record: u32, number: usize) -> &'static [Value] {
     match (record, number) {
         (10, 1) => CUSTOMERS,
         (10, 3 | 4) => DATES,
@@ -445,8 +523,8 @@ pub fn transfer_text(rng: &mut Rng, style: Style, width: usize) -> Vec<u8> {
     (0..length).map(|_| rng.pick(ALLOWED)).collect()
 }
 
-pub fn email(rng: &mut Rng, style: Style) -> Vec<u8> {
-    let mut email = text(rng, style, 62);
+pub fn email(rng: &mut Rng, style: Style, width: usize) -> Vec<u8> {
+    let mut email = text(rng, style, width - 1);
     email.retain(|byte| *byte != b'@');
     if email.len() < 2 {
         email = b"ab".to_vec();
