@@ -9,7 +9,6 @@ mod version;
 mod whole;
 
 pub use list::clear;
-pub use list::offset_of;
 pub use whole::FileAnswer;
 pub use whole::Totals;
 pub use whole::judge;

@@ -1,6 +1,6 @@
 // The lent list of line offsets.
 ghost use mathlib.Core.Path.{_≡_};
-ghost use lib.ListN.{length, replicate, getD};
+ghost use lib.ListN.{length, replicate};
 
 // Clears the list.
 pub fn clear(list: &mut [u32])
@@ -11,20 +11,4 @@ pub fn clear(list: &mut [u32])
         list[i] = 0;
         i += 1;
     }
-}
-
-// Where the line with this number starts; 0 where the list has no such line.
-pub fn offset_of(starts: &[u32], number: usize) -> usize
-    ensures { λ r. ⌜ r ≡ getD (now (starts .entry)) number 0 ⌝ }
-{
-    if starts.len() <= number {
-        return 0;
-    }
-    wide(starts[number])
-}
-
-fn wide(word: u32) -> usize
-    ensures { λ r. ⌜ r ≡ word ⌝ }
-{
-    word as usize
 }

@@ -1,5 +1,4 @@
 // One line of a file, judged where it starts, and one field of it found.
-mod at;
 mod find;
 mod need;
 mod part;
@@ -7,9 +6,6 @@ mod read;
 mod scan;
 mod walk;
 
-pub use at::field_at;
-pub use at::is_filled_at;
-pub use at::is_typed;
 pub use find::FieldAnswer;
 pub use find::find_field;
 pub use need::is_filled;
@@ -21,6 +17,5 @@ pub use read::judge_line;
 pub use read::read_line;
 pub use scan::FILE_LIMIT;
 pub use scan::TextAnswer;
-pub use scan::find_text;
 pub use scan::text_at;
 pub use walk::Walk;

@@ -6,8 +6,8 @@ ghost use lib.ListN.{length, take};
 ghost use Rattle.text.specs.Placed.{written};
 ghost use Rattle.text.specs.Quoted.{bytes};
 ghost use Rattle.purpose.specs.Purpose.{purposeLong, sourceText, cut};
+use crate::at::field_at;
 use crate::source::Source;
-use line::field_at;
 
 // The most bytes that a purpose has.
 pub const PURPOSE_LONG: usize = 35;

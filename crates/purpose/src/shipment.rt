@@ -3,8 +3,8 @@ ghost use mathlib.Core.Path.{_≡_};
 ghost use Prim.Native.Nat.{_+_, _<_, _≤_};
 ghost use lib.ListN.{length, drop};
 ghost use Rattle.purpose.specs.Source.{shipmentAbove, firstParcel};
-use file::offset_of;
-use line::is_typed;
+use crate::at::is_typed;
+use crate::at::offset_of;
 
 // The number of the nearest shipment line above the line with this number.
 pub fn shipment_above(file: &[u8], starts: &[u32], number: usize) -> usize

@@ -3,12 +3,12 @@ ghost use mathlib.Core.Path.{_≡_};
 ghost use Prim.Native.Nat.{_<_, _≤_};
 ghost use lib.ListN.{length, take};
 ghost use Rattle.purpose.specs.Source.{isCashLine, fromShipment, forFeature, sourceOf};
+use crate::at::field_at;
+use crate::at::is_filled_at;
+use crate::at::is_typed;
+use crate::at::offset_of;
 use crate::shipment::first_parcel;
 use crate::shipment::shipment_above;
-use file::offset_of;
-use line::field_at;
-use line::is_filled_at;
-use line::is_typed;
 
 pub enum Source {
     // The field with this number of the line that starts at this offset.

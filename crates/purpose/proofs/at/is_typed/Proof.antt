@@ -1,9 +1,9 @@
 -- `at::is_typed` meets its contract.
 use Rattle.text.proofs.Scans.{same-as}
 use Rattle.line.specs.At.{isTyped}
 use borrow.Author.Needs.{needs}
-use Rattle.line.proofs.at.is_typed.Statement.{statement}
-use Rattle.line.proofs.at.is_typed.Tie as tie
+use Rattle.purpose.proofs.at.is_typed.Statement.{statement}
+use Rattle.purpose.proofs.at.is_typed.Tie as tie
 
 ruleset laws = (needs, same-as)
 

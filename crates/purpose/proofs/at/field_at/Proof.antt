@@ -1,8 +1,8 @@
 -- `at::field_at` meets its contract.
 use Rattle.line.proofs.Starting.{part-told}
 use borrow.Author.Needs.{needs}
-use Rattle.line.proofs.at.field_at.Statement.{statement}
-use Rattle.line.proofs.at.field_at.Tie as tie
+use Rattle.purpose.proofs.at.field_at.Statement.{statement}
+use Rattle.purpose.proofs.at.field_at.Tie as tie
 
 ruleset laws = (needs, part-told)
 

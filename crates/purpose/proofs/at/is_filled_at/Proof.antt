@@ -1,8 +1,8 @@
 -- `at::is_filled_at` meets its contract.
 use Rattle.line.proofs.Starting.{filled-told}
 use borrow.Author.Needs.{needs}
-use Rattle.line.proofs.at.is_filled_at.Statement.{statement}
-use Rattle.line.proofs.at.is_filled_at.Tie as tie
+use Rattle.purpose.proofs.at.is_filled_at.Statement.{statement}
+use Rattle.purpose.proofs.at.is_filled_at.Tie as tie
 
 ruleset laws = (needs, filled-told)
 

@@ -1,8 +1,8 @@
--- `list::offset_of` meets its contract.
+-- `at::offset_of` meets its contract.
 use Rattle.text.proofs.Scans.{read-past}
 use borrow.Author.Needs.{needs}
-use Rattle.file.proofs.list.offset_of.Statement.{statement}
-use Rattle.file.proofs.list.offset_of.Tie as tie
+use Rattle.purpose.proofs.at.offset_of.Statement.{statement}
+use Rattle.purpose.proofs.at.offset_of.Tie as tie
 
 ruleset laws = (needs, read-past)
 

@@ -1,15 +1,29 @@
-// A line of a file, known by where it starts: its type and its fields. Nothing is judged here; past the file no bytes stand.
+// The lines of a judged file, known by where they start: their types and fields. Nothing is judged here; past the file no bytes stand.
 ghost use mathlib.Core.Path.{_≡_};
+ghost use lib.ListN.{getD};
 ghost use Rattle.line.specs.At.{fieldAt, filledAt, isTyped};
-use crate::need;
-use crate::part;
-use crate::scan;
+
+// Where the line with this number starts; 0 where the list has no such line.
+pub fn offset_of(starts: &[u32], number: usize) -> usize
+    ensures { λ r. ⌜ r ≡ getD (now (starts .entry)) number 0 ⌝ }
+{
+    if starts.len() <= number {
+        return 0;
+    }
+    wide(starts[number])
+}
+
+fn wide(word: u32) -> usize
+    ensures { λ r. ⌜ r ≡ word ⌝ }
+{
+    word as usize
+}
 
 // The part with this number of the line that starts here: the record type for 0, else the field.
 pub fn field_at(file: &[u8], offset: usize, number: usize) -> &[u8]
     ensures { λ r. ⌜ now r ≡ fieldAt (now (file .entry)) offset number ⌝ }
 {
-    part::field_in(scan::text_at(file, offset), number)
+    line::field_in(line::text_at(file, offset), number)
 }
 
 // Whether a line of this type starts here.
@@ -23,5 +37,5 @@ pub fn is_typed(file: &[u8], offset: usize, name: &[u8]) -> bool
 pub fn is_filled_at(file: &[u8], offset: usize, number: usize) -> bool
     ensures { λ r. ⌜ r ≡ filledAt (now (file .entry)) offset number ⌝ }
 {
-    need::is_filled(scan::text_at(file, offset), number)
+    line::is_filled(line::text_at(file, offset), number)
 }
