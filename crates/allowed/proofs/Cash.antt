@@ -10,12 +10,12 @@ use Rattle.text.specs.Scan.{same}
 use Rattle.text.proofs.Choices.{or-cases}
 use Rattle.text.proofs.Scans.{same-eq}
 use Rattle.forms.specs.Amount.{cents, amount}
-use Rattle.fields.specs.Record.{typeOf}
+use Rattle.records.specs.Record.{typeOf}
 use Rattle.fields.specs.Form.{isCash}
 use Rattle.fields.specs.Profile.{Rules}
 use Rattle.fields.proofs.Rules.{Sound}
-use Rattle.fields.specs.declared.record.Record.{Record}
-use Rattle.fields.specs.declared.record.Record.the-variants.{Header, Sender, Shipment, Parcel, Product, Feature}
+use Rattle.records.specs.declared.record.Record.{Record}
+use Rattle.records.specs.declared.record.Record.the-variants.{Header, Sender, Shipment, Parcel, Product, Feature}
 use Rattle.line.specs.Parts.{fieldNo}
 use Rattle.grammar.specs.Grammar.{Filled, FieldsOk, CodeAmong, LineOk}
 use Rattle.file.specs.Cash.{centsOf, cashIn, cashOf}

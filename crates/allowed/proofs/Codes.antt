@@ -6,9 +6,9 @@ use mathlib.Core.List.{List, [], _∷_, _++_}
 use lib.ListN.{drop}
 use Rattle.text.specs.Quoted.{bytes}
 use Rattle.text.specs.Scan.{same}
-use Rattle.fields.specs.Record.{typeOf}
-use Rattle.fields.specs.declared.record.Record.{Record}
-use Rattle.fields.specs.declared.record.Record.the-variants.{Header, Sender, Shipment, Parcel, Product, Feature}
+use Rattle.records.specs.Record.{typeOf}
+use Rattle.records.specs.declared.record.Record.{Record}
+use Rattle.records.specs.declared.record.Record.the-variants.{Header, Sender, Shipment, Parcel, Product, Feature}
 use Rattle.fields.specs.Profile.{Rules}
 use Rattle.fields.proofs.Rules.{Sound}
 use Rattle.line.specs.Parts.{fieldNo}

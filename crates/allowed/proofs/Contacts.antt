@@ -7,9 +7,9 @@ use mathlib.Core.Logic.{⊎-elim}
 use native.Mathlib.Omega.{arith}
 use Rattle.text.proofs.Choices.{or-neither, true-or-false, clash}
 use Rattle.countries.specs.List.{isListed}
-use Rattle.fields.specs.Record.{rowOf, typeOf}
-use Rattle.fields.specs.declared.record.Record.{Record}
-use Rattle.fields.specs.declared.record.Record.the-variants.{Header, Sender, Shipment, Parcel, Product, Feature}
+use Rattle.records.specs.Record.{rowOf, typeOf}
+use Rattle.records.specs.declared.record.Record.{Record}
+use Rattle.records.specs.declared.record.Record.the-variants.{Header, Sender, Shipment, Parcel, Product, Feature}
 use Rattle.line.specs.Parts.{fieldNo}
 use Rattle.grammar.proofs.Needs.{all-filled, filled-all}
 use Rattle.file.specs.Contact.{hasContacts, contactsBehind, lacksContact}

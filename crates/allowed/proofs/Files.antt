@@ -14,14 +14,14 @@ use Rattle.refusal.specs.declared.Reason.the-variants.{FileTooLong, CountriesOd
 use Rattle.refusal.specs.declared.Refusal.{Refusal}
 use Rattle.refusal.specs.Table.{because}
 use Rattle.refusal.proofs.Verdicts.{no-pass}
-use Rattle.fields.specs.declared.record.Record.{Record}
-use Rattle.fields.specs.declared.record.Due.{Due}
-use Rattle.fields.specs.declared.record.Due.the-variants.{First, After}
+use Rattle.records.specs.declared.record.Record.{Record}
+use Rattle.records.specs.declared.record.Due.{Due}
+use Rattle.records.specs.declared.record.Due.the-variants.{First, After}
 use Rattle.line.proofs.Plain.{render-long}
 use Rattle.grammar.proofs.Lines.{one-line}
 use Rattle.countries.specs.List.{isPaired}
 use Rattle.fields.specs.Profile.{Rules, profile}
-use Rattle.fields.specs.declared.version.Version.{Version}
+use Rattle.records.specs.declared.version.Version.{Version}
 use Rattle.file.specs.Lent.{Lent}
 use Rattle.file.specs.Version.{versionOf}
 use Rattle.file.specs.Contact.{contactsBehind}

@@ -13,8 +13,8 @@ use borrow.Author.Tests.{le-ltb, ne-eqb}
 use Rattle.text.specs.Choice.{if_then_else_}
 use Rattle.text.specs.Placed.{written}
 use Rattle.text.specs.Quoted.{bytes}
-use Rattle.fields.specs.Record.{typeOf}
-use Rattle.fields.specs.declared.record.Record.the-variants.{Shipment, Parcel}
+use Rattle.records.specs.Record.{typeOf}
+use Rattle.records.specs.declared.record.Record.the-variants.{Shipment, Parcel}
 use Rattle.line.specs.Parts.{split, partAt, fieldNo}
 use Rattle.line.specs.Need.{isFilled}
 use Rattle.line.specs.Line.{textAt}
@@ -23,7 +23,7 @@ use Rattle.file.specs.File.{Judged, judged, listOf}
 use Rattle.file.specs.declared.whole.FileAnswer.the-variants.{Accepted}
 use Rattle.allowed.specs.Allowed.{FileLine, AllowedFile, lineStarts, totalsOf}
 use Rattle.allowed.proofs.Files.{allowed-accepted, starts-count}
-use Rattle.line.specs.At.{isTyped}
+use Rattle.purpose.specs.At.{isTyped}
 use Rattle.purpose.specs.Source.{shipmentAbove, firstParcel, fromShipment, inShipment, forFeature, sourceOf}
 use Rattle.purpose.specs.Purpose.{purposeLong, cut, sourceText, textFrom, onSource, onFile, purposeAnswer, purposeOf, listAfter, outputAfter, Purposes}
 use Rattle.allowed.specs.Sentence.{LineNo, CashLine, Belongs, firstFilled, namedText}

@@ -10,11 +10,11 @@ use native.Mathlib.Omega.{arith}
 use lib.ListN.{length}
 use Rattle.text.specs.Placed.{written}
 use Rattle.text.proofs.Choices.{clash}
-use Rattle.fields.specs.Record.{mayFollow, mayCome}
-use Rattle.fields.specs.declared.record.Record.{Record}
-use Rattle.fields.specs.declared.record.Record.the-variants.{Header, Sender, Shipment, Parcel, Product, Feature}
-use Rattle.fields.specs.declared.record.Due.{Due}
-use Rattle.fields.specs.declared.record.Due.the-variants.{First, After}
+use Rattle.records.specs.Record.{mayFollow, mayCome}
+use Rattle.records.specs.declared.record.Record.{Record}
+use Rattle.records.specs.declared.record.Record.the-variants.{Header, Sender, Shipment, Parcel, Product, Feature}
+use Rattle.records.specs.declared.record.Due.{Due}
+use Rattle.records.specs.declared.record.Due.the-variants.{First, After}
 use Rattle.file.specs.Lent.{Lent}
 use Rattle.file.specs.File.{listOf}
 use Rattle.allowed.specs.Allowed.{FileLine, InOrder, AllowedFile, lineStarts}

@@ -10,8 +10,8 @@ use Rattle.text.specs.Quoted.{bytes}
 use Rattle.text.specs.Scan.{same}
 use Rattle.text.proofs.Choices.{and-left, and-right, and-both}
 use Rattle.text.proofs.Scans.{same-eq, same-refl}
-use Rattle.fields.specs.declared.record.Record.the-variants.{Feature}
-use Rattle.line.specs.At.{fieldAt, isTyped}
+use Rattle.records.specs.declared.record.Record.the-variants.{Feature}
+use Rattle.purpose.specs.At.{fieldAt, isTyped}
 use Rattle.purpose.specs.Source.{isCashLine, forFeature, sourceOf}
 use Rattle.purpose.specs.declared.source.Sourced.the-variants.{From}
 use Rattle.allowed.specs.Allowed.{FileLine, AllowedFile, lineStarts}

@@ -11,17 +11,17 @@ use Rattle.text.specs.Quoted.{bytes}
 use Rattle.text.specs.Scan.{same}
 use Rattle.text.proofs.Choices.{true-or-false}
 use Rattle.text.proofs.Scans.{same-eq, same-refl}
-use Rattle.fields.specs.Record.{typeOf, mayCome}
-use Rattle.fields.specs.declared.record.Record.{Record}
+use Rattle.records.specs.Record.{typeOf, mayCome}
+use Rattle.records.specs.declared.record.Record.{Record}
 use Rattle.fields.specs.Profile.{Rules, profile}
 use Rattle.line.specs.Parts.{split}
 use Rattle.line.specs.Line.{textAt, alone, fileLimit}
 use Rattle.line.specs.declared.read.Line.{Line}
 use Rattle.grammar.specs.Grammar.{LineOk, Reads}
-use Rattle.fields.proofs.Types.{type-tells}
+use Rattle.records.proofs.Types.{type-tells}
 use Rattle.grammar.proofs.Lines.{read-parts}
 use Rattle.allowed.specs.Allowed.{FileLine, lineBytes, fileBytes, LinesOk, versionOn, AllowedFile, lineStarts}
-use Rattle.line.specs.At.{isTyped}
+use Rattle.purpose.specs.At.{isTyped}
 use Rattle.allowed.specs.Sentence.{LineNo}
 
 pub line-there : (ls : List FileLine) (i : ℕ) → i < length ls → (l : FileLine) × LineNo ls i l

@@ -14,11 +14,11 @@ use Rattle.text.proofs.Choices.{came-then, true-or-false}
 use Rattle.refusal.specs.declared.Reason.the-variants.{FileEnds}
 use Rattle.refusal.specs.Table.{because}
 use Rattle.refusal.proofs.Verdicts.{no-pass}
-use Rattle.fields.specs.Record.{typeOf, mayCome, mayEnd}
-use Rattle.fields.specs.declared.record.Due.{Due}
-use Rattle.fields.specs.declared.record.Due.the-variants.{After}
+use Rattle.records.specs.Record.{typeOf, mayCome, mayEnd}
+use Rattle.records.specs.declared.record.Due.{Due}
+use Rattle.records.specs.declared.record.Due.the-variants.{After}
 use Rattle.fields.specs.Profile.{profile}
-use Rattle.fields.specs.declared.version.Version.{Version}
+use Rattle.records.specs.declared.version.Version.{Version}
 use Rattle.fields.proofs.Rules.{sound}
 use Rattle.line.specs.Parts.{fieldsOf}
 use Rattle.line.specs.Line.{textAt, fileLimit}

@@ -14,13 +14,13 @@ use Rattle.text.specs.Scan.{all, firstFailing, same}
 use Rattle.text.proofs.Choices.{and-left, and-right, came-then}
 use Rattle.text.proofs.Scans.{same-eq}
 use Rattle.text.proofs.Runs.{Fails, front, run-to}
-use Rattle.fields.specs.Record.{typeOf, mayCome, mayEnd}
+use Rattle.records.specs.Record.{typeOf, mayCome, mayEnd}
 use Rattle.fields.specs.Profile.{profile}
-use Rattle.fields.specs.Version.{isVersion, versionNumbered}
-use Rattle.fields.specs.declared.version.Version.{Version}
-use Rattle.fields.specs.declared.version.Version.the-variants.{Five, Seven}
-use Rattle.fields.specs.declared.record.Record.{Record}
-use Rattle.fields.specs.declared.record.Record.the-variants.{Header}
+use Rattle.records.specs.Version.{isVersion, versionNumbered}
+use Rattle.records.specs.declared.version.Version.{Version}
+use Rattle.records.specs.declared.version.Version.the-variants.{Five, Seven}
+use Rattle.records.specs.declared.record.Record.{Record}
+use Rattle.records.specs.declared.record.Record.the-variants.{Header}
 use Rattle.line.specs.Parts.{split, nameOf, fieldsOf, partAt, fieldNo}
 use Rattle.line.specs.Render.{joined, textOf, plain, allIn}
 use Rattle.line.specs.Line.{textAt, alone, lineAnswer, readAnswer}

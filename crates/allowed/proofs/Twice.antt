@@ -7,8 +7,8 @@ use mathlib.Core.Logic.{⊎-elim}
 use Rattle.text.specs.Scan.{same}
 use Rattle.text.proofs.Choices.{or-neither, true-or-false, clash}
 use Rattle.text.proofs.Scans.{same-eq, same-refl}
-use Rattle.fields.specs.declared.record.Record.{Record}
-use Rattle.fields.specs.declared.record.Record.the-variants.{Header, Sender, Shipment, Parcel, Product, Feature}
+use Rattle.records.specs.declared.record.Record.{Record}
+use Rattle.records.specs.declared.record.Record.the-variants.{Header, Sender, Shipment, Parcel, Product, Feature}
 use Rattle.allowed.specs.Allowed.{codesOn, oneOfCodes, NoneTwice}
 use Rattle.allowed.proofs.Codes.{Fresh, codes-append}
 

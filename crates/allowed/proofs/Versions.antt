@@ -5,14 +5,14 @@ use mathlib.Core.Bool.{true, false≢true}
 use mathlib.Core.List.{List, [], _∷_, _++_}
 use lib.ListN.{length}
 use Rattle.text.specs.Choice.{if_then_else_}
-use Rattle.fields.specs.Record.{mayCome, mayEnd}
+use Rattle.records.specs.Record.{mayCome, mayEnd}
 use Rattle.fields.specs.Profile.{profile}
-use Rattle.fields.specs.Version.{numeral, isVersion}
-use Rattle.fields.specs.declared.version.Version.{Version}
-use Rattle.fields.specs.declared.version.Version.the-variants.{Five, Seven}
-use Rattle.fields.specs.declared.record.Record.{Record}
-use Rattle.fields.specs.declared.record.Record.the-variants.{Header, Sender, Shipment, Parcel, Product, Feature}
-use Rattle.fields.specs.declared.record.Due.the-variants.{First}
+use Rattle.records.specs.Version.{numeral, isVersion}
+use Rattle.records.specs.declared.version.Version.{Version}
+use Rattle.records.specs.declared.version.Version.the-variants.{Five, Seven}
+use Rattle.records.specs.declared.record.Record.{Record}
+use Rattle.records.specs.declared.record.Record.the-variants.{Header, Sender, Shipment, Parcel, Product, Feature}
+use Rattle.records.specs.declared.record.Due.the-variants.{First}
 use Rattle.fields.proofs.Rules.{header-version, header-versioned}
 use Rattle.line.specs.Parts.{fieldNo}
 use Rattle.line.specs.Line.{fileLimit}

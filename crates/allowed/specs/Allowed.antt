@@ -10,16 +10,16 @@ use Rattle.text.specs.Choice.{if_then_else_}
 use Rattle.text.specs.Quoted.{bytes}
 use Rattle.text.specs.Scan.{same}
 use Rattle.forms.specs.Amount.{cents}
-use Rattle.fields.specs.Record.{_isA_, mayCome, mayEnd}
+use Rattle.records.specs.Record.{_isA_, mayCome, mayEnd}
 use Rattle.fields.specs.Form.{isCash}
-use Rattle.fields.specs.declared.record.Record.{Record}
-use Rattle.fields.specs.declared.record.Record.the-variants.{Header, Sender, Shipment, Parcel, Feature}
-use Rattle.fields.specs.declared.record.Due.{Due}
-use Rattle.fields.specs.declared.record.Due.the-variants.{First, After}
+use Rattle.records.specs.declared.record.Record.{Record}
+use Rattle.records.specs.declared.record.Record.the-variants.{Header, Sender, Shipment, Parcel, Feature}
+use Rattle.records.specs.declared.record.Due.{Due}
+use Rattle.records.specs.declared.record.Due.the-variants.{First, After}
 use Rattle.fields.specs.Profile.{Rules, profile}
-use Rattle.fields.specs.Version.{isVersion}
-use Rattle.fields.specs.declared.version.Version.{Version}
-use Rattle.fields.specs.declared.version.Version.the-variants.{Five, Seven}
+use Rattle.records.specs.Version.{isVersion}
+use Rattle.records.specs.declared.version.Version.{Version}
+use Rattle.records.specs.declared.version.Version.the-variants.{Five, Seven}
 use Rattle.line.specs.Parts.{fieldNo}
 use Rattle.line.specs.Render.{render}
 use Rattle.grammar.specs.Grammar.{AllFilled, LineOk}

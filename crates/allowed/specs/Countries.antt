@@ -5,7 +5,7 @@ use mathlib.Core.Bool.{true}
 use mathlib.Core.List.{List, [], _∷_, _++_}
 use lib.ListN.{length}
 use Rattle.countries.specs.List.{isPaired}
-use Rattle.fields.specs.declared.record.Record.the-variants.{Sender}
+use Rattle.records.specs.declared.record.Record.the-variants.{Sender}
 use Rattle.fields.specs.Profile.{profile}
 use Rattle.file.specs.Version.{versionOf}
 use Rattle.allowed.specs.Allowed.{FileLine, fileBytes, LinesOk, HasContacts}

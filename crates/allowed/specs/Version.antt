@@ -5,8 +5,8 @@ use mathlib.Core.Bool.{true, false}
 use mathlib.Core.List.{List, [], _∷_, _++_}
 use Rattle.text.specs.Byte.{textByte}
 use Rattle.text.specs.Quoted.{bytes}
-use Rattle.fields.specs.Record.{typeOf}
-use Rattle.fields.specs.declared.record.Record.the-variants.{Header}
+use Rattle.records.specs.Record.{typeOf}
+use Rattle.records.specs.declared.record.Record.the-variants.{Header}
 use Rattle.line.specs.Parts.{fieldNo}
 use Rattle.line.specs.Render.{textOf, plain, allIn}
 

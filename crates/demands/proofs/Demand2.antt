@@ -4,8 +4,8 @@ use mathlib.Core.Path.{refl, sym, _∙_}
 use mathlib.Core.List.{List, [], _∷_, _++_}
 use lib.ListN.{take}
 use Rattle.fields.specs.Profile.{profile}
-use Rattle.fields.specs.declared.record.Record.{Record}
-use Rattle.fields.specs.declared.record.Record.the-variants.{Header, Sender, Shipment, Parcel, Product, Feature}
+use Rattle.records.specs.declared.record.Record.{Record}
+use Rattle.records.specs.declared.record.Record.the-variants.{Header, Sender, Shipment, Parcel, Product, Feature}
 use Rattle.line.specs.Line.{alone, lineAnswer, readAnswer, lineVerdict}
 use Rattle.line.specs.Find.{fieldAnswer, findAnswer, fieldVerdict}
 use Rattle.line.specs.declared.read.LineAnswer.the-variants.{Accepted as AcceptedLine, Refused as NotRead}

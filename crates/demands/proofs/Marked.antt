@@ -11,17 +11,17 @@ use Rattle.forms.specs.Shape.{allDigits, digits, capitals, customer, bic, mail,
 use Rattle.forms.specs.Amount.{cents, pointed, leadingZero, amount}
 use Rattle.forms.specs.Date.{standsFor, like, leap, daysIn, calendar, goodDay, goodTime, dateTime}
 use Rattle.forms.specs.Feature.{featureCodes, isFeature, codeOf}
-use Rattle.fields.specs.Record.{named, mayFollow, mayCome, mayEnd}
+use Rattle.records.specs.Record.{named, mayFollow, mayCome, mayEnd}
 use Rattle.fields.specs.Form.{isCash}
-use Rattle.fields.specs.Version.{isVersion}
-use Rattle.fields.specs.declared.version.Version.{Version}
-use Rattle.fields.specs.declared.version.Version.the-variants.{Seven}
+use Rattle.records.specs.Version.{isVersion}
+use Rattle.records.specs.declared.version.Version.{Version}
+use Rattle.records.specs.declared.version.Version.the-variants.{Seven}
 use Rattle.file.specs.Version.{versionIn, versionOf}
 use Rattle.fields.specs.Profile.{profile, widthInTable, widthOf, isRequired, hasForm}
 use Rattle.fields.specs.Field.{tested}
 use Rattle.line.specs.Need.{isFilled, serves, isServed, lacks}
 use Rattle.line.specs.Line.{endsWell, textAnswer, afterWalk, ofKind, ofNamed, ofText, lineAnswer}
-use Rattle.line.specs.At.{isTyped}
+use Rattle.purpose.specs.At.{isTyped}
 use Rattle.countries.specs.List.{isPaired}
 use Rattle.file.specs.Contact.{hasContacts, contactsBehind, lacksContact}
 use Rattle.file.specs.Cash.{cashIn, cashOf}

@@ -5,14 +5,14 @@ use mathlib.Core.Bool.{false≢true}
 use mathlib.Core.List.{[], _∷_}
 use mathlib.Core.Logic.{⊎-elim}
 use Rattle.text.proofs.Numbers.{eq-or-ne}
-use Rattle.fields.specs.Record.{mayEnd}
+use Rattle.records.specs.Record.{mayEnd}
 use Rattle.fields.specs.Profile.{profile}
-use Rattle.fields.specs.Version.{versionNumbered}
-use Rattle.fields.specs.declared.version.Version.{Version}
-use Rattle.fields.specs.declared.version.Version.the-variants.{Five, Seven}
-use Rattle.fields.proofs.Versions.{told-neither}
-use Rattle.fields.specs.declared.version.VersionTold.the-variants.{Either}
-use Rattle.fields.specs.declared.record.Record.{Record}
+use Rattle.records.specs.Version.{versionNumbered}
+use Rattle.records.specs.declared.version.Version.{Version}
+use Rattle.records.specs.declared.version.Version.the-variants.{Five, Seven}
+use Rattle.records.proofs.Versions.{told-neither}
+use Rattle.records.specs.declared.version.VersionTold.the-variants.{Either}
+use Rattle.records.specs.declared.record.Record.{Record}
 use Rattle.grammar.specs.Grammar.{LineOk}
 use Rattle.file.specs.declared.whole.FileAnswer.the-variants.{Accepted as AcceptedFile}
 use Rattle.allowed.specs.Allowed.{AllowedUnder, versionOn}

@@ -20,8 +20,8 @@ use Rattle.identcodes.specs.Tree.{Finds}
 use Rattle.identcodes.specs.declared.CodeAnswer.{CodeAnswer}
 use Rattle.fields.specs.Profile.{profile}
 use Rattle.fields.specs.Field.{tested}
-use Rattle.fields.specs.declared.version.Version.{Version}
-use Rattle.fields.specs.declared.record.Record.{Record}
+use Rattle.records.specs.declared.version.Version.{Version}
+use Rattle.records.specs.declared.record.Record.{Record}
 use Rattle.fields.specs.declared.field.Tested.{Tested}
 use Rattle.line.specs.Line.{readAnswer}
 use Rattle.line.specs.Find.{findAnswer}

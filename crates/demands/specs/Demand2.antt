@@ -18,9 +18,9 @@ use Rattle.check_characters.specs.declared.answer.CheckAnswer.the-variants.{Acc
 use Rattle.check_characters.specs.declared.identcode.Parts.{Parts}
 use Rattle.check_characters.specs.declared.identcode.PartsAnswer.the-variants.{Read}
 use Rattle.fields.specs.Profile.{profile}
-use Rattle.fields.specs.Version.{versionNumbered, UnderVersion}
-use Rattle.fields.specs.declared.version.Version.{Version}
-use Rattle.fields.specs.declared.version.VersionTold.the-variants.{Either}
+use Rattle.records.specs.Version.{versionNumbered, UnderVersion}
+use Rattle.records.specs.declared.version.Version.{Version}
+use Rattle.records.specs.declared.version.VersionTold.the-variants.{Either}
 use Rattle.line.specs.Line.{alone, readAnswer}
 use Rattle.line.specs.Find.{findAnswer}
 use Rattle.line.specs.declared.read.Line.{Line}
@@ -31,9 +31,9 @@ use Rattle.file.specs.Lent.{Lent}
 use Rattle.file.specs.File.{Judges}
 use Rattle.file.specs.declared.whole.Totals.{Totals}
 use Rattle.file.specs.declared.whole.FileAnswer.the-variants.{Accepted as AcceptedFile}
-use Rattle.fields.specs.declared.record.Due.{Due}
-use Rattle.fields.specs.declared.record.Record.{Record}
-use Rattle.fields.specs.declared.record.Named.the-variants.{Known}
+use Rattle.records.specs.declared.record.Due.{Due}
+use Rattle.records.specs.declared.record.Record.{Record}
+use Rattle.records.specs.declared.record.Named.the-variants.{Known}
 use Rattle.text.specs.Placed.{written}
 use Rattle.writer.specs.Write.{recordNumbered, between, writeAnswer, Writes}
 use Rattle.grammar.specs.Written.{inOne, endsFrom, Writable, ReadsBack}

@@ -22,7 +22,7 @@ use Rattle.file.specs.File.{judged}
 use Rattle.file.specs.declared.whole.FileAnswer.{FileAnswer}
 use Rattle.file.specs.declared.whole.FileAnswer.the-variants.{Accepted, Refused}
 use Rattle.purpose.specs.Purpose.{purposeOf}
-use Rattle.fields.specs.declared.version.Version.the-variants.{Seven}
+use Rattle.records.specs.declared.version.Version.the-variants.{Seven}
 use Rattle.allowed.specs.Allowed.{FileLine, AllowedUnder, AllowedFile}
 
 -- "This file (each line ended by CR LF)"

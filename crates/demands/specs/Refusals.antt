@@ -20,13 +20,13 @@ use Rattle.check_characters.specs.declared.number.Kind.{Kind}
 use Rattle.check_characters.specs.declared.number.NumberAnswer.the-variants.{Refused as RefusedAsNumber}
 use Rattle.check_characters.specs.declared.answer.IssueAnswer.the-variants.{Refused as NotIssued}
 use Rattle.check_characters.specs.declared.answer.CheckAnswer.the-variants.{Accepted as Passed, Refused as Failed}
-use Rattle.fields.specs.Record.{mayEnd}
+use Rattle.records.specs.Record.{mayEnd}
 use Rattle.fields.specs.Profile.{profile, widthInTable}
-use Rattle.fields.specs.Version.{UnderVersion}
-use Rattle.fields.specs.declared.version.Version.{Version}
-use Rattle.fields.specs.declared.record.Due.{Due}
-use Rattle.fields.specs.declared.record.Due.the-variants.{First}
-use Rattle.fields.specs.declared.record.Record.the-variants.{Parcel}
+use Rattle.records.specs.Version.{UnderVersion}
+use Rattle.records.specs.declared.version.Version.{Version}
+use Rattle.records.specs.declared.record.Due.{Due}
+use Rattle.records.specs.declared.record.Due.the-variants.{First}
+use Rattle.records.specs.declared.record.Record.the-variants.{Parcel}
 use Rattle.line.specs.Line.{lineAnswer, alone, fileLimit, readAnswer}
 use Rattle.line.specs.Find.{findAnswer}
 use Rattle.line.specs.declared.read.Line.{Line}

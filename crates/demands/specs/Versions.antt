@@ -3,11 +3,11 @@ use Prim.Native.Nat.{ℕ}
 use mathlib.Core.Path.{_≡_}
 use mathlib.Core.List.{List, _∷_}
 use mathlib.Core.Logic.{_↔_}
-use Rattle.fields.specs.Version.{numeral, versionNumbered}
-use Rattle.fields.specs.declared.version.Version.{Version}
-use Rattle.fields.specs.declared.version.Version.the-variants.{Five, Seven}
-use Rattle.fields.specs.declared.version.VersionTold.the-variants.{Either, Neither}
-use Rattle.fields.specs.declared.record.Record.the-variants.{Header}
+use Rattle.records.specs.Version.{numeral, versionNumbered}
+use Rattle.records.specs.declared.version.Version.{Version}
+use Rattle.records.specs.declared.version.Version.the-variants.{Five, Seven}
+use Rattle.records.specs.declared.version.VersionTold.the-variants.{Either, Neither}
+use Rattle.records.specs.declared.record.Record.the-variants.{Header}
 use Rattle.line.specs.Parts.{fieldNo}
 use Rattle.line.specs.Line.{readAnswer}
 use Rattle.line.specs.declared.read.Line.{Line}

@@ -11,14 +11,14 @@ use Rattle.text.proofs.Choices.{and-left, and-right}
 use Rattle.text.proofs.Scans.{same-eq}
 use Rattle.forms.specs.Shape.{digits}
 use Rattle.forms.specs.Amount.{amount}
-use Rattle.fields.specs.Record.{countFits}
+use Rattle.records.specs.Record.{countFits}
 use Rattle.fields.specs.Profile.{Row, names, rowIn, profile, widthInTable, But, always, instead, narrowed, widthOf, Rules, isRequired, hasForm}
 use Rattle.fields.specs.Field.{tested}
-use Rattle.fields.specs.Version.{numeral, isVersion}
-use Rattle.fields.specs.declared.version.Version.{Version}
-use Rattle.fields.specs.declared.version.Version.the-variants.{Five, Seven}
-use Rattle.fields.specs.declared.record.Record.{Record}
-use Rattle.fields.specs.declared.record.Record.the-variants.{Header, Sender, Shipment, Parcel, Product, Feature}
+use Rattle.records.specs.Version.{numeral, isVersion}
+use Rattle.records.specs.declared.version.Version.{Version}
+use Rattle.records.specs.declared.version.Version.the-variants.{Five, Seven}
+use Rattle.records.specs.declared.record.Record.{Record}
+use Rattle.records.specs.declared.record.Record.the-variants.{Header, Sender, Shipment, Parcel, Product, Feature}
 use Rattle.fields.proofs.Forms.{identcode-digits}
 
 -- no width above 100

@@ -13,16 +13,16 @@ use Rattle.text.specs.Tabled.{tabled}
 use Rattle.text.proofs.Numbers.{eq-or-ne}
 use Rattle.text.proofs.Choices.{and-left, and-right}
 use Rattle.text.proofs.Tables.{tabled-at}
-use Rattle.fields.specs.Record.{rowOf, recordAt, oneOf}
+use Rattle.records.specs.Record.{rowOf, recordAt, oneOf}
 use Rattle.fields.specs.Profile.{Asked, anything, only, But, always, instead, narrowed, widthOf, Row, names, rowIn, noField}
 use Rattle.fields.specs.Profile.{by, profile, meets, widthInTable, isRequired, hasForm}
 use Rattle.fields.specs.Form.{isCash}
-use Rattle.fields.specs.Version.{isSeven}
-use Rattle.fields.specs.declared.version.Version.{Version}
-use Rattle.fields.specs.declared.version.Version.the-variants.{Five, Seven}
-use Rattle.fields.specs.declared.record.Record.{Record}
-use Rattle.fields.specs.declared.record.Record.the-variants.{Header, Sender, Shipment, Parcel, Product, Feature}
-use Rattle.fields.proofs.Records.{at-row}
+use Rattle.records.specs.Version.{isSeven}
+use Rattle.records.specs.declared.version.Version.{Version}
+use Rattle.records.specs.declared.version.Version.the-variants.{Five, Seven}
+use Rattle.records.specs.declared.record.Record.{Record}
+use Rattle.records.specs.declared.record.Record.the-variants.{Header, Sender, Shipment, Parcel, Product, Feature}
+use Rattle.records.proofs.Records.{at-row}
 
 -- a table of six records, five lines of ten fields each, each entry what a rule gives it
 abbrev pub table : {A : Type 0} → (ℕ → ℕ → A) → List (List (List A))

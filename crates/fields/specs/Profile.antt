@@ -12,11 +12,11 @@ use Rattle.forms.specs.Amount.{amount}
 use Rattle.forms.specs.Date.{dateTime}
 use Rattle.forms.specs.Feature.{isFeature}
 use Rattle.fields.specs.Form.{Form, alone, postCode, isCash, reference, isIban, isIdentcode, nothing}
-use Rattle.fields.specs.Version.{isVersion}
-use Rattle.fields.specs.declared.version.Version.{Version}
-use Rattle.fields.specs.declared.version.Version.the-variants.{Five, Seven}
-use Rattle.fields.specs.declared.record.Record.{Record}
-use Rattle.fields.specs.declared.record.Record.the-variants.{Header, Sender, Shipment, Parcel, Product, Feature}
+use Rattle.records.specs.Version.{isVersion}
+use Rattle.records.specs.declared.version.Version.{Version}
+use Rattle.records.specs.declared.version.Version.the-variants.{Five, Seven}
+use Rattle.records.specs.declared.record.Record.{Record}
+use Rattle.records.specs.declared.record.Record.the-variants.{Header, Sender, Shipment, Parcel, Product, Feature}
 
 -- what a row asks of a filled field
 pub data Asked : Type 0 where

@@ -4,10 +4,9 @@ ghost use Rattle.fields.specs.Field.{tested};
 ghost use Rattle.fields.specs.Form.{isCash};
 ghost use Rattle.fields.specs.Profile.{always, instead, by, narrowed, widthOf, profile};
 use crate::form;
-use crate::record::Record;
 use crate::table;
-use crate::version;
-use crate::version::Version;
+use records::Record;
+use records::Version;
 use refusal::Reason;
 
 pub enum Tested {
@@ -63,7 +62,7 @@ fn width_of(version: Version, kind: Record, number: usize, beside: &[u8]) -> usi
 fn reference_width(version: Version, width: usize, beside: &[u8]) -> usize
     ensures { λ r. ⌜ r ≡ narrowed (by version (instead 35 isCash) always) width (now (beside .entry)) ⌝ }
 {
-    if version::is_seven(version) {
+    if table::is_seven(version) {
         return width;
     }
     if form::is_cash(beside) {

@@ -2,11 +2,10 @@
 ghost use mathlib.Core.Path.{_≡_};
 ghost use Rattle.fields.specs.Form.{postCode, isCash, reference, accepted, isIban, isIdentcode};
 ghost use Rattle.fields.specs.Profile.{profile, hasForm};
-ghost use Rattle.fields.specs.declared.version.Version.{Version};
-use crate::record::Record;
-use crate::version;
-use crate::version::Version;
+ghost use Rattle.records.specs.declared.version.Version.{Version};
 use check_characters::CheckAnswer;
+use records::Record;
+use records::Version;
 
 // Whether a filled field has its form.
 pub fn has_form(version: Version, kind: Record, number: usize, beside: &[u8], field: &[u8]) -> bool
@@ -40,7 +39,7 @@ fn header_form(version: Version, number: usize, beside: &[u8], field: &[u8]) -> 
         3 => forms::is_date_time(field),
         4 => forms::is_date_time(field),
         5 => forms::is_digits(field, 4),
-        6 => version::is_version(version, field),
+        6 => records::is_version(version, field),
         _ => true,
     }
 }

@@ -3,13 +3,12 @@
 // each version has a table of its own, because a table is laid out anew wherever it is read.
 ghost use mathlib.Core.Path.{_≡_};
 ghost use Prim.Native.Nat.{_<_};
-ghost use Rattle.fields.specs.Record.{recordAt};
+ghost use Rattle.records.specs.Record.{recordAt};
+ghost use Rattle.records.specs.Version.{isSeven};
 ghost use Rattle.fields.specs.Profile.{profile, widthInTable, isRequired};
-ghost use Rattle.fields.specs.declared.version.Version.{Version};
-use crate::record;
-use crate::record::Record;
-use crate::version;
-use crate::version::Version;
+ghost use Rattle.records.specs.declared.version.Version.{Version};
+use records::Record;
+use records::Version;
 
 // 020 and 030 are the same in both versions.
 const SENDER: [[u8; 10]; 5] = [
@@ -115,7 +114,7 @@ pub fn table_width(version: Version, kind: Record, number: usize) -> usize
     if 49 < number {
         return 0;
     }
-    wide(width_at(version, record::row(kind), number))
+    wide(width_at(version, records::row(kind), number))
 }
 
 // Whether a field must be filled.
@@ -137,10 +136,10 @@ fn is_header_duty(version: Version, number: usize) -> bool
 {
     match number {
         1 => true,
-        2 => !version::is_seven(version),
+        2 => !is_seven(version),
         3 => true,
         4 => true,
-        5 => !version::is_seven(version),
+        5 => !is_seven(version),
         6 => true,
         _ => false,
     }
@@ -179,7 +178,7 @@ fn is_parcel_duty(version: Version, number: usize) -> bool
 {
     match number {
         1 => true,
-        4 => version::is_seven(version),
+        4 => is_seven(version),
         _ => false,
     }
 }
@@ -198,4 +197,14 @@ fn wide(width: u8) -> usize
     ensures { λ r. ⌜ r ≡ width ⌝ }
 {
     width as usize
+}
+
+// Whether it is version 7.
+pub fn is_seven(version: Version) -> bool
+    ensures { λ r. ⌜ r ≡ isSeven version ⌝ }
+{
+    match version {
+        Version::Five => false,
+        Version::Seven => true,
+    }
 }

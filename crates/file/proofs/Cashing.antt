@@ -12,8 +12,8 @@ use Rattle.text.specs.Scan.{same}
 use Rattle.forms.specs.Amount.{cents, amount}
 use Rattle.forms.proofs.Amounts.{cents-most}
 use Rattle.fields.specs.Form.{isCash}
-use Rattle.fields.specs.declared.record.Record.{Record}
-use Rattle.fields.specs.declared.record.Record.the-variants.{Header, Sender, Shipment, Parcel, Product, Feature}
+use Rattle.records.specs.declared.record.Record.{Record}
+use Rattle.records.specs.declared.record.Record.the-variants.{Header, Sender, Shipment, Parcel, Product, Feature}
 use Rattle.file.specs.Cash.{centsOf, cashIn, cashOf}
 
 module _ (parts : List (List ℕ)) (a : List ℕ) (ea : a ≡ getD parts 1 []) (t : Bool) (et : t ≡ isCash a) where

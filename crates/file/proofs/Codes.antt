@@ -10,11 +10,11 @@ use Rattle.text.specs.Quoted.{bytes}
 use Rattle.forms.specs.Shape.{digits}
 use Rattle.forms.proofs.Shapes.{digits-parts}
 use Rattle.identcodes.specs.Tree.{identcodeAt}
-use Rattle.fields.specs.Record.{typeOf, countFits}
+use Rattle.records.specs.Record.{typeOf, countFits}
 use Rattle.fields.specs.Field.{tested}
-use Rattle.fields.specs.declared.record.Record.{Record}
-use Rattle.fields.specs.declared.record.Record.the-variants.{Header, Sender, Shipment, Parcel, Product, Feature}
-use Rattle.fields.proofs.Types.{type-long}
+use Rattle.records.specs.declared.record.Record.{Record}
+use Rattle.records.specs.declared.record.Record.the-variants.{Header, Sender, Shipment, Parcel, Product, Feature}
+use Rattle.records.proofs.Types.{type-long}
 use Rattle.fields.proofs.Tests.{good-passed}
 use Rattle.fields.proofs.Rules.{Sound}
 use Rattle.line.specs.Parts.{nameOf, fieldsOf}

@@ -7,9 +7,9 @@ use lib.ListN.{length, getD}
 use borrow.Author.Tests.{not-true, not-false}
 use Rattle.text.proofs.Scans.{no-bytes}
 use Rattle.countries.specs.List.{isListed}
-use Rattle.fields.specs.Record.{_isA_}
-use Rattle.fields.specs.declared.record.Record.{Record}
-use Rattle.fields.specs.declared.record.Record.the-variants.{Shipment}
+use Rattle.records.specs.Record.{_isA_}
+use Rattle.records.specs.declared.record.Record.{Record}
+use Rattle.records.specs.declared.record.Record.the-variants.{Shipment}
 use Rattle.line.specs.Need.{isFilled}
 use Rattle.file.specs.Contact.{hasContacts, contactsBehind, lacksContact}
 

@@ -5,7 +5,7 @@ use mathlib.Core.Bool.{Bool, true, false}
 use mathlib.Core.List.{List}
 use native.Mathlib.Omega.{arith}
 use lib.ListN.{length}
-use Rattle.fields.specs.declared.record.Record.{Record}
+use Rattle.records.specs.declared.record.Record.{Record}
 use Rattle.identcodes.specs.declared.CodeAnswer.{CodeAnswer}
 use Rattle.identcodes.specs.declared.CodeAnswer.the-variants.{Known, New, NoRoom}
 use Rattle.identcodes.specs.Tree.{isThere, grown, hasRoom, codeAnswer, treeAfter}

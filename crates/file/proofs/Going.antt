@@ -10,9 +10,9 @@ use Rattle.refusal.specs.declared.Reason.the-variants.{FileTooLong, FileEnds, C
 use Rattle.refusal.specs.Table.{because}
 use Rattle.refusal.specs.declared.Refusal.{Refusal}
 use Rattle.countries.specs.List.{isPaired}
-use Rattle.fields.specs.Record.{mayEnd}
-use Rattle.fields.specs.declared.record.Record.{Record}
-use Rattle.fields.specs.declared.record.Record.the-variants.{Header, Sender, Shipment, Parcel, Product, Feature}
+use Rattle.records.specs.Record.{mayEnd}
+use Rattle.records.specs.declared.record.Record.{Record}
+use Rattle.records.specs.declared.record.Record.the-variants.{Header, Sender, Shipment, Parcel, Product, Feature}
 use Rattle.line.specs.Line.{lineAnswer, textAt, fileLimit}
 use Rattle.line.specs.Parts.{split}
 use Rattle.line.proofs.Accepting.{next-after}
@@ -21,7 +21,7 @@ use Rattle.file.specs.Lent.{Lent}
 use Rattle.file.specs.Version.{versionOf}
 use Rattle.file.specs.Step.{toldBy, parcelsIn, behind, listedSoFar, stepAnswer}
 use Rattle.file.specs.File.{Judged, begin, passed, ended, onStep, fileFrom, judged, listOf, Judges}
-use Rattle.fields.specs.declared.version.Version.{Version}
+use Rattle.records.specs.declared.version.Version.{Version}
 use Rattle.file.specs.declared.step.State.{State}
 use Rattle.file.specs.declared.step.Step.{Step}
 use Rattle.file.specs.declared.step.Step.the-variants.{Next, Stopped}

@@ -12,7 +12,7 @@ use Rattle.refusal.specs.Table.{because}
 use Rattle.refusal.specs.declared.Refusal.{Refusal}
 use Rattle.refusal.proofs.Verdicts.{no-pass}
 use Rattle.countries.specs.List.{isPaired}
-use Rattle.fields.specs.Record.{mayEnd}
+use Rattle.records.specs.Record.{mayEnd}
 use Rattle.file.specs.Lent.{Lent}
 use Rattle.file.specs.Version.{versionOf}
 use Rattle.file.specs.Step.{stepAnswer}

@@ -11,9 +11,9 @@ use Rattle.forms.specs.Shape.{digits}
 use Rattle.identcodes.specs.Tree.{identcodeAt, isThere, grown}
 use Rattle.identcodes.proofs.Growing.{tree-none, none-there, one-more}
 use Rattle.identcodes.proofs.Answers.{room-there}
-use Rattle.fields.specs.Record.{typeOf}
-use Rattle.fields.specs.declared.record.Record.{Record}
-use Rattle.fields.specs.declared.record.Record.the-variants.{Header, Sender, Shipment, Parcel, Product, Feature}
+use Rattle.records.specs.Record.{typeOf}
+use Rattle.records.specs.declared.record.Record.{Record}
+use Rattle.records.specs.declared.record.Record.the-variants.{Header, Sender, Shipment, Parcel, Product, Feature}
 use Rattle.line.specs.Line.{fileLimit}
 use Rattle.file.specs.Identcode.{sameParcel, onEarlier, repeats, isThereFor, grownFor, Sown, parcelsMost, treeWords}
 use Rattle.file.specs.Step.{parcelsIn}

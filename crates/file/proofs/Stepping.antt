@@ -13,9 +13,9 @@ use Rattle.refusal.specs.Table.{because}
 use Rattle.refusal.specs.declared.Refusal.{Refusal}
 use Rattle.forms.specs.Shape.{digits}
 use Rattle.identcodes.specs.Tree.{identcodeAt}
-use Rattle.fields.specs.declared.record.Record.{Record}
-use Rattle.fields.specs.declared.record.Record.the-variants.{Parcel}
-use Rattle.fields.specs.declared.record.Due.the-variants.{After}
+use Rattle.records.specs.declared.record.Record.{Record}
+use Rattle.records.specs.declared.record.Record.the-variants.{Parcel}
+use Rattle.records.specs.declared.record.Due.the-variants.{After}
 use Rattle.line.specs.Parts.{split}
 use Rattle.line.specs.Line.{textAt, fileLimit, lineAnswer}
 use Rattle.line.specs.Told.{Told}

@@ -5,11 +5,11 @@ use mathlib.Core.Bool.{Bool, true, false, not}
 use mathlib.Core.List.{List}
 use borrow.Author.Tests.{not-false, not-true}
 use Rattle.text.specs.Scan.{same}
-use Rattle.fields.specs.Record.{typeOf}
-use Rattle.fields.specs.Version.{isVersion}
-use Rattle.fields.specs.declared.version.Version.{Version}
-use Rattle.fields.specs.declared.version.Version.the-variants.{Five, Seven}
-use Rattle.fields.specs.declared.record.Record.the-variants.{Header}
+use Rattle.records.specs.Record.{typeOf}
+use Rattle.records.specs.Version.{isVersion}
+use Rattle.records.specs.declared.version.Version.{Version}
+use Rattle.records.specs.declared.version.Version.the-variants.{Five, Seven}
+use Rattle.records.specs.declared.record.Record.the-variants.{Header}
 use Rattle.line.specs.Parts.{partAt}
 use Rattle.line.specs.Line.{textAt}
 use Rattle.file.specs.Version.{versionIn, versionOf}

@@ -7,9 +7,9 @@ use Rattle.text.specs.Quoted.{bytes}
 use Rattle.text.specs.Scan.{same}
 use Rattle.forms.specs.Amount.{cents, amount}
 use Rattle.fields.specs.Form.{isCash}
-use Rattle.fields.specs.Record.{_isA_}
-use Rattle.fields.specs.declared.record.Record.{Record}
-use Rattle.fields.specs.declared.record.Record.the-variants.{Feature}
+use Rattle.records.specs.Record.{_isA_}
+use Rattle.records.specs.declared.record.Record.{Record}
+use Rattle.records.specs.declared.record.Record.the-variants.{Feature}
 
 -- an amount in cents
 abbrev pub centsOf : List ℕ → ℕ

@@ -7,9 +7,9 @@ use lib.ListN.{getD}
 use Rattle.text.specs.Choice.{if_then_else_}
 use Rattle.text.specs.Scan.{all}
 use Rattle.countries.specs.List.{isListed}
-use Rattle.fields.specs.Record.{_isA_}
-use Rattle.fields.specs.declared.record.Record.{Record}
-use Rattle.fields.specs.declared.record.Record.the-variants.{Sender, Shipment}
+use Rattle.records.specs.Record.{_isA_}
+use Rattle.records.specs.declared.record.Record.{Record}
+use Rattle.records.specs.declared.record.Record.the-variants.{Sender, Shipment}
 use Rattle.line.specs.Need.{isFilled}
 
 -- a sender's line has both contacts, 020.12 and 020.13

@@ -9,9 +9,9 @@ use Rattle.text.specs.Choice.{if_then_else_}
 use Rattle.refusal.specs.Table.{because, verdictOf, Verdict}
 use Rattle.refusal.specs.declared.Reason.the-variants.{FileTooLong, FileEnds, CountriesOdd}
 use Rattle.countries.specs.List.{isPaired}
-use Rattle.fields.specs.Record.{mayEnd}
-use Rattle.fields.specs.declared.record.Due.the-variants.{First}
-use Rattle.fields.specs.declared.version.Version.{Version}
+use Rattle.records.specs.Record.{mayEnd}
+use Rattle.records.specs.declared.record.Due.the-variants.{First}
+use Rattle.records.specs.declared.version.Version.{Version}
 use Rattle.line.specs.Line.{fileLimit}
 use Rattle.file.specs.Lent.{Lent}
 use Rattle.file.specs.Version.{versionOf}

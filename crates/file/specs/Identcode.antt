@@ -10,9 +10,9 @@ use Rattle.text.specs.Scan.{same}
 use Rattle.forms.specs.Shape.{digits}
 use Rattle.identcodes.specs.Tree.{identcodeAt, isThere, grown}
 use Rattle.identcodes.proofs.Slots.{Tree}
-use Rattle.fields.specs.Record.{_isA_}
-use Rattle.fields.specs.declared.record.Record.{Record}
-use Rattle.fields.specs.declared.record.Record.the-variants.{Parcel}
+use Rattle.records.specs.Record.{_isA_}
+use Rattle.records.specs.declared.record.Record.{Record}
+use Rattle.records.specs.declared.record.Record.the-variants.{Parcel}
 
 -- a parcel line with the same identcode starts at the place earlier
 unfoldable pub sameParcel : List ℕ → ℕ → ℕ → Bool

@@ -8,10 +8,10 @@ use lib.ListN.{take}
 use Rattle.text.specs.Choice.{if_then_else_}
 use Rattle.refusal.specs.declared.Reason.the-variants.{ContactMissing, IdentcodeRepeated, ListFull}
 use Rattle.refusal.specs.Table.{because}
-use Rattle.fields.specs.Record.{_isA_}
-use Rattle.fields.specs.declared.record.Record.{Record}
-use Rattle.fields.specs.declared.record.Record.the-variants.{Parcel}
-use Rattle.fields.specs.declared.record.Due.the-variants.{After}
+use Rattle.records.specs.Record.{_isA_}
+use Rattle.records.specs.declared.record.Record.{Record}
+use Rattle.records.specs.declared.record.Record.the-variants.{Parcel}
+use Rattle.records.specs.declared.record.Due.the-variants.{After}
 use Rattle.fields.specs.Profile.{profile}
 use Rattle.line.specs.Told.{Told}
 use Rattle.line.specs.Parts.{split}

@@ -4,11 +4,11 @@ use mathlib.Core.Bool.{_&&_}
 use mathlib.Core.List.{List}
 use Rattle.text.specs.Choice.{if_then_else_}
 use Rattle.text.specs.Scan.{same}
-use Rattle.fields.specs.Record.{typeOf}
-use Rattle.fields.specs.Version.{isVersion}
-use Rattle.fields.specs.declared.version.Version.{Version}
-use Rattle.fields.specs.declared.version.Version.the-variants.{Five, Seven}
-use Rattle.fields.specs.declared.record.Record.the-variants.{Header}
+use Rattle.records.specs.Record.{typeOf}
+use Rattle.records.specs.Version.{isVersion}
+use Rattle.records.specs.declared.version.Version.{Version}
+use Rattle.records.specs.declared.version.Version.the-variants.{Five, Seven}
+use Rattle.records.specs.declared.record.Record.the-variants.{Header}
 use Rattle.line.specs.Parts.{nameOf, partAt}
 use Rattle.line.specs.Line.{textAt}
 

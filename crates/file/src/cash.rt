@@ -3,8 +3,8 @@ ghost use mathlib.Core.Path.{_≡_};
 ghost use Prim.Native.Nat.{_≤_};
 ghost use Rattle.line.specs.Parts.{split};
 ghost use Rattle.file.specs.Cash.{cashIn, cashOf};
-use fields::Record;
 use line::field_in;
+use records::Record;
 
 // The cents that a line of this record adds.
 pub fn cash_of(kind: Record, line: &[u8]) -> u64

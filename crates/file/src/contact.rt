@@ -2,9 +2,9 @@
 ghost use mathlib.Core.Path.{_≡_};
 ghost use Rattle.line.specs.Parts.{split};
 ghost use Rattle.file.specs.Contact.{hasContacts, contactsBehind, lacksContact};
-use fields::Record;
 use line::field_in;
 use line::is_filled;
+use records::Record;
 
 // Whether the sender behind a line of this record has both contacts; before it, the sender had them or had not.
 pub fn contacts_behind(kind: Record, line: &[u8], before: bool) -> bool

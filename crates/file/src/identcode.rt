@@ -5,8 +5,8 @@ ghost use lib.ListN.{length};
 ghost use Rattle.line.specs.Line.{fileLimit};
 ghost use Rattle.identcodes.specs.Tree.{isThere, grown};
 ghost use Rattle.file.specs.Identcode.{isThereFor, grownFor, parcelsMost, treeWords};
-use fields::Record;
 use identcodes::CodeAnswer;
+use records::Record;
 
 // Room for the tree of the most parcels that a file can have, 2,340.
 pub const TREE_WORDS: usize = 4681;

@@ -12,11 +12,11 @@ ghost use Rattle.file.specs.declared.step.Step.the-variants.{Next};
 use crate::cash;
 use crate::contact;
 use crate::identcode;
-use fields::Due;
-use fields::Record;
-use fields::Version;
 use line::Line;
 use line::LineAnswer;
+use records::Due;
+use records::Record;
+use records::Version;
 use refusal::Reason;
 use refusal::Refusal;
 

@@ -1,8 +1,8 @@
 // The version of a file, which its header decides.
 ghost use mathlib.Core.Path.{_≡_};
 ghost use Rattle.file.specs.Version.{versionIn, versionOf};
-use fields::Version;
 use line::field_in;
+use records::Version;
 
 // The version whose rules hold for the file.
 pub fn version_of(file: &[u8]) -> Version
@@ -18,7 +18,7 @@ fn version_in(line: &[u8]) -> Version
     if !text::equal(field_in(line, 0), b"010") {
         return Version::Five;
     }
-    if fields::is_version(Version::Seven, field_in(line, 6)) {
+    if records::is_version(Version::Seven, field_in(line, 6)) {
         return Version::Seven;
     }
     Version::Five

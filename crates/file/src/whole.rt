@@ -13,8 +13,8 @@ use crate::step;
 use crate::step::State;
 use crate::step::Step;
 use crate::version;
-use fields::Due;
 use line::FILE_LIMIT;
+use records::Due;
 use refusal::Reason;
 use refusal::Refusal;
 
@@ -82,7 +82,7 @@ fn run(file: &[u8], countries: &[u8], list: &mut [u32], codes: &mut [u32]) -> Fi
         }
     }
     let due = state.due;
-    if !fields::may_end(due) {
+    if !records::may_end(due) {
         list::clear(list);
         return FileAnswer::Refused(Refusal {
             why: Reason::FileEnds,

@@ -16,15 +16,15 @@ use Rattle.refusal.specs.declared.Reason.the-variants.{FieldCount, FeatureLacks
 use Rattle.refusal.specs.Table.{because}
 use Rattle.refusal.proofs.Verdicts.{no-pass}
 use Rattle.fields.specs.Profile.{Row, Rules, profile}
-use Rattle.fields.specs.Version.{versionNumbered, UnderVersion}
-use Rattle.fields.specs.declared.version.Version.{Version}
-use Rattle.fields.specs.declared.version.VersionTold.the-variants.{Either}
-use Rattle.fields.specs.Record.{typeOf, countFits}
-use Rattle.fields.specs.declared.record.Record.{Record}
-use Rattle.fields.specs.declared.record.Named.{Named}
-use Rattle.fields.specs.declared.record.Named.the-variants.{Known, Unknown}
+use Rattle.records.specs.Version.{versionNumbered, UnderVersion}
+use Rattle.records.specs.declared.version.Version.{Version}
+use Rattle.records.specs.declared.version.VersionTold.the-variants.{Either}
+use Rattle.records.specs.Record.{typeOf, countFits}
+use Rattle.records.specs.declared.record.Record.{Record}
+use Rattle.records.specs.declared.record.Named.{Named}
+use Rattle.records.specs.declared.record.Named.the-variants.{Known, Unknown}
 use Rattle.line.specs.Need.{lacks}
-use Rattle.fields.specs.declared.record.Due.{Due}
+use Rattle.records.specs.declared.record.Due.{Due}
 use Rattle.line.specs.declared.read.Line.{Line}
 use Rattle.line.specs.declared.walk.Walk.{Walk}
 use Rattle.line.specs.declared.walk.Walk.the-variants.{Fine, Stopped}
@@ -34,7 +34,7 @@ use Rattle.line.proofs.Passing.{Each, fine-each, each-fine}
 use Rattle.line.specs.Line.{lineAnswer, alone, readAnswer}
 use Rattle.line.specs.Find.{fieldAnswer, findAnswer}
 use Rattle.fields.proofs.Rules.{sound}
-use Rattle.fields.proofs.Versions.{under-is, under-passes}
+use Rattle.records.proofs.Versions.{under-is, under-passes}
 use Rattle.writer.specs.Write.{recordNumbered, risesTo, endsHold, fieldsFrom, between, testedToWrite, nextNumber, walked, ofFields, afterWalk, writeVerdict}
 use Rattle.writer.specs.Write.{ofRecord, answerUnder, writeAnswer, writtenTo, Writes}
 use Rattle.writer.specs.declared.write.WriteAnswer.{WriteAnswer}

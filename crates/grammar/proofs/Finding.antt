@@ -14,7 +14,7 @@ use Rattle.refusal.specs.declared.Reason.the-variants.{NotThere}
 use Rattle.refusal.specs.Table.{because}
 use Rattle.refusal.specs.declared.Refusal.{Refusal}
 use Rattle.refusal.proofs.Verdicts.{no-pass}
-use Rattle.fields.specs.Record.{typeOf}
+use Rattle.records.specs.Record.{typeOf}
 use Rattle.fields.specs.Profile.{Rules}
 use Rattle.line.specs.Parts.{startIn, startOf, fieldsOf, fieldNo}
 use Rattle.line.specs.Render.{joined, textOf}

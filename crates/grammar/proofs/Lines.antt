@@ -13,11 +13,11 @@ use Rattle.text.specs.Quoted.{bytes}
 use Rattle.text.specs.Scan.{all}
 use Rattle.text.proofs.Runs.{run-once}
 use Rattle.forms.specs.Shape.{digits}
-use Rattle.fields.specs.Record.{typeOf, mayCome}
+use Rattle.records.specs.Record.{typeOf, mayCome}
 use Rattle.fields.specs.Profile.{Rules}
-use Rattle.fields.specs.declared.record.Record.{Record}
-use Rattle.fields.specs.declared.record.Record.the-variants.{Parcel}
-use Rattle.fields.proofs.Types.{type-long, type-tells}
+use Rattle.records.specs.declared.record.Record.{Record}
+use Rattle.records.specs.declared.record.Record.the-variants.{Parcel}
+use Rattle.records.proofs.Types.{type-long, type-tells}
 use Rattle.fields.proofs.Rules.{Sound}
 use Rattle.line.specs.Parts.{split, partAt, fieldsOf, fieldNo}
 use Rattle.line.specs.Render.{joined, textOf, render}

@@ -16,9 +16,9 @@ use Rattle.text.specs.Scan.{all, among}
 use Rattle.text.proofs.Choices.{and-left, and-right, and-both, or-cases, true-or-false, came-then, clash}
 use Rattle.forms.specs.Shape.{allDigits, digits}
 use Rattle.forms.specs.Feature.{featureCodes, isFeature, codeOf}
-use Rattle.fields.specs.Record.{typeOf, rowOf}
-use Rattle.fields.specs.declared.record.Record.{Record}
-use Rattle.fields.specs.declared.record.Record.the-variants.{Header, Sender, Shipment, Parcel, Product, Feature}
+use Rattle.records.specs.Record.{typeOf, rowOf}
+use Rattle.records.specs.declared.record.Record.{Record}
+use Rattle.records.specs.declared.record.Record.the-variants.{Header, Sender, Shipment, Parcel, Product, Feature}
 use Rattle.line.specs.Need.{isFilled, serves, isServed, lacks}
 use Rattle.line.specs.Parts.{fieldNo}
 use Rattle.grammar.specs.Grammar.{Filled, AllFilled, Served}

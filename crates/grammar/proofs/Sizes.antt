@@ -5,11 +5,11 @@ use mathlib.Core.Bool.{true}
 use mathlib.Core.List.{List, [], append-nil}
 use native.Mathlib.Omega.{arith}
 use lib.ListN.{length, length-append}
-use Rattle.fields.specs.Record.{typeOf, mayCome}
+use Rattle.records.specs.Record.{typeOf, mayCome}
 use Rattle.fields.specs.Profile.{Row, Rules}
 use Rattle.fields.specs.Field.{tested}
-use Rattle.fields.specs.declared.record.Record.{Record}
-use Rattle.fields.proofs.Types.{type-long}
+use Rattle.records.specs.declared.record.Record.{Record}
+use Rattle.records.proofs.Types.{type-long}
 use Rattle.fields.proofs.Tests.{good-passed}
 use Rattle.fields.proofs.Rules.{within, Sound, width-le, count-le}
 use Rattle.line.specs.Render.{joined, render}

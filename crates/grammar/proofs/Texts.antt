@@ -8,11 +8,11 @@ use Rattle.text.specs.Byte.{textByte}
 use Rattle.text.specs.Scan.{all}
 use Rattle.text.proofs.Choices.{and-right}
 use Rattle.fields.specs.Profile.{Rules}
-use Rattle.fields.specs.Record.{typeOf, mayCome}
+use Rattle.records.specs.Record.{typeOf, mayCome}
 use Rattle.fields.specs.Field.{tested}
-use Rattle.fields.specs.declared.record.Record.{Record}
-use Rattle.fields.specs.declared.record.Due.{Due}
-use Rattle.fields.proofs.Types.{type-named, named-type}
+use Rattle.records.specs.declared.record.Record.{Record}
+use Rattle.records.specs.declared.record.Due.{Due}
+use Rattle.records.proofs.Types.{type-named, named-type}
 use Rattle.line.specs.Parts.{split, nameOf, fieldsOf}
 use Rattle.line.specs.Render.{textOf, plain, allIn}
 use Rattle.line.specs.Told.{Told}

@@ -8,10 +8,10 @@ use mathlib.Core.Logic.{_⊎_}
 use lib.ListN.{length, take, drop}
 use Rattle.text.specs.Quoted.{bytes}
 use Rattle.text.specs.Scan.{all}
-use Rattle.fields.specs.Record.{typeOf, countFits, mayCome}
+use Rattle.records.specs.Record.{typeOf, countFits, mayCome}
 use Rattle.fields.specs.Profile.{isRequired, hasForm, Row, widthOf, Rules}
-use Rattle.fields.specs.declared.record.Record.{Record}
-use Rattle.fields.specs.declared.record.Record.the-variants.{Feature}
+use Rattle.records.specs.declared.record.Record.{Record}
+use Rattle.records.specs.declared.record.Record.the-variants.{Feature}
 use Rattle.line.specs.Parts.{fieldNo}
 use Rattle.line.specs.Render.{textOf, render, plain}
 use Rattle.line.specs.Told.{Told}

@@ -5,9 +5,9 @@ use mathlib.Core.Bool.{true}
 use mathlib.Core.List.{List, [], _∷_, _++_}
 use lib.ListN.{length, take, drop}
 use Rattle.fields.specs.Profile.{Rules, profile}
-use Rattle.fields.specs.declared.version.Version.{Version}
-use Rattle.fields.specs.declared.record.Record.{Record}
-use Rattle.fields.specs.declared.record.Named.the-variants.{Known}
+use Rattle.records.specs.declared.version.Version.{Version}
+use Rattle.records.specs.declared.record.Record.{Record}
+use Rattle.records.specs.declared.record.Named.the-variants.{Known}
 use Rattle.line.specs.Parts.{fieldNo}
 use Rattle.line.specs.Render.{render}
 use Rattle.line.specs.Line.{readAnswer}

@@ -15,12 +15,12 @@ use Rattle.text.proofs.Runs.{first-least, first-most}
 use Rattle.refusal.specs.declared.Reason.the-variants.{FileTooLong, NoLineEnd, OutOfOrder, FieldCount, FeatureLacks}
 use Rattle.refusal.specs.Table.{because}
 use Rattle.refusal.proofs.Verdicts.{no-pass}
-use Rattle.fields.specs.Record.{named, countFits, mayCome}
-use Rattle.fields.specs.declared.record.Record.{Record}
-use Rattle.fields.specs.declared.record.Named.{Named}
-use Rattle.fields.specs.declared.record.Named.the-variants.{Known, Unknown}
+use Rattle.records.specs.Record.{named, countFits, mayCome}
+use Rattle.records.specs.declared.record.Record.{Record}
+use Rattle.records.specs.declared.record.Named.{Named}
+use Rattle.records.specs.declared.record.Named.the-variants.{Known, Unknown}
 use Rattle.line.specs.Parts.{split, nameOf, fieldsOf}
-use Rattle.fields.proofs.Types.{named-type}
+use Rattle.records.proofs.Types.{named-type}
 use Rattle.line.specs.Render.{joined, textOf, render}
 use Rattle.line.specs.Walk.{walk}
 use Rattle.line.specs.Need.{lacks}

@@ -9,4 +9,3 @@ pub mod Lines
 pub mod Ends
 pub mod Accepting
 pub mod Finding
-pub mod Starting

@@ -14,10 +14,10 @@ use Rattle.refusal.specs.declared.Reason.the-variants.{FileTooLong, NoLineEnd, 
 use Rattle.refusal.specs.Table.{because}
 use Rattle.refusal.specs.declared.Refusal.{Refusal}
 use Rattle.fields.specs.Profile.{Rules}
-use Rattle.fields.specs.Record.{named, countFits, mayCome}
-use Rattle.fields.specs.declared.record.Record.{Record}
-use Rattle.fields.specs.declared.record.Named.{Named}
-use Rattle.fields.specs.declared.record.Named.the-variants.{Known, Unknown}
+use Rattle.records.specs.Record.{named, countFits, mayCome}
+use Rattle.records.specs.declared.record.Record.{Record}
+use Rattle.records.specs.declared.record.Named.{Named}
+use Rattle.records.specs.declared.record.Named.the-variants.{Known, Unknown}
 use Rattle.line.specs.Parts.{semicolon, split, nameOf, fieldsOf}
 use Rattle.line.specs.Walk.{walk}
 use Rattle.line.specs.Need.{lacks}

@@ -7,8 +7,8 @@ use lib.Dec.{eqb}
 use lib.ListN.{length, getD}
 use borrow.Author.Tests.{ne-eqb}
 use Rattle.forms.specs.Feature.{codeOf}
-use Rattle.fields.specs.declared.record.Record.{Record}
-use Rattle.fields.specs.declared.record.Record.the-variants.{Feature}
+use Rattle.records.specs.declared.record.Record.{Record}
+use Rattle.records.specs.declared.record.Record.the-variants.{Feature}
 use Rattle.line.specs.Need.{isFilled, serves, isServed, lacks}
 
 pub filled-is : (parts : List (List ℕ)) (n : ℕ) (f : List ℕ) → f ≡ getD parts n [] → not (eqb (length f) 0) ≡ isFilled parts n

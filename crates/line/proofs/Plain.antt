@@ -10,9 +10,9 @@ use Rattle.text.specs.Quoted.{bytes}
 use Rattle.text.specs.Scan.{all}
 use Rattle.text.proofs.Choices.{and-left, and-right, and-both}
 use Rattle.text.proofs.Runs.{all-append}
-use Rattle.fields.specs.Record.{typeOf}
-use Rattle.fields.specs.declared.record.Record.{Record}
-use Rattle.fields.specs.declared.record.Record.the-variants.{Header, Sender, Shipment, Parcel, Product, Feature}
+use Rattle.records.specs.Record.{typeOf}
+use Rattle.records.specs.declared.record.Record.{Record}
+use Rattle.records.specs.declared.record.Record.the-variants.{Header, Sender, Shipment, Parcel, Product, Feature}
 use Rattle.line.specs.Parts.{semicolon, intoFirst, split, inField}
 use Rattle.line.specs.Render.{joined, textOf, render, plain, allIn}
 use Rattle.line.proofs.Splits.{split-joined}

@@ -8,7 +8,7 @@ use Rattle.text.specs.Choice.{if_then_else_}
 use Rattle.refusal.specs.Table.{because, verdictOf, Verdict}
 use Rattle.refusal.specs.declared.Reason.the-variants.{NotThere}
 use Rattle.fields.specs.Profile.{Rules, profile}
-use Rattle.fields.specs.Version.{versionNumbered, underVersion}
+use Rattle.records.specs.Version.{versionNumbered, underVersion}
 use Rattle.line.specs.Parts.{startOf, partAt}
 use Rattle.line.specs.Line.{textAt, alone, lineAnswer}
 use Rattle.line.specs.declared.read.LineAnswer.{LineAnswer}

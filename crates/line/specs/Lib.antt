@@ -5,4 +5,3 @@ pub mod Walk
 pub mod Need
 pub mod Line
 pub mod Find
-pub mod At

@@ -11,12 +11,12 @@ use Rattle.text.specs.Scan.{firstFailing, same}
 use Rattle.refusal.specs.Table.{because, verdictOf, Verdict}
 use Rattle.refusal.specs.declared.Reason.the-variants.{FileTooLong, NoLineEnd, UnknownRecord, OutOfOrder, FieldCount, FeatureLacks}
 use Rattle.fields.specs.Profile.{Rules, profile}
-use Rattle.fields.specs.Version.{versionNumbered, underVersion}
-use Rattle.fields.specs.Record.{named, countFits, mayCome}
-use Rattle.fields.specs.declared.record.Record.{Record}
-use Rattle.fields.specs.declared.record.Named.{Named}
-use Rattle.fields.specs.declared.record.Named.the-variants.{Known, Unknown}
-use Rattle.fields.specs.declared.record.Due.the-variants.{Any}
+use Rattle.records.specs.Version.{versionNumbered, underVersion}
+use Rattle.records.specs.Record.{named, countFits, mayCome}
+use Rattle.records.specs.declared.record.Record.{Record}
+use Rattle.records.specs.declared.record.Named.{Named}
+use Rattle.records.specs.declared.record.Named.the-variants.{Known, Unknown}
+use Rattle.records.specs.declared.record.Due.the-variants.{Any}
 use Rattle.line.specs.Parts.{split, nameOf, fieldsOf}
 use Rattle.line.specs.Walk.{walk}
 use Rattle.line.specs.Need.{lacks}

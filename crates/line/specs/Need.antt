@@ -8,9 +8,9 @@ use lib.ListN.{length, getD}
 use Rattle.text.specs.Choice.{if_then_else_}
 use Rattle.text.specs.Scan.{all, among}
 use Rattle.forms.specs.Feature.{codeOf}
-use Rattle.fields.specs.Record.{_isA_}
-use Rattle.fields.specs.declared.record.Record.{Record}
-use Rattle.fields.specs.declared.record.Record.the-variants.{Feature}
+use Rattle.records.specs.Record.{_isA_}
+use Rattle.records.specs.declared.record.Record.{Record}
+use Rattle.records.specs.declared.record.Record.the-variants.{Feature}
 
 -- "A field of spaces is filled; only zero bytes is empty." Part 0 is the record type, and the part with a field's number that field.
 unfoldable pub isFilled : List (List ℕ) → ℕ → Bool

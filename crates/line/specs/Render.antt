@@ -5,8 +5,8 @@ use mathlib.Core.List.{List, [], _∷_, _++_}
 use Rattle.text.specs.Byte.{textByte}
 use Rattle.text.specs.Quoted.{bytes}
 use Rattle.text.specs.Scan.{all}
-use Rattle.fields.specs.Record.{typeOf}
-use Rattle.fields.specs.declared.record.Record.{Record}
+use Rattle.records.specs.Record.{typeOf}
+use Rattle.records.specs.declared.record.Record.{Record}
 use Rattle.line.specs.Parts.{inField}
 
 -- "Semicolons divide fields": each field stands after a semicolon

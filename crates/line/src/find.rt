@@ -9,9 +9,9 @@ ghost use Rattle.line.specs.Line.{fileLimit};
 use crate::part;
 use crate::read;
 use crate::read::LineAnswer;
-use fields::Due;
-use fields::Version;
-use fields::VersionTold;
+use records::Due;
+use records::Version;
+use records::VersionTold;
 use refusal::Reason;
 use refusal::Refusal;
 
@@ -24,7 +24,7 @@ pub enum FieldAnswer {
 pub fn find_field(version: u32, file: &[u8], offset: usize, number: usize) -> FieldAnswer
     ensures { λ r. ⌜ r ≡ findAnswer version (now (file .entry)) offset number ⌝ }
 {
-    let told = fields::version_numbered(version);
+    let told = records::version_numbered(version);
     let VersionTold::Either(one) = told else {
         return FieldAnswer::Refused(Refusal {
             why: Reason::UnknownVersion,

@@ -5,7 +5,7 @@ ghost use mathlib.Core.Bool.{_||_};
 ghost use Rattle.text.specs.Scan.{all};
 ghost use Rattle.line.specs.Need.{isFilled, isServed, lacks};
 use crate::part::field_in;
-use fields::Record;
+use records::Record;
 
 // Whether a line lacks a field that its feature needs.
 pub fn lacks_field(kind: Record, line: &[u8]) -> bool

@@ -11,11 +11,11 @@ use crate::scan;
 use crate::scan::TextAnswer;
 use crate::walk;
 use crate::walk::Walk;
-use fields::Due;
-use fields::Named;
-use fields::Record;
-use fields::Version;
-use fields::VersionTold;
+use records::Due;
+use records::Named;
+use records::Record;
+use records::Version;
+use records::VersionTold;
 use refusal::Reason;
 use refusal::Refusal;
 
@@ -35,7 +35,7 @@ pub enum LineAnswer {
 pub fn read_line(version: u32, file: &[u8], offset: usize) -> LineAnswer
     ensures { λ r. ⌜ r ≡ readAnswer version (now (file .entry)) offset ⌝ }
 {
-    let told = fields::version_numbered(version);
+    let told = records::version_numbered(version);
     let VersionTold::Either(one) = told else {
         return LineAnswer::Refused(Refusal {
             why: Reason::UnknownVersion,
@@ -62,14 +62,14 @@ fn of_text(version: Version, due: Due, offset: usize, line: &[u8]) -> LineAnswer
     ensures { λ r. ⌜ r ≡ ofText (record { rules = profile version; due = due }) offset (now (line .entry)) ⌝ }
 {
     let name = field_in(line, 0);
-    let named = fields::record_named(name);
+    let named = records::record_named(name);
     let Named::Known(kind) = named else {
         return LineAnswer::Refused(Refusal {
             why: Reason::UnknownRecord,
             place: offset,
         });
     };
-    if !fields::may_come(due, kind) {
+    if !records::may_come(due, kind) {
         return LineAnswer::Refused(Refusal {
             why: Reason::OutOfOrder,
             place: offset,
@@ -84,7 +84,7 @@ fn of_kind(version: Version, kind: Record, offset: usize, line: &[u8], name: usi
     ensures { λ r. ⌜ r ≡ ofKind (profile version) kind offset (now (line .entry)) ⌝ }
 {
     let count = scan::field_count(line);
-    if !fields::count_fits(kind, count) {
+    if !records::count_fits(kind, count) {
         return LineAnswer::Refused(Refusal {
             why: Reason::FieldCount,
             place: offset,

@@ -7,9 +7,9 @@ ghost use Rattle.line.specs.Parts.{nameOf, fieldsOf};
 ghost use Rattle.line.specs.Walk.{walk};
 ghost use Rattle.line.specs.Line.{fileLimit};
 use crate::scan::field_end;
-use fields::Record;
 use fields::Tested;
-use fields::Version;
+use records::Record;
+use records::Version;
 use refusal::Refusal;
 
 pub enum Walk {

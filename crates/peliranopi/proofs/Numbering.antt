@@ -1,8 +1,8 @@
 -- The number that reading a line tells of its record is the one that the writer takes for it.
 use mathlib.Core.Path.{_≡_, refl}
-use Rattle.fields.specs.declared.record.Record.{Record}
-use Rattle.fields.specs.declared.record.Record.the-variants.{Header, Sender, Shipment, Parcel, Product, Feature}
-use Rattle.fields.specs.declared.record.Named.the-variants.{Known}
+use Rattle.records.specs.declared.record.Record.{Record}
+use Rattle.records.specs.declared.record.Record.the-variants.{Header, Sender, Shipment, Parcel, Product, Feature}
+use Rattle.records.specs.declared.record.Named.the-variants.{Known}
 use Rattle.writer.specs.Write.{recordNumbered}
 use Rattle.peliranopi.specs.Told.{recordNumber}
 

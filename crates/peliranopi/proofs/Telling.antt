@@ -5,7 +5,7 @@ use mathlib.Core.List.{List}
 use Rattle.refusal.specs.Table.{Verdict}
 use Rattle.check_characters.specs.Answer.{issuedTo}
 use Rattle.check_characters.specs.declared.answer.IssueAnswer.{IssueAnswer}
-use Rattle.fields.specs.declared.record.Named.{Named}
+use Rattle.records.specs.declared.record.Named.{Named}
 use Rattle.writer.specs.Write.{writtenTo}
 use Rattle.writer.specs.declared.write.WriteAnswer.{WriteAnswer}
 use Rattle.purpose.specs.Purpose.{listAfter, outputAfter}

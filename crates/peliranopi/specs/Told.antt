@@ -15,8 +15,8 @@ use Rattle.check_characters.specs.declared.carry.CarryAnswer.the-variants as ke
 use Rattle.check_characters.specs.declared.identcode.Parts.{Parts}
 use Rattle.check_characters.specs.declared.identcode.PartsAnswer.{PartsAnswer}
 use Rattle.check_characters.specs.declared.identcode.PartsAnswer.the-variants as parted
-use Rattle.fields.specs.declared.record.Record.{Record}
-use Rattle.fields.specs.declared.record.Record.the-variants.{Header, Sender, Shipment, Parcel, Product, Feature}
+use Rattle.records.specs.declared.record.Record.{Record}
+use Rattle.records.specs.declared.record.Record.the-variants.{Header, Sender, Shipment, Parcel, Product, Feature}
 use Rattle.line.specs.declared.read.LineAnswer.{LineAnswer}
 use Rattle.line.specs.declared.read.LineAnswer.the-variants as read
 use Rattle.line.specs.declared.find.FieldAnswer.{FieldAnswer}

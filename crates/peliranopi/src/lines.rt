@@ -3,9 +3,9 @@ ghost use mathlib.Core.Path.{_≡_};
 ghost use Rattle.peliranopi.specs.Told.{recordNumber};
 ghost use Rattle.peliranopi.specs.Calls.{LineTells, FieldTells, WriteTells};
 use crate::tell;
-use fields::Record;
 use line::FieldAnswer;
 use line::LineAnswer;
+use records::Record;
 use writer::WriteAnswer;
 
 #[no_mangle]

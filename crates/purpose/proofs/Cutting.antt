@@ -9,7 +9,7 @@ use lib.Seq.{take-nil, take-append-seam, drop-append-add, drop-drop}
 use borrow.Author.Tests.{le-leb}
 use Rattle.text.specs.Placed.{written, placed}
 use Rattle.text.specs.Quoted.{bytes}
-use Rattle.line.specs.At.{fieldAt}
+use Rattle.purpose.specs.At.{fieldAt}
 use Rattle.purpose.specs.Purpose.{purposeLong, cut, sourceText}
 use Rattle.purpose.specs.declared.source.Source.{Source}
 use Rattle.purpose.specs.declared.source.Source.the-variants.{Field, Joined}

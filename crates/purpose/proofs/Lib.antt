@@ -1,3 +1,4 @@
+pub mod Starting
 pub mod Seeking
 pub mod Cutting
 pub mod Answering

@@ -13,7 +13,7 @@ use Rattle.text.specs.Quoted.{bytes}
 use Rattle.line.specs.Parts.{split}
 use Rattle.line.specs.Need.{isFilled}
 use Rattle.line.specs.Line.{textAt}
-use Rattle.line.specs.At.{isTyped}
+use Rattle.purpose.specs.At.{isTyped}
 use Rattle.purpose.specs.Source.{isCashLine, shipmentAbove, firstParcel, fromShipment, forFeature, sourceOf}
 use Rattle.purpose.specs.declared.source.Source.{Source}
 use Rattle.purpose.specs.declared.source.Source.the-variants.{Field}

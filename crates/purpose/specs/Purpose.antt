@@ -13,7 +13,7 @@ use Rattle.file.specs.Lent.{Lent}
 use Rattle.file.specs.File.{judged, listOf}
 use Rattle.file.specs.declared.whole.FileAnswer.{FileAnswer}
 use Rattle.file.specs.declared.whole.FileAnswer.the-variants.{Accepted, Refused}
-use Rattle.line.specs.At.{fieldAt}
+use Rattle.purpose.specs.At.{fieldAt}
 use Rattle.purpose.specs.Source.{sourceOf}
 use Rattle.purpose.specs.declared.source.Source.{Source}
 use Rattle.purpose.specs.declared.source.Source.the-variants.{Field, Joined}

@@ -8,7 +8,7 @@ use lib.ListN.{length, drop, getD}
 use Rattle.text.specs.Choice.{if_then_else_}
 use Rattle.text.specs.Quoted.{bytes}
 use Rattle.text.specs.Scan.{same}
-use Rattle.line.specs.At.{fieldAt, filledAt, isTyped}
+use Rattle.purpose.specs.At.{fieldAt, filledAt, isTyped}
 use Rattle.purpose.specs.declared.source.Source.{Source}
 use Rattle.purpose.specs.declared.source.Source.the-variants.{Field, Joined}
 use Rattle.purpose.specs.declared.source.Sourced.{Sourced}

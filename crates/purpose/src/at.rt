@@ -1,7 +1,7 @@
 // The lines of a judged file, known by where they start: their types and fields. Nothing is judged here; past the file no bytes stand.
 ghost use mathlib.Core.Path.{_≡_};
 ghost use lib.ListN.{getD};
-ghost use Rattle.line.specs.At.{fieldAt, filledAt, isTyped};
+ghost use Rattle.purpose.specs.At.{fieldAt, filledAt, isTyped};
 
 // Where the line with this number starts; 0 where the list has no such line.
 pub fn offset_of(starts: &[u32], number: usize) -> usize

@@ -6,11 +6,11 @@ use mathlib.Core.List.{List, [], _∷_, _++_, append-assoc, append-nil}
 use lib.ListN.{length, drop, length-append}
 use lib.Seq.{drop-append-seam}
 use Rattle.text.proofs.Choices.{or-neither}
-use Rattle.fields.specs.Record.{mayCome}
+use Rattle.records.specs.Record.{mayCome}
 use Rattle.fields.specs.Profile.{Rules, profile}
 use Rattle.file.specs.Version.{versionOf}
-use Rattle.fields.specs.declared.record.Due.{Due}
-use Rattle.fields.specs.declared.record.Due.the-variants.{First, After}
+use Rattle.records.specs.declared.record.Due.{Due}
+use Rattle.records.specs.declared.record.Due.the-variants.{First, After}
 use Rattle.grammar.specs.Grammar.{LineOk}
 use Rattle.allowed.specs.Allowed.{FileLine, lineBytes, fileBytes, LinesOk, codesOn, identcodes, oneOfCodes, NoneTwice}
 use Rattle.allowed.proofs.Codes.{Fresh, codes-append}

@@ -7,11 +7,11 @@ use mathlib.Core.Logic.{_⊎_, inl, inr, _↔_}
 use lib.ListN.{length}
 use Rattle.refusal.specs.declared.Refusal.{Refusal}
 use Rattle.refusal.proofs.Verdicts.{no-pass}
-use Rattle.fields.specs.Record.{mayEnd}
+use Rattle.records.specs.Record.{mayEnd}
 use Rattle.fields.specs.Profile.{profile}
-use Rattle.fields.specs.declared.version.Version.{Version}
-use Rattle.fields.specs.declared.record.Due.{Due}
-use Rattle.fields.specs.declared.record.Due.the-variants.{First, After}
+use Rattle.records.specs.declared.version.Version.{Version}
+use Rattle.records.specs.declared.record.Due.{Due}
+use Rattle.records.specs.declared.record.Due.the-variants.{First, After}
 use Rattle.file.specs.Lent.{Lent}
 use Rattle.file.specs.Version.{versionOf}
 use Rattle.file.specs.File.{Judged, judged, listOf, Judges, fileVerdict}

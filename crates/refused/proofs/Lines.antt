@@ -19,8 +19,8 @@ use Rattle.refusal.specs.Table.{because}
 use Rattle.refusal.specs.declared.Refusal.{Refusal}
 use Rattle.refusal.specs.declared.Reason.the-variants.{FileTooLong, NoLineEnd}
 use Rattle.refusal.proofs.Verdicts.{no-pass}
-use Rattle.fields.specs.Record.{typeOf}
-use Rattle.fields.specs.declared.record.Record.the-variants.{Feature}
+use Rattle.records.specs.Record.{typeOf}
+use Rattle.records.specs.declared.record.Record.the-variants.{Feature}
 use Rattle.line.specs.Parts.{nameOf, fieldsOf}
 use Rattle.line.specs.Render.{joined, plain, allIn}
 use Rattle.line.specs.Told.{Told}

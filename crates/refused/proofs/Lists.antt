@@ -5,9 +5,9 @@ use mathlib.Core.Bool.{true}
 use mathlib.Core.List.{List, [], _∷_, _++_, append-nil}
 use Rattle.refusal.specs.declared.Refusal.{Refusal}
 use Rattle.countries.specs.List.{isPaired}
-use Rattle.fields.specs.declared.record.Record.the-variants.{Sender}
+use Rattle.records.specs.declared.record.Record.the-variants.{Sender}
 use Rattle.fields.specs.Profile.{profile}
-use Rattle.fields.specs.declared.version.Version.{Version}
+use Rattle.records.specs.declared.version.Version.{Version}
 use Rattle.file.specs.Lent.{Lent}
 use Rattle.file.specs.File.{Judges}
 use Rattle.file.specs.declared.whole.Totals.{Totals}

@@ -8,9 +8,9 @@ use native.Mathlib.Omega.{arith}
 use borrow.Author.Tests.{not-true}
 use Rattle.text.proofs.Choices.{and-left, and-right, true-or-false, clash}
 use Rattle.countries.specs.List.{isListed}
-use Rattle.fields.specs.Record.{typeOf}
-use Rattle.fields.specs.declared.record.Record.{Record}
-use Rattle.fields.specs.declared.record.Record.the-variants.{Header, Sender, Shipment, Parcel, Product, Feature}
+use Rattle.records.specs.Record.{typeOf}
+use Rattle.records.specs.declared.record.Record.{Record}
+use Rattle.records.specs.declared.record.Record.the-variants.{Header, Sender, Shipment, Parcel, Product, Feature}
 use Rattle.line.specs.Parts.{fieldNo}
 use Rattle.file.specs.Contact.{hasContacts, contactsBehind, lacksContact}
 use Rattle.allowed.specs.Allowed.{FileLine, HasContacts}

@@ -8,14 +8,14 @@ use Rattle.refusal.specs.Table.{because}
 use Rattle.refusal.specs.declared.Reason.the-variants.{FieldForm}
 use Rattle.check_characters.specs.Identcode.{checkedIdentcode}
 use Rattle.check_characters.specs.declared.answer.CheckAnswer.the-variants.{Accepted}
-use Rattle.fields.specs.Record.{typeOf}
+use Rattle.records.specs.Record.{typeOf}
 use Rattle.fields.specs.Form.{isIdentcode}
 use Rattle.fields.specs.Profile.{profile, widthInTable, widthOf, hasForm}
-use Rattle.fields.specs.declared.version.Version.{Version}
-use Rattle.fields.specs.declared.version.Version.the-variants.{Five, Seven}
-use Rattle.fields.specs.declared.record.Due.{Due}
-use Rattle.fields.specs.declared.record.Due.the-variants.{First}
-use Rattle.fields.specs.declared.record.Record.the-variants.{Parcel}
+use Rattle.records.specs.declared.version.Version.{Version}
+use Rattle.records.specs.declared.version.Version.the-variants.{Five, Seven}
+use Rattle.records.specs.declared.record.Due.{Due}
+use Rattle.records.specs.declared.record.Due.the-variants.{First}
+use Rattle.records.specs.declared.record.Record.the-variants.{Parcel}
 use Rattle.fields.proofs.Forms.{accepted-is, not-accepted}
 use Rattle.fields.proofs.Rules.{sound}
 use Rattle.text.specs.Quoted.{bytes}

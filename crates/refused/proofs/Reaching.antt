@@ -11,7 +11,7 @@ use Rattle.text.specs.Quoted.{bytes}
 use Rattle.refusal.specs.Table.{because}
 use Rattle.refusal.specs.declared.Refusal.{Refusal}
 use Rattle.refusal.specs.declared.Reason.the-variants.{IdentcodeRepeated, ListFull, FileEnds, ContactMissing}
-use Rattle.fields.specs.Record.{mayEnd}
+use Rattle.records.specs.Record.{mayEnd}
 use Rattle.line.specs.Line.{fileLimit}
 use Rattle.countries.specs.List.{isPaired}
 use Rattle.file.specs.Lent.{Lent}

@@ -14,8 +14,8 @@ use Rattle.refusal.specs.Table.{because}
 use Rattle.refusal.specs.declared.Refusal.{Refusal}
 use Rattle.refusal.specs.declared.Reason.the-variants.{FileTooLong, IdentcodeRepeated, ListFull, FileEnds, ContactMissing, CountriesOdd}
 use Rattle.refusal.proofs.Verdicts.{no-pass}
-use Rattle.fields.specs.Record.{mayCome, mayEnd}
-use Rattle.fields.specs.declared.record.Due.{Due}
+use Rattle.records.specs.Record.{mayCome, mayEnd}
+use Rattle.records.specs.declared.record.Due.{Due}
 use Rattle.line.specs.Parts.{split, fieldsOf}
 use Rattle.line.specs.Told.{Told}
 use Rattle.line.specs.Line.{textAt, lineAnswer, fileLimit}
@@ -27,7 +27,7 @@ use Rattle.grammar.proofs.Lines.{accepted-reads}
 use Rattle.countries.specs.List.{isPaired}
 use Rattle.fields.specs.Profile.{profile}
 use Rattle.fields.proofs.Rules.{sound}
-use Rattle.fields.specs.declared.version.Version.{Version}
+use Rattle.records.specs.declared.version.Version.{Version}
 use Rattle.file.specs.Lent.{Lent}
 use Rattle.file.specs.Version.{versionOf}
 use Rattle.file.specs.Contact.{lacksContact}

@@ -8,14 +8,14 @@ use lib.ListN.{length, drop, length-append}
 use Rattle.refusal.specs.Table.{because}
 use Rattle.refusal.specs.declared.Refusal.{Refusal}
 use Rattle.refusal.specs.declared.Reason.the-variants.{ContactMissing, IdentcodeRepeated, ListFull}
-use Rattle.fields.specs.Record.{typeOf, mayCome}
+use Rattle.records.specs.Record.{typeOf, mayCome}
 use Rattle.fields.specs.Profile.{profile}
-use Rattle.fields.specs.declared.version.Version.{Version}
+use Rattle.records.specs.declared.version.Version.{Version}
 use Rattle.file.specs.Version.{versionOf}
-use Rattle.fields.specs.declared.record.Record.{Record}
-use Rattle.fields.specs.declared.record.Record.the-variants.{Header, Sender, Shipment, Parcel, Product, Feature}
-use Rattle.fields.specs.declared.record.Due.{Due}
-use Rattle.fields.specs.declared.record.Due.the-variants.{First}
+use Rattle.records.specs.declared.record.Record.{Record}
+use Rattle.records.specs.declared.record.Record.the-variants.{Header, Sender, Shipment, Parcel, Product, Feature}
+use Rattle.records.specs.declared.record.Due.{Due}
+use Rattle.records.specs.declared.record.Due.the-variants.{First}
 use Rattle.fields.proofs.Rules.{sound}
 use Rattle.line.specs.Parts.{split, fieldNo}
 use Rattle.line.specs.Line.{textAt}

@@ -14,12 +14,12 @@ use Rattle.refusal.specs.declared.Refusal.{Refusal}
 use Rattle.refusal.specs.declared.Reason.{Reason}
 use Rattle.refusal.specs.declared.Reason.the-variants.{UnknownRecord, OutOfOrder, FieldCount, FeatureLacks}
 use Rattle.refusal.proofs.Verdicts.{no-pass}
-use Rattle.fields.specs.Record.{typeOf, named, countFits, mayCome}
+use Rattle.records.specs.Record.{typeOf, named, countFits, mayCome}
 use Rattle.fields.specs.Field.{tested}
-use Rattle.fields.specs.declared.record.Record.{Record}
-use Rattle.fields.specs.declared.record.Named.{Named}
-use Rattle.fields.specs.declared.record.Named.the-variants.{Known, Unknown}
-use Rattle.fields.proofs.Types.{type-named, named-type}
+use Rattle.records.specs.declared.record.Record.{Record}
+use Rattle.records.specs.declared.record.Named.{Named}
+use Rattle.records.specs.declared.record.Named.the-variants.{Known, Unknown}
+use Rattle.records.proofs.Types.{type-named, named-type}
 use Rattle.line.specs.Parts.{split}
 use Rattle.line.specs.Render.{joined, textOf, plain, allIn}
 use Rattle.line.specs.Told.{Told}

@@ -6,11 +6,11 @@ use native.Mathlib.Omega.{arith}
 use Rattle.refusal.specs.Table.{because}
 use Rattle.refusal.specs.declared.Refusal.{Refusal}
 use Rattle.refusal.specs.declared.Reason.the-variants.{UnknownVersion}
-use Rattle.fields.specs.Version.{versionNumbered, underVersion, UnderVersion}
-use Rattle.fields.specs.declared.version.Version.{Version}
-use Rattle.fields.specs.declared.version.VersionTold.{VersionTold}
-use Rattle.fields.specs.declared.version.VersionTold.the-variants.{Either, Neither}
-use Rattle.fields.proofs.Versions.{under-is, under-passes}
+use Rattle.records.specs.Version.{versionNumbered, underVersion, UnderVersion}
+use Rattle.records.specs.declared.version.Version.{Version}
+use Rattle.records.specs.declared.version.VersionTold.{VersionTold}
+use Rattle.records.specs.declared.version.VersionTold.the-variants.{Either, Neither}
+use Rattle.records.proofs.Versions.{under-is, under-passes}
 use Rattle.refused.specs.Line.{RefusedTold}
 
 pub same-version : {v w : Version} → Either v ≡ Either w → v ≡ w

@@ -9,11 +9,11 @@ use Rattle.text.specs.Quoted.{bytes}
 use Rattle.refusal.specs.Table.{because}
 use Rattle.refusal.specs.declared.Refusal.{Refusal}
 use Rattle.refusal.specs.declared.Reason.the-variants.{FileTooLong, IdentcodeRepeated, ListFull, FileEnds, ContactMissing, CountriesOdd}
-use Rattle.fields.specs.Record.{mayCome, mayEnd}
+use Rattle.records.specs.Record.{mayCome, mayEnd}
 use Rattle.fields.specs.Profile.{profile}
-use Rattle.fields.specs.declared.record.Record.the-variants.{Sender, Shipment, Parcel}
-use Rattle.fields.specs.declared.record.Due.{Due}
-use Rattle.fields.specs.declared.record.Due.the-variants.{First, After}
+use Rattle.records.specs.declared.record.Record.the-variants.{Sender, Shipment, Parcel}
+use Rattle.records.specs.declared.record.Due.{Due}
+use Rattle.records.specs.declared.record.Due.the-variants.{First, After}
 use Rattle.line.specs.Parts.{fieldNo}
 use Rattle.line.specs.Told.{Told}
 use Rattle.line.specs.Line.{fileLimit}

@@ -23,13 +23,13 @@ use Rattle.refusal.specs.declared.Reason.the-variants.{
   NotThere,
   UnknownVersion,
 }
-use Rattle.fields.specs.Record.{typeOf, countFits, mayCome}
+use Rattle.records.specs.Record.{typeOf, countFits, mayCome}
 use Rattle.fields.specs.Profile.{Row, Rules, widthOf, isRequired, hasForm}
-use Rattle.fields.specs.Version.{versionNumbered}
-use Rattle.fields.specs.declared.version.Version.{Version}
-use Rattle.fields.specs.declared.version.VersionTold.the-variants.{Either, Neither}
-use Rattle.fields.specs.declared.record.Record.{Record}
-use Rattle.fields.specs.declared.record.Record.the-variants.{Feature}
+use Rattle.records.specs.Version.{versionNumbered}
+use Rattle.records.specs.declared.version.Version.{Version}
+use Rattle.records.specs.declared.version.VersionTold.the-variants.{Either, Neither}
+use Rattle.records.specs.declared.record.Record.{Record}
+use Rattle.records.specs.declared.record.Record.the-variants.{Feature}
 use Rattle.line.specs.Parts.{partBefore}
 use Rattle.line.specs.Render.{joined, textOf, plain, allIn}
 use Rattle.line.specs.Told.{Told}

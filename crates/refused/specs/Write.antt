@@ -10,11 +10,11 @@ use Rattle.refusal.specs.Table.{because}
 use Rattle.refusal.specs.declared.Refusal.{Refusal}
 use Rattle.refusal.specs.declared.Reason.{Reason}
 use Rattle.refusal.specs.declared.Reason.the-variants.{UnknownRecord, FieldEnds, FieldCount, FieldForm, FeatureLacks, OutputTooShort}
-use Rattle.fields.specs.Record.{typeOf, countFits}
+use Rattle.records.specs.Record.{typeOf, countFits}
 use Rattle.fields.specs.Profile.{Row, Rules, widthOf}
-use Rattle.fields.specs.declared.record.Record.{Record}
-use Rattle.fields.specs.declared.record.Record.the-variants.{Feature}
-use Rattle.fields.specs.declared.record.Named.the-variants.{Known, Unknown}
+use Rattle.records.specs.declared.record.Record.{Record}
+use Rattle.records.specs.declared.record.Record.the-variants.{Feature}
+use Rattle.records.specs.declared.record.Named.the-variants.{Known, Unknown}
 use Rattle.line.specs.Parts.{partBefore}
 use Rattle.line.specs.Render.{render, plain}
 use Rattle.grammar.specs.Grammar.{FieldsOk, Served, LineOk}

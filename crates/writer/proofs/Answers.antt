@@ -14,11 +14,11 @@ use Rattle.refusal.specs.declared.Reason.the-variants.{UnknownRecord, FieldCoun
 use Rattle.refusal.specs.Table.{because}
 use Rattle.refusal.specs.declared.Refusal.{Refusal}
 use Rattle.fields.specs.Profile.{Row, Rules, profile}
-use Rattle.fields.specs.declared.version.Version.{Version}
-use Rattle.fields.specs.Record.{typeOf, countFits}
-use Rattle.fields.specs.declared.record.Record.{Record}
-use Rattle.fields.specs.declared.record.Named.{Named}
-use Rattle.fields.specs.declared.record.Named.the-variants.{Known, Unknown}
+use Rattle.records.specs.declared.version.Version.{Version}
+use Rattle.records.specs.Record.{typeOf, countFits}
+use Rattle.records.specs.declared.record.Record.{Record}
+use Rattle.records.specs.declared.record.Named.{Named}
+use Rattle.records.specs.declared.record.Named.the-variants.{Known, Unknown}
 use Rattle.line.specs.Parts.{split}
 use Rattle.line.specs.Need.{lacks}
 use Rattle.line.specs.declared.walk.Walk.{Walk}

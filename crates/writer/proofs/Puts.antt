@@ -10,9 +10,9 @@ use lib.Seq.{drop-cons}
 use Rattle.text.specs.Quoted.{bytes}
 use Rattle.text.specs.Placed.{placed}
 use Rattle.text.proofs.Placing.{placed-none, placed-long, placed-on}
-use Rattle.fields.specs.Record.{typeOf}
-use Rattle.fields.specs.declared.record.Record.{Record}
-use Rattle.fields.proofs.Types.{type-long}
+use Rattle.records.specs.Record.{typeOf}
+use Rattle.records.specs.declared.record.Record.{Record}
+use Rattle.records.proofs.Types.{type-long}
 use Rattle.line.specs.Render.{joined, textOf, render}
 use Rattle.line.proofs.Plain.{render-long}
 use Rattle.writer.specs.Write.{risesTo, endsHold, fieldsFrom, between}

@@ -12,11 +12,11 @@ use Rattle.text.proofs.Choices.{and-both, came-then}
 use Rattle.refusal.specs.declared.Reason.{Reason}
 use Rattle.refusal.specs.declared.Reason.the-variants.{FieldForm}
 use Rattle.refusal.specs.Table.{because}
-use Rattle.fields.specs.Record.{typeOf}
+use Rattle.records.specs.Record.{typeOf}
 use Rattle.fields.specs.Profile.{profile, Row}
 use Rattle.fields.specs.Field.{tested}
-use Rattle.fields.specs.declared.record.Record.{Record}
-use Rattle.fields.specs.declared.version.Version.{Version}
+use Rattle.records.specs.declared.record.Record.{Record}
+use Rattle.records.specs.declared.version.Version.{Version}
 use Rattle.fields.specs.declared.field.Tested.{Tested}
 use Rattle.fields.specs.declared.field.Tested.the-variants.{Good, Bad}
 use Rattle.fields.proofs.Tests.{bad, good-passed}

@@ -12,13 +12,13 @@ use Rattle.text.specs.Scan.{all}
 use Rattle.refusal.specs.Table.{because, verdictOf, Verdict}
 use Rattle.refusal.specs.declared.Reason.the-variants.{UnknownRecord, FieldCount, FieldForm, FeatureLacks, OutputTooShort, FieldEnds}
 use Rattle.fields.specs.Profile.{Row, Rules, profile}
-use Rattle.fields.specs.Version.{versionNumbered, underVersion}
-use Rattle.fields.specs.Record.{typeOf, countFits}
+use Rattle.records.specs.Version.{versionNumbered, underVersion}
+use Rattle.records.specs.Record.{typeOf, countFits}
 use Rattle.fields.specs.Field.{tested}
-use Rattle.fields.specs.declared.record.Record.{Record}
-use Rattle.fields.specs.declared.record.Record.the-variants.{Header, Sender, Shipment, Parcel, Product, Feature}
-use Rattle.fields.specs.declared.record.Named.{Named}
-use Rattle.fields.specs.declared.record.Named.the-variants.{Known, Unknown}
+use Rattle.records.specs.declared.record.Record.{Record}
+use Rattle.records.specs.declared.record.Record.the-variants.{Header, Sender, Shipment, Parcel, Product, Feature}
+use Rattle.records.specs.declared.record.Named.{Named}
+use Rattle.records.specs.declared.record.Named.the-variants.{Known, Unknown}
 use Rattle.fields.specs.declared.field.Tested.{Tested}
 use Rattle.fields.specs.declared.field.Tested.the-variants.{Good, Bad}
 use Rattle.line.specs.Render.{render, plain}

@@ -4,10 +4,10 @@ ghost use mathlib.Core.Bool.{true};
 ghost use Prim.Native.Nat.{_+_, _≤_};
 ghost use lib.ListN.{length};
 ghost use Rattle.text.specs.Placed.{placed};
-ghost use Rattle.fields.specs.Record.{typeOf};
+ghost use Rattle.records.specs.Record.{typeOf};
 ghost use Rattle.line.specs.Render.{joined, render};
 ghost use Rattle.writer.specs.Write.{endsHold, between};
-use fields::Record;
+use records::Record;
 
 // Puts the line at the front of a room. Answers how long it is.
 pub fn put_line(room: &mut [u8], kind: Record, text: &[u8], ends: &[usize]) -> usize

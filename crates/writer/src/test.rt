@@ -3,14 +3,14 @@ ghost use mathlib.Core.Path.{_≡_};
 ghost use mathlib.Core.Bool.{true};
 ghost use lib.ListN.{length};
 ghost use Rattle.text.specs.Scan.{all};
-ghost use Rattle.fields.specs.Record.{typeOf};
+ghost use Rattle.records.specs.Record.{typeOf};
 ghost use Rattle.fields.specs.Profile.{profile};
 ghost use Rattle.line.specs.Render.{plain};
 ghost use Rattle.writer.specs.Write.{endsHold, between, testedToWrite, walked};
-use fields::Record;
 use fields::Tested;
-use fields::Version;
 use line::Walk;
+use records::Record;
+use records::Version;
 use refusal::Reason;
 use refusal::Refusal;
 

@@ -3,17 +3,17 @@ ghost use mathlib.Core.Path.{_≡_};
 ghost use mathlib.Core.Bool.{true};
 ghost use Prim.Native.Nat.{_+_, _≤_};
 ghost use lib.ListN.{length};
-ghost use Rattle.fields.specs.Record.{typeOf, countFits};
+ghost use Rattle.records.specs.Record.{typeOf, countFits};
 ghost use Rattle.fields.specs.Profile.{profile};
 ghost use Rattle.line.specs.Render.{plain, allIn};
 ghost use Rattle.writer.specs.Write.{recordNumbered, endsHold, between, walked, ofFields, afterWalk, ofRecord, lineTo, Writes};
 use crate::put;
 use crate::test;
-use fields::Named;
-use fields::Record;
-use fields::Version;
-use fields::VersionTold;
 use line::Walk;
+use records::Named;
+use records::Record;
+use records::Version;
+use records::VersionTold;
 use refusal::Reason;
 use refusal::Refusal;
 
@@ -35,7 +35,7 @@ pub fn write_line(
 ) -> WriteAnswer
     ensures { λ r. ⌜ Writes version number (now (text .entry)) (now (ends .entry)) (now (output .entry)) fill r (now (output .exit)) ⌝ }
 {
-    let told = fields::version_numbered(version);
+    let told = records::version_numbered(version);
     let VersionTold::Either(one) = told else {
         return WriteAnswer::Refused(Refusal {
             why: Reason::UnknownVersion,
@@ -70,7 +70,7 @@ fn of_record(
             place: 0,
         });
     }
-    if !fields::count_fits(kind, ends.len()) {
+    if !records::count_fits(kind, ends.len()) {
         return WriteAnswer::Refused(Refusal {
             why: Reason::FieldCount,
             place: 0,

@@ -1,5 +1,5 @@
 -- `table::table_width` meets its contract.
-use Rattle.fields.proofs.Records.{row-below}
+use Rattle.records.proofs.Records.{row-below}
 use Rattle.fields.proofs.Tables.{width-there, no-width}
 use borrow.Author.Needs.{needs}
 use Rattle.fields.proofs.table.table_width.Statement.{statement}

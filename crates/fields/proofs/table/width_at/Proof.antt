@@ -1,7 +1,7 @@
 -- `table::width_at` meets its contract: each version's table is what the papers' widths give.
-use Rattle.fields.specs.Record.{recordAt}
+use Rattle.records.specs.Record.{recordAt}
 use Rattle.fields.specs.Profile.{profile, widthInTable}
-use Rattle.fields.specs.declared.version.Version.the-variants.{Five, Seven}
+use Rattle.records.specs.declared.version.Version.the-variants.{Five, Seven}
 use Rattle.fields.proofs.Tables.{table-at, width-in}
 use borrow.Author.Needs.{needs}
 use Rattle.fields.proofs.table.width_at.Statement.{statement}

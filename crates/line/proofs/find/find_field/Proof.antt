@@ -1,6 +1,6 @@
 -- `find::find_field` meets its contract.
 use Rattle.line.specs.Find.{findAnswer}
-use Rattle.fields.proofs.Versions.{under-neither, under-either}
+use Rattle.records.proofs.Versions.{under-neither, under-either}
 use borrow.Author.Needs.{needs}
 use Rattle.line.proofs.find.find_field.Statement.{statement}
 use Rattle.line.proofs.find.find_field.Tie as tie

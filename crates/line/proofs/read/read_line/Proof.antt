@@ -1,6 +1,6 @@
 -- `read::read_line` meets its contract.
 use Rattle.line.specs.Line.{readAnswer}
-use Rattle.fields.proofs.Versions.{under-neither, under-either}
+use Rattle.records.proofs.Versions.{under-neither, under-either}
 use borrow.Author.Needs.{needs}
 use Rattle.line.proofs.read.read_line.Statement.{statement}
 use Rattle.line.proofs.read.read_line.Tie as tie

@@ -1,5 +1,5 @@
 -- `at::field_at` meets its contract.
-use Rattle.line.proofs.Starting.{part-told}
+use Rattle.purpose.proofs.Starting.{part-told}
 use borrow.Author.Needs.{needs}
 use Rattle.purpose.proofs.at.field_at.Statement.{statement}
 use Rattle.purpose.proofs.at.field_at.Tie as tie

@@ -1,5 +1,5 @@
 -- `at::is_filled_at` meets its contract.
-use Rattle.line.proofs.Starting.{filled-told}
+use Rattle.purpose.proofs.Starting.{filled-told}
 use borrow.Author.Needs.{needs}
 use Rattle.purpose.proofs.at.is_filled_at.Statement.{statement}
 use Rattle.purpose.proofs.at.is_filled_at.Tie as tie

@@ -1,6 +1,6 @@
 -- `at::is_typed` meets its contract.
 use Rattle.text.proofs.Scans.{same-as}
-use Rattle.line.specs.At.{isTyped}
+use Rattle.purpose.specs.At.{isTyped}
 use borrow.Author.Needs.{needs}
 use Rattle.purpose.proofs.at.is_typed.Statement.{statement}
 use Rattle.purpose.proofs.at.is_typed.Tie as tie

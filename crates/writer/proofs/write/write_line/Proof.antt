@@ -1,5 +1,5 @@
 -- `write::write_line` meets its contract.
-use Rattle.fields.proofs.Versions.{under-neither, under-either}
+use Rattle.records.proofs.Versions.{under-neither, under-either}
 use Rattle.writer.specs.Write.{writeAnswer}
 use Rattle.writer.proofs.Answers.{number-unknown, number-known, output-stays, output-after}
 use borrow.Author.Needs.{needs}
