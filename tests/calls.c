@@ -15,6 +15,9 @@
 static const uint32_t starts[6] = {0, 74, 116, 178, 208, 216};
 static uint8_t example[276], silent[276], miskeyed[276], seven[276];
 
+/* The same, as long, with `CC` as the parcel's type, which is too long in version 7 alone; under a header of version 5, and of 7. */
+static uint8_t long_type[2][276];
+
 /* Numbers that are no version of a file; cut to 8 or 16 bits some would be. */
 static const uint32_t no_versions[12] = {0, 1, 4, 6, 8, 55, 57, 256 + 5, 256 + 7, 65536 + 5, 65536 + 7, UINT32_MAX};
 
@@ -167,6 +170,13 @@ static void read_line_cases(void)
     read_line(PELIRANOPI_FILE_VERSION_7, example, 0, PELIRANOPI_FIELD_FORM, 0, 0, 0, 67);
     open_case("read_line", "a header of version 7, told 5");
     read_line(PELIRANOPI_FILE_VERSION_5, seven, 0, PELIRANOPI_FIELD_FORM, 0, 0, 0, 67);
+    for (int which = 0; which < 2; which++) {
+        /* By what is told, whatever the file's header has. */
+        open_case("read_line", "a parcel type of two bytes, told 5");
+        read_line(5, long_type[which], 178, PELIRANOPI_ACCEPTED, PELIRANOPI_PARCEL, 4, 211, 0);
+        open_case("read_line", "a parcel type of two bytes, told 7");
+        read_line(7, long_type[which], 178, PELIRANOPI_FIELD_TOO_LONG, 0, 0, 0, 207);
+    }
     for (int which = 0; which < 12; which++) {
         /* Before 2 too. */
         open_case("read_line", "no version");
@@ -227,6 +237,13 @@ static void find_field_cases(void)
     find_field(7, seven, 0, 6, PELIRANOPI_ACCEPTED, 67, "7", 0);
     open_case("find_field", "a header of version 7, told 5");
     find_field(5, seven, 0, 6, PELIRANOPI_FIELD_FORM, 0, "", 67);
+    for (int which = 0; which < 2; which++) {
+        open_case("find_field", "a parcel type of two bytes, told 5");
+        find_field(5, long_type[which], 178, 4, PELIRANOPI_ACCEPTED, 207, "CC", 0);
+        /* The line's refusal comes before 15. */
+        open_case("find_field", "field 0 of a line with a parcel type of two bytes, told 7");
+        find_field(7, long_type[which], 178, 0, PELIRANOPI_FIELD_TOO_LONG, 0, "", 207);
+    }
     for (int which = 0; which < 12; which++) {
         /* Before 3 and 15 too. */
         open_case("find_field", "no version");
@@ -592,6 +609,13 @@ int main(int argc, char **argv)
     /* `7` in field 6 of the header. */
     memcpy(seven, example, sizeof example);
     seven[67] = '7';
+    /* `;CC` behind the parcel's three fields, and `ter` in place of `Muster` two lines below. */
+    for (int which = 0; which < 2; which++) {
+        uint8_t *file = long_type[which];
+        memcpy(file, which ? seven : example, sizeof example);
+        memcpy(file + 206, ";CC", 3);
+        memcpy(file + 209, example + 206, 29);
+    }
     judge_cases(argv[1]);
     read_line_cases();
     find_field_cases();

@@ -499,8 +499,8 @@ def version_header_cases():
             yield f"mark_{name}", refused(lines, number, place(lines, 0, 6))
     yield "mark_7", accepted(told("7", e), 4096, 1250)
     # `7` in another field of the header.
-    for n, put in ((2, {"f2": "7"}), (7, {"f7": "7"}), (10, {"f10": "7"})):
-        lines = [header(**put), sender(), shipment(), wide_parcel(f4="long"), product(f1="product"), feature()]
+    for n in (2, 7, 8, 9, 10):
+        lines = [header(**{f"f{n}": "7"}), sender(), shipment(), wide_parcel(f4="long"), product(f1="product"), feature()]
         yield f"seven_in_010_{n}", accepted(lines, 4096, 1250)
     lines = [header(f5="7")] + e[1:]
     yield "seven_in_010_5", refused(lines, 8, place(lines, 0, 5))
@@ -607,6 +607,156 @@ def version_7_cases():
     lines, cents = full_file(65535, "7", (40, 35, 40))
     yield "v7_at_limit", accepted(lines, 4096, cents)
     yield "v7_over_limit", refused(render(lines) + b" ", 1, 65535)
+
+
+def accepted_in(version, i, new):
+    """The example of this version with another line i."""
+    return accepted(told(version, with_line(i, new)), 4096, 1250)
+
+
+def refused_in(version, i, new, number, n=None):
+    """The same, refused at that line, or at its field n."""
+    lines = told(version, with_line(i, new))
+    return refused(lines, number, place(lines, i, n))
+
+
+def version_value_cases():
+    """Values beside a width or a form: a wider field in 7 does not widen its form."""
+    # A header with neither version has the widths of 5.
+    yield "mark_6_010_2_of_41", refused_in("6", 0, header(f2="x" * 41), 6, 2)
+    yield "mark_6_010_5_of_5", refused_in("6", 0, header(f5="10050"), 6, 5)
+    yield "v5_010_5_letter", refused_in("5", 0, header(f5="10A5"), 8, 5)
+    yield "v7_010_5_of_3", refused_in("7", 0, header(f5="100"), 8, 5)
+    # The whole field is the code: nothing is cut off or put in front, so that 22 right digits in it do not help.
+    right = identcode(10**20)
+    for name, code in (
+        ("zeros_behind", right + "00"),
+        ("zero_in_front", "0" + right),
+        ("space_behind", right + " "),
+        ("zero_less", right[:1] + right[2:]),
+    ):
+        yield f"v7_code_{name}", refused_in("7", 3, parcel(0, f1=code), 8, 1)
+    # So is an IBAN: more zeros behind it leave the remainder 1.
+    for length in (35, 40):
+        yield f"v7_iban_right_of_{length}", refused_in("7", 5, feature(f6=LONGEST_IBAN.ljust(length, "0")), 8, 6)
+    for version in ("5", "7"):
+        yield f"v{version}_iban_in_groups", refused_in(version, 5, feature(f6="AT61 1904 3002 3457 3201"), 8, 6)
+    for name, own in (("20", "x" * 20), ("a_space", " ")):
+        yield f"v7_030_39_of_{name}", refused_in("7", 2, shipment(f39=own), 8, 39)
+    # 002 gives a product two bytes, as a width and not as a form.
+    yield "v7_050_1_of_1", accepted_in("7", 4, product(f1="1"))
+    yield "v5_050_1_empty", refused_in("5", 4, product(f1=""), 7, 1)
+    yield "v5_reference_sign_022", refused_in("5", 5, feature("022", f2="_"), 8, 2)
+
+
+def version_form_cases():
+    """Wrong forms of fields that are as wide in one version as in the other."""
+    for name, i, new, n in (
+        ("030_1", 2, shipment(f1="a"), 1),
+        ("030_8", 2, shipment(f7="AT", f8="10200"), 8),
+        ("030_21", 2, shipment(f21="10a0"), 21),
+        # Under every feature code.
+        ("060_3_of_004", 5, feature("004", f3="1,00"), 3),
+        ("060_7_of_004", 5, feature("004", f7="abcdatww"), 7),
+    ):
+        for version in ("5", "7"):
+            yield f"v{version}_{name}_form", refused_in(version, i, new, 8, n)
+    yield "v7_010_4_form", refused_in("7", 0, header(f4="2021-02-24 14:20:55"), 8, 4)
+    yield "v7_020_6_form", refused_in("7", 1, sender(f6="10101"), 8, 6)
+    yield "v7_030_20_form", refused_in("7", 2, shipment(f20="at"), 8, 20)
+
+
+def version_line_cases():
+    """Counts of fields, records, identcodes and needs in 7."""
+    e = told("7", EXAMPLE)
+    # The version holds up to the last line.
+    lines = e + [shipment(), parcel(2), product(), shipment(), parcel(3) + [b""], product(f1="123")]
+    yield "v7_third_shipment_type_empty", refused(lines, 7, place(lines, 10, 4))
+    for i, name in ((1, "sender"), (2, "shipment"), (4, "product"), (5, "feature")):
+        yield f"v7_{name}_field_less", refused_in("7", i, e[i][:-1], 5)
+        yield f"v7_{name}_field_more", refused_in("7", i, e[i] + [b""] * (24 if i == 4 else 1), 5)
+    yield "v7_parcel_24_fields_rest_empty", accepted_in("7", 3, wide_parcel() + [b""] * 12)
+    yield "v7_product_24_fields_rest_empty", accepted_in("7", 4, product() + [b""] * 23)
+    for kind in ("042", "070"):
+        yield f"v7_type_{kind}", refused(e[:4] + [line(kind, "x")] + e[4:], 3, place(e, 4))
+    lines = e + [shipment()] + e[3:5]
+    yield "v7_code_other_shipment", refused(lines, 10, place(lines, 7, 1))
+    lines = e + [sender(), shipment()] + e[3:5]
+    yield "v7_code_other_sender", refused(lines, 10, place(lines, 8, 1))
+    for code, needed in (("022", (3, 4, 5, 6, 7)), ("011", (3, 4)), ("063", (3, 4))):
+        for n in needed:
+            lacking = feature(code, **{"f3": "1.00", "f4": "EUR", f"f{n}": ""})
+            yield f"v7_{code}_lacks_{n}", refused_in("7", 5, lacking, 9)
+
+
+def version_contact_cases():
+    """19 in 7: by the lent list alone, both contacts, and of this sender."""
+    for name, lacking in (("phone", sender(f12="")), ("mail", sender(f13=""))):
+        lines = told("7", with_line(1, lacking))
+        yield f"v7_no_{name}_listed", refused(lines, 19, place(lines, 2), countries="AT")
+    lines = told("7", with_line(1, NO_CONTACTS))
+    yield "v7_countries_across", accepted(lines, 4096, 1250, "TATA")
+    # 002 wants a contact for Sweden in its section 5.7.2; the list is lent, and decides.
+    yield "v7_no_contacts_to_sweden", accepted(lines[:2] + [shipment(f20="SE")] + lines[3:], 4096, 1250)
+    yield "v7_second_sender_has", accepted(told("7", two_senders(NO_CONTACTS, sender())), 4096, 0, "AT")
+
+
+# Document 01, 'The file'.
+FEATURES = (
+    "004 006 007 011 019 022 024 027 029 045 052 053 054 061 062 063 065 066 072 074 081 082 083 116 122 123 142 143 186 187".split()
+)
+
+
+def every_feature(version):
+    """Each feature with what it needs and no more, 054 by mail and by phone; the example's amount under 006 and under 022."""
+    money = {"f3": "1.00", "f4": "EUR"}
+    needs = {"011": money, "063": money, "054": {"f9": "a@b"}}
+    features = [feature(code, **needs.get(code, {})) for code in FEATURES] + [feature("054", f10="1")]
+    return accepted(told(version, EXAMPLE[:5]) + features, 4096, 2 * 1250)
+
+
+def widths(version, code):
+    """The widths that docs/fields.txt has for this version, by record and field, with those under a feature code."""
+    found = {}
+    with open(f"{os.path.dirname(os.path.abspath(__file__))}/../docs/fields.txt", encoding="ascii") as rows:
+        for row in rows:
+            if row[:1].isdigit():
+                name, five, _, seven, _, *under = row.split()
+                if not under or code in under:
+                    kind, n = name.split(".")
+                    found[kind, int(n)] = int(five if version == "5" else seven)
+    return found
+
+
+def every_field_full(version):
+    """Each field as long as its width, or as its form where that is shorter; 030.39 is the carrier's. No post code of Austria, which
+    would have four digits."""
+
+    def full(kind, code="006", **put):
+        fields = {n: "x" * width for (of_kind, n), width in widths(version, code).items() if of_kind == kind}
+        return filled(kind, len(fields), fields, put)
+
+    def full_feature(code):
+        address = mail(widths(version, code)["060", 9])
+        return full("060", code, f1=code, f3="999999.99", f4="EUR", f6=LONGEST_IBAN, f7="ABCDATWWXXX", f9=address)
+
+    lines = [
+        full("010", **{f"f{n}": EXAMPLE[0][n] for n in (1, 3, 4, 5)}, f6=version),
+        full("020", f5="DE"),
+        full("030", f1="1" * 40, f2="1" * 10, f7="DE", f20="DE", f39=""),
+        full("040", f1=identcode(10**20)),
+        full("050"),
+        full_feature("006"),
+        full_feature("004"),
+    ]
+    return accepted(lines, 4096, 99999999)
+
+
+def version_whole_cases():
+    """Files that have everything."""
+    for version in ("5", "7"):
+        yield f"v{version}_every_feature", every_feature(version)
+        yield f"v{version}_every_field_full", every_field_full(version)
 
 
 def cases():
@@ -735,6 +885,11 @@ def cases():
     yield from version_duty_cases()
     yield from version_header_cases()
     yield from version_7_cases()
+    yield from version_value_cases()
+    yield from version_form_cases()
+    yield from version_line_cases()
+    yield from version_contact_cases()
+    yield from version_whole_cases()
 
 
 def main(folder):

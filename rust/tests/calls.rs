@@ -455,6 +455,28 @@ fn a_header_must_have_the_version_that_is_told() {
     }
 }
 
+/// The header decides for its file; a line call is told. A parcel type of two bytes is too long in
+/// version 7 alone.
+#[test]
+fn a_line_is_judged_by_what_is_told_and_not_by_the_header_of_its_file() {
+    let typed = String::from_utf8(with("0007;;\r\n", "0007;;;CC\r\n")).unwrap();
+    for (mark, due) in [("5", None), ("7", Some((6, 207)))] {
+        let file = typed.replace("1005;5;", &format!("1005;{mark};"));
+        let file = file.as_bytes();
+        assert_eq!(judged(file).err().map(told), due);
+        let parcel = Line {
+            record: Record::Parcel,
+            fields: 4,
+            next: 211,
+        };
+        assert_eq!(read_line(Five, file, 178), Ok(parcel));
+        assert_eq!(find_field(Five, file, 178, 4), Ok(207..209));
+        assert_eq!(refusal(read_line(Seven, file, 178)), (6, 207));
+        // In front of 15.
+        assert_eq!(refusal(find_field(Seven, file, 178, 0)), (6, 207));
+    }
+}
+
 /// A header with neither is judged as 5 from left to right.
 #[test]
 fn a_header_with_neither_version_is_refused_as_one_of_version_5() {
