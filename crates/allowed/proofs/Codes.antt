@@ -68,8 +68,8 @@ Fresh seen [] = Unit {0}
 Fresh seen (c ∷ cs) = (oneOfCodes c seen ≡ false) × Fresh seen cs
 
 module _ (s starts : List ℕ) (codes : List (List ℕ)) (at : ℕ) (fs : List (List ℕ)) (rest : List ℕ) (seen : Seen s starts codes) where
-  pub fresh-not : {rules : Rules} → Sound rules → (kind : Record) → drop at s ≡ render kind fs ++ rest → LineOk rules kind fs → repeats kind s starts at ≡ false →
-      Fresh codes (codesOn kind fs)
+  pub fresh-not : {rules : Rules} → Sound rules → (kind : Record) → drop at s ≡ render kind fs ++ rest → LineOk rules kind fs →
+      repeats kind s starts at ≡ false → Fresh codes (codesOn kind fs)
   unfolding repeats
   fresh-not w Header there ok e = tt
   fresh-not w Sender there ok e = tt

@@ -58,7 +58,8 @@ pub file-exactly : FileExactly
 file-exactly s lent totals list = judge-exactly s lent (AcceptedFile totals) list
 
 pub one-division-into-lines : OneDivisionIntoLines
-one-division-into-lines countries others s ls ks a b = one-division (profile (versionOn ls)) (profile (versionOn ks)) ls ks (a .lines) (b .lines) (sym (a .bytes) ∙ b .bytes)
+one-division-into-lines countries others s ls ks a b =
+    one-division (profile (versionOn ls)) (profile (versionOn ks)) ls ks (a .lines) (b .lines) (sym (a .bytes) ∙ b .bytes)
 
 pub line-exactly : LineExactly
 unfolding readAnswer
@@ -128,7 +129,8 @@ parts-issued-again code out after p answer e room h =
 pub codes-pass : CodesPass
 codes-pass countries s ks g = go ks (g .lines)
   where
-    more : (kind : Record) (fs : List (List ℕ)) → LineOk (profile (versionOn ks)) kind fs → (codes : List (List ℕ)) → EachPasses codes → EachPasses (codesOn kind fs ++ codes)
+    more : (kind : Record) (fs : List (List ℕ)) → LineOk (profile (versionOn ks)) kind fs → (codes : List (List ℕ)) → EachPasses codes →
+        EachPasses (codesOn kind fs ++ codes)
     more Parcel fs ok codes each = (parcel-passes (versionOn ks) fs ok, each)
     more Header fs ok codes each = each
     more Sender fs ok codes each = each

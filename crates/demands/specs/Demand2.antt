@@ -94,7 +94,8 @@ WrittenReadsBack =
 abbrev pub AcceptedWritesAgain : Type 0
 AcceptedWritesAgain =
     (version : Version) (file : List ℕ) (offset : ℕ) (line : Line) (fs : List (List ℕ)) → Reads (alone (profile version)) file offset line fs →
-    (told : ℕ) → versionNumbered told ≡ Either version → (number : ℕ) (output : List ℕ) (fill : ℕ) → recordNumbered number ≡ Known (line .kind) → fill + (line .next - offset) ≤ length output →
+    (told : ℕ) → versionNumbered told ≡ Either version →
+    (number : ℕ) (output : List ℕ) (fill : ℕ) → recordNumbered number ≡ Known (line .kind) → fill + (line .next - offset) ≤ length output →
     (answer : WriteAnswer) (after : List ℕ) → Writes told number (inOne fs) (endsFrom 0 fs) output fill answer after →
     (answer ≡ Written (line .next - offset)) × (after ≡ written output fill (take (line .next - offset) (drop offset file)))
 

@@ -110,7 +110,9 @@ module _ (s : List ℕ) (lent : Lent) where
             is (because IdentcodeRepeated (state .at + 4)) e
             (subst (λ (x : ℕ). RefusedFile s lent (because IdentcodeRepeated x)) p
             (RefusedFile.identcode-repeated ls l (g .rest) follows room k
-            (sym (repeats-code (state .version) (line .kind) s starts (state .at) (identcodes ls) (l .fields) (g .rest) (h .seen) k (g .stands) (g .allowed)) ∙ r)))
+            (sym
+            (repeats-code (state .version) (line .kind) s starts (state .at) (identcodes ls) (l .fields) (g .rest) (h .seen) k (g .stands)
+            (g .allowed)) ∙ r)))
 
         module _ (reached : lacks ≡ false) (fresh : repeats (line .kind) s starts (state .at) ≡ false) where
           next : Next (lent .countries) s ls l (g .rest)
@@ -118,7 +120,8 @@ module _ (s : List ℕ) (lent : Lent) where
               record {
                 follows = follows;
                 reached = reached;
-                fresh = fresh-not s starts (identcodes ls) (state .at) (l .fields) (g .rest) (h .seen) (sound (state .version)) (line .kind) (g .stands) (g .allowed) fresh;
+                fresh = fresh-not s starts (identcodes ls) (state .at) (l .fields) (g .rest) (h .seen) (sound (state .version)) (line .kind)
+                    (g .stands) (g .allowed) fresh;
               }
 
           full : lent .words ≤ state .lines → Refused (because ListFull (state .at)) ≡ Refused refusal → RefusedFile s lent refusal
