@@ -83,9 +83,6 @@ module _ {told : Told} {s : List ℕ} {at : ℕ} {line : Line} {fs : List (List 
   pub read-parts : split (textAt s at) ≡ typeOf (line .kind) ∷ fs
   read-parts = ap split read-text ∙ text-split (line .kind) fs (g .allowed)
 
-  pub read-fields : fieldsOf (textAt s at) ≡ fs
-  read-fields = rw read-parts
-
   pub read-field : (n : ℕ) → 1 ≤ n → partAt (textAt s at) n ≡ fieldNo fs n
   read-field n h = go (n - 1) (omega arith)
     where
