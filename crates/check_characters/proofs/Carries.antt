@@ -110,10 +110,7 @@ check-value c h =
 pub closing-symbol : (r c : ℕ) → 1 ≤ c → c ≤ 36 → r ≡ symbolOf ((37 - c) % 36) → r ≡ symbolOf (firstValue (closes c) 0 36)
 closing-symbol r c low high er = er ∙ ap symbolOf (sym (check-value c (record { low = low; high = high })))
 
-pub check-done : (r c : ℕ) (s : List ℕ) → c ≡ carry s → r ≡ symbolOf (firstValue (closes c) 0 36) → r ≡ checkOf s
-unfolding checkOf
-check-done r c s ec er = er ∙ ap (λ x. symbolOf (firstValue (closes x) 0 36)) ec
-
 -- behind a walk over all of it
 pub check-behind : (r c i : ℕ) (s : List ℕ) → c ≡ carry (take i s) → length s ≤ i → r ≡ symbolOf (firstValue (closes c) 0 36) → r ≡ checkOf s
-check-behind r c i s ec h er = check-done r c s (carry-ends s i c ec h) er
+unfolding checkOf
+check-behind r c i s ec h er = er ∙ ap (λ x. symbolOf (firstValue (closes x) 0 36)) (carry-ends s i c ec h)

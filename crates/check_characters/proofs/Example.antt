@@ -1,15 +1,18 @@
--- The examples that the numbers, the table of steps, the wedge, the IBANs and the identcodes open with, worked out.
+-- The examples that the numbers, a day of them, the table of steps, the wedge, the IBANs and the identcodes open with, worked out.
 use Prim.Native.Nat.{ℕ, _%_}
 use mathlib.Core.Path.{_≡_, refl}
 use mathlib.Core.List.{List, [], _∷_}
 use lib.ListN.{getD}
 use Rattle.text.specs.Quoted.{byte, bytes}
 use Rattle.check_characters.specs.Symbol.{valueOf, symbolOf}
-use Rattle.check_characters.specs.Mod37.{step, carry, checkOf}
+use Rattle.check_characters.specs.Mod37.{step, carry, passes, checkOf}
 use Rattle.check_characters.specs.Steps.{steps, entryFor}
 use Rattle.check_characters.specs.Wedge.{nextCarry, carryPassed}
+use Rattle.check_characters.specs.Number.{shapeOf, allowedInNumber, checkedAs, checkedNumber}
+use Rattle.check_characters.specs.Day.{dayAnswers, dayAnswer}
 use Rattle.check_characters.specs.Iban.{digitsOf, spread, decimalFrom, ibanNumber}
 use Rattle.check_characters.specs.declared.carry.CarryAnswer.the-variants.{Next}
+use Rattle.check_characters.specs.declared.day.DayAnswer.the-variants.{Answered}
 use Rattle.check_characters.specs.Identcode.{weightAt, weighed, checkDigit, checkDigitOf}
 
 -- the carry behind each symbol
@@ -33,6 +36,11 @@ example-keyed = (refl, refl, refl)
 pub example-label : (carry (bytes "000280009980000020037155056") ≡ 31) × (checkOf (bytes "000280009980000020037155056") ≡ byte "6")
 unfolding valueOf symbolOf step checkOf
 example-label = (refl, refl)
+
+pub example-day : (dayAnswers (bytes "09980000020041F09980000020041G0998000002OO41F") ≡ 0 ∷ 18 ∷ 17 ∷ [])
+    × (dayAnswer (bytes "09980000020041F09980000020041G0998000002OO41F") 3 ≡ Answered 1)
+unfolding valueOf step passes shapeOf allowedInNumber checkedAs checkedNumber dayAnswers dayAnswer
+example-day = (refl, refl)
 
 pub example-iban : (ibanNumber (bytes "AT611904300234573201") ≡ 1904300234573201102961) × (1904300234573201102961 % 97 ≡ 1)
     × (ibanNumber (bytes "AT161904300234573201") ≡ 1904300234573201102916) × (1904300234573201102916 % 97 ≡ 53)

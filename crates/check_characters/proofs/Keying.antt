@@ -2,10 +2,7 @@
 use Prim.Native.Nat.{ℕ, _≤_, _<_}
 use mathlib.Core.Path.{_≡_, sym, ap, _∙_}
 use mathlib.Core.Bool.{Bool, true, false, not}
-use native.Mathlib.Omega.{arith}
 use lib.Dec.{leb}
-use mir.Val.{Fits}
-use mir.Syntax.{w8}
 use borrow.Author.Tests.{le-leb, lt-leb, leb-true, not-true, not-false}
 use Rattle.refusal.specs.declared.Reason.the-variants.{NotThere, WrongSymbol}
 use Rattle.refusal.specs.Table.{because}
@@ -64,9 +61,6 @@ module _ (c b : ℕ) (t : Bool) (et : t ≡ isCarry c) where
 
     pub key-high : c ≤ 36
     key-high = range .high
-
-    pub key-fits : Fits w8 c
-    key-fits = omega (arith, range .high)
 
     module _ (u : Bool) (eu : u ≡ symbol b) where
       pub key-no-symbol : not u ≡ true → Refused (because WrongSymbol 0) ≡ nextCarry c b

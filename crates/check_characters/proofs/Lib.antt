@@ -4,6 +4,7 @@ pub mod Entries
 pub mod Keying
 pub mod Shapes
 pub mod Checking
+pub mod Days
 pub mod Issuing
 pub mod Digits
 pub mod Ibans

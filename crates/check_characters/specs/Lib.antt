@@ -4,5 +4,6 @@ pub mod Steps
 pub mod Wedge
 pub mod Answer
 pub mod Number
+pub mod Day
 pub mod Iban
 pub mod Identcode

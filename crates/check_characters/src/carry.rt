@@ -1,9 +1,9 @@
-// The carry of ISO/IEC 7064 MOD 37,36, after one more symbol and after a run of them, and the check character that it asks for. Each step is
+// The carry of ISO/IEC 7064 MOD 37,36 after one more symbol, and the check character that it asks for behind a run of them. Each step is
 // read from the table of steps, which a call lays out once and lends to all below it.
 ghost use mathlib.Core.Path.{_≡_};
 ghost use Prim.Native.Nat.{_<_, _≤_};
 ghost use Rattle.check_characters.specs.Symbol.{symbolOf};
-ghost use Rattle.check_characters.specs.Mod37.{step, carry, closes, firstValue, checkOf};
+ghost use Rattle.check_characters.specs.Mod37.{step, closes, firstValue, checkOf};
 ghost use Rattle.check_characters.specs.Steps.{steps};
 ghost use Rattle.check_characters.specs.Wedge.{isCarry, nextCarry};
 use crate::steps;
@@ -36,29 +36,22 @@ pub fn next_carry(carry: u32, key: u8) -> CarryAnswer
     }
     let table = steps::laid_out();
     let value = symbol::value(key);
-    CarryAnswer::Next(next(&table, carry as u8, value) as u32)
-}
-
-// The carry after a run of symbols.
-pub fn carry_after(symbols: &[u8]) -> u8
-    ensures { λ r. ⌜ r ≡ carry (now (symbols .entry)) ⌝ }
-{
-    let table = steps::laid_out();
-    let mut carry: u8 = 36;
-    let mut i: usize = 0;
-    while i < symbols.len() {
-        let v = symbol::value(symbols[i]);
-        carry = next(&table, carry, v);
-        i += 1;
-    }
-    carry
+    CarryAnswer::Next(next(&table, carry as usize, value) as u32)
 }
 
 // The check character of a run of symbols.
 pub fn check_of(symbols: &[u8]) -> u8
     ensures { λ r. ⌜ r ≡ checkOf (now (symbols .entry)) ⌝ }
 {
-    closing(carry_after(symbols))
+    let table = steps::laid_out();
+    let mut carry: usize = 36;
+    let mut i: usize = 0;
+    while i < symbols.len() {
+        let v = symbol::value(symbols[i]);
+        carry = next(&table, carry, v) as usize;
+        i += 1;
+    }
+    closing(carry as u8)
 }
 
 // Whether a number is a carry.
@@ -72,11 +65,11 @@ fn is_carry(number: u32) -> bool
 }
 
 // The carry after one more value, as the table has it.
-pub fn next(table: &[u8; 1296], carry: u8, value: u8) -> u8
+pub fn next(table: &[u8; 1296], carry: usize, value: u8) -> u8
     requires { ⌜ (now table ≡ steps) × (1 ≤ carry) × (carry ≤ 36) × (value < 36) ⌝ }
     ensures { λ r. ⌜ r ≡ step carry value ⌝ }
 {
-    table[((carry - 1) as usize) * 36 + (value as usize)]
+    table[(carry - 1) * 36 + (value as usize)]
 }
 
 // The check character that closes a carry.

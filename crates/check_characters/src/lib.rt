@@ -1,6 +1,7 @@
 // Check characters: DPD numbers by ISO/IEC 7064 MOD 37,36, IBANs by ISO 13616 with MOD 97-10, and the Post's identcodes by its manual.
 mod answer;
 mod carry;
+mod day;
 mod iban;
 mod identcode;
 mod number;
@@ -11,9 +12,10 @@ mod symbol;
 pub use answer::CheckAnswer;
 pub use answer::IssueAnswer;
 pub use carry::CarryAnswer;
-pub use carry::carry_after;
 pub use carry::check_of;
 pub use carry::next_carry;
+pub use day::DayAnswer;
+pub use day::check_numbers;
 pub use iban::check_iban;
 pub use identcode::Part;
 pub use identcode::Parts;

@@ -78,8 +78,8 @@ pub fn issue_number(body: &[u8], output: &mut [u8]) -> IssueAnswer
 }
 
 // Checks a number that has the length of its kind. Its check is walked over like the other symbols: it makes the sum leave 1 modulo 36, so
-// that the carry behind it is 2.
-fn check_as(table: &[u8; 1296], kind: Kind, symbols: &[u8]) -> NumberAnswer
+// that the carry behind it is 2. A day's numbers are checked by this too.
+pub fn check_as(table: &[u8; 1296], kind: Kind, symbols: &[u8]) -> NumberAnswer
     requires { ⌜ (now table ≡ steps) × (length (now symbols) ≡ lengthOf kind) ⌝ }
     ensures { λ r. ⌜ r ≡ checkedAs kind (now (symbols .entry)) ⌝ }
 {
@@ -117,28 +117,29 @@ fn issue_as(table: &[u8; 1296], kind: Kind, body: &[u8], output: &mut [u8]) -> I
     answer::issue(body, check, output)
 }
 
-// Walks to the first symbol that is not allowed where it stands, or the end, and takes the carry along.
+// Walks to the first symbol that is not allowed where it stands, or the end, and takes the carry along. That is a whole word: a byte would be
+// put into a part of a register, and so wait for the number before it in a day's numbers.
 fn walk(table: &[u8; 1296], kind: Kind, symbols: &[u8]) -> Walked
     requires { ⌜ (now table ≡ steps) × (length (now symbols) ≤ lengthOf kind) ⌝ }
     ensures { λ r. ⌜ (r .wrong ≡ wrongInNumber kind (now (symbols .entry)))
         × (r .carry ≡ carry (take (r .wrong) (now (symbols .entry)))) ⌝ }
 {
-    let mut carry: u8 = 36;
+    let mut carry: usize = 36;
     let mut i: usize = 0;
     while i < symbols.len() {
         let b = symbols[i];
         if !is_allowed(kind, i, b) {
             return Walked {
                 wrong: i,
-                carry: carry,
+                carry: carry as u8,
             };
         }
-        carry = carry::next(table, carry, symbol::value(b));
+        carry = carry::next(table, carry, symbol::value(b)) as usize;
         i += 1;
     }
     Walked {
         wrong: i,
-        carry: carry,
+        carry: carry as u8,
     }
 }
 

@@ -7,10 +7,12 @@ use Rattle.text.specs.Placed.{placed}
 use Rattle.check_characters.specs.Answer.{issuedTo}
 use Rattle.check_characters.specs.Mod37.{checkOf}
 use Rattle.check_characters.specs.Number.{issueAnswer, checkedNumber}
+use Rattle.check_characters.specs.Day.{answersAfter}
 use Rattle.check_characters.specs.Wedge.{nextCarry}
 use Rattle.check_characters.specs.Iban.{checkedIban}
 use Rattle.check_characters.specs.Identcode.{checkDigitOf, checkedIdentcode, partsAnswer, issueIdentcodeAnswer}
 use Rattle.check_characters.specs.declared.answer.IssueAnswer.{IssueAnswer}
+use Rattle.check_characters.specs.declared.day.DayAnswer.{DayAnswer}
 use Rattle.fields.specs.Profile.{profile}
 use Rattle.fields.specs.Field.{tested}
 use Rattle.line.specs.Line.{readAnswer}
@@ -22,6 +24,7 @@ use Rattle.purpose.specs.Purpose.{purposeOf, listAfter, outputAfter}
 use Rattle.purpose.specs.declared.write.PurposeAnswer.{PurposeAnswer}
 use Rattle.demands.specs.Demand1.{
   CheckNumberUnique,
+  CheckNumbersUnique,
   IssueNumberUnique,
   NextCarryUnique,
   CheckIbanUnique,
@@ -43,6 +46,7 @@ use Rattle.demands.specs.Demand1.{
   WriteLineCallUnique,
   WritePurposeCallUnique,
   CheckNumberCallUnique,
+  CheckNumbersCallUnique,
   IssueNumberCallUnique,
   NextCarryCallUnique,
   CheckIbanCallUnique,
@@ -57,6 +61,10 @@ one-answer definition input a b p q = p ∙ sym q
 
 pub check-number-unique : CheckNumberUnique
 check-number-unique s = one-answer checkedNumber s
+
+pub check-numbers-unique : CheckNumbersUnique
+check-numbers-unique numbers answers a b x y p q =
+    let same : a ≡ b = p .0 ∙ sym (q .0) in (same, p .1 ∙ ap (λ (r : DayAnswer). answersAfter r numbers answers) same ∙ sym (q .1))
 
 -- and what they write is equal
 one-output : (answer : ℕ → IssueAnswer) (body out : List ℕ) (check : ℕ) (a b : IssueAnswer) (x y : List ℕ) →
@@ -141,6 +149,10 @@ write-purpose-call-unique file line words output n bytes place n₂ bytes₂ pla
 pub check-number-call-unique : CheckNumberCallUnique
 check-number-call-unique symbols n kind place n₂ kind₂ place₂ p q =
     (p .0 .0 ∙ sym (q .0 .0), p .1 ∙ sym (q .1), p .0 .1 ∙ sym (q .0 .1))
+
+pub check-numbers-call-unique : CheckNumbersCallUnique
+check-numbers-call-unique numbers answers n passed place n₂ passed₂ place₂ x y p q =
+    (p .0 .0 ∙ sym (q .0 .0), p .1 ∙ sym (q .1), p .0 .1 ∙ sym (q .0 .1), p .2 ∙ sym (q .2))
 
 pub issue-number-call-unique : IssueNumberCallUnique
 issue-number-call-unique body output n bytes place n₂ bytes₂ place₂ x y p q =

@@ -6,4 +6,6 @@ pub mod Countries
 pub mod Purpose
 pub mod Demand3
 pub mod Wedge
+pub mod Day
+pub mod Bench
 pub mod Marked

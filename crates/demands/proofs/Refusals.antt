@@ -21,6 +21,7 @@ use Rattle.refused.proofs.Deciding as deciding
 use Rattle.refused.proofs.Writing as writing
 use Rattle.refused.proofs.Purposes as purposes
 use Rattle.refused.proofs.Numbers as numbers
+use Rattle.refused.proofs.Days as days
 use Rattle.refused.proofs.Keys as keys
 use Rattle.refused.proofs.Identcodes as identcodes
 use Rattle.refused.proofs.Parcels as parcels
@@ -39,6 +40,7 @@ use Rattle.demands.specs.Refusals.{
   NumberRefusedExactly,
   IbanRefusedExactly,
   IssueRefusedExactly,
+  DayRefusedExactly,
   KeyRefusedExactly,
   IdentcodeRefusedExactly,
   PartsRefusedExactly,
@@ -59,6 +61,8 @@ use Rattle.demands.specs.Refusals.{
   IdentcodeNeverBoth,
   KeyAlwaysOne,
   KeyNeverBoth,
+  DayAlwaysOne,
+  DayNeverBoth,
 }
 
 pub file-refused-exactly : FileRefusedExactly
@@ -111,6 +115,9 @@ iban-refused-exactly = numbers.iban-refused-exactly
 
 pub issue-refused-exactly : IssueRefusedExactly
 issue-refused-exactly = numbers.issue-refused-exactly
+
+pub day-refused-exactly : DayRefusedExactly
+day-refused-exactly = days.day-refused-exactly
 
 pub key-refused-exactly : KeyRefusedExactly
 key-refused-exactly = keys.key-refused-exactly
@@ -190,3 +197,9 @@ key-always-one = keys.key-always-one
 
 pub key-never-both : KeyNeverBoth
 key-never-both = keys.key-never-both
+
+pub day-always-one : DayAlwaysOne
+day-always-one = days.day-always-one
+
+pub day-never-both : DayNeverBoth
+day-never-both = days.day-never-both

@@ -1,7 +1,7 @@
 -- Proofs of the statements in specs/Wedge.
 use Prim.Native.Nat.{ℕ}
 use mathlib.Core.Path.{_≡_, refl, ap, _∙_}
-use Rattle.refusal.specs.Table.{because}
+use Rattle.refusal.specs.Table.{because, numberTold, placeTold}
 use Rattle.refusal.specs.declared.Reason.the-variants.{NotThere}
 use Rattle.check_characters.specs.Steps.{steps}
 use Rattle.check_characters.specs.Wedge.{nextCarry, carryVerdict}
@@ -11,7 +11,7 @@ use Rattle.check_characters.proofs.Entries.{entry-step}
 use Rattle.check_characters.proofs.Keying.{next-no-carry}
 use Rattle.slips.proofs.Typing as typing
 use Rattle.refused.proofs.Keys as keys
-use Rattle.peliranopi.specs.Told.{numberTold, placeTold, carryTold}
+use Rattle.peliranopi.specs.Told.{carryTold}
 use Rattle.demands.specs.Wedge.{
   EachEntry,
   KeyExactly,

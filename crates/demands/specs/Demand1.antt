@@ -8,10 +8,12 @@ use mathlib.Core.List.{List}
 use lib.ListN.{length, replicate}
 use Rattle.text.specs.Placed.{placed}
 use Rattle.check_characters.specs.Number.{Issues, checkedNumber}
+use Rattle.check_characters.specs.Day.{ChecksDay}
 use Rattle.check_characters.specs.Wedge.{nextCarry}
 use Rattle.check_characters.specs.Iban.{checkedIban}
 use Rattle.check_characters.specs.Identcode.{checkedIdentcode, partsAnswer, IssuesIdentcode}
 use Rattle.check_characters.specs.declared.carry.CarryAnswer.{CarryAnswer}
+use Rattle.check_characters.specs.declared.day.DayAnswer.{DayAnswer}
 use Rattle.check_characters.specs.declared.number.NumberAnswer.{NumberAnswer}
 use Rattle.check_characters.specs.declared.answer.IssueAnswer.{IssueAnswer}
 use Rattle.check_characters.specs.declared.answer.CheckAnswer.{CheckAnswer}
@@ -35,13 +37,18 @@ use Rattle.purpose.specs.Purpose.{Purposes}
 use Rattle.purpose.specs.declared.write.PurposeAnswer.{PurposeAnswer}
 use Rattle.file.specs.declared.whole.FileAnswer.{FileAnswer}
 use Rattle.peliranopi.specs.Calls.{JudgeTells, LineTells, FieldTells, WriteTells, PurposeTells, NumberTells, IssueTells, IbanTells}
-use Rattle.peliranopi.specs.Calls.{CarryTells, IdentcodeTells, PartsTells, IssueIdentcodeTells}
+use Rattle.peliranopi.specs.Calls.{DayTells, CarryTells, IdentcodeTells, PartsTells, IssueIdentcodeTells}
 
 -- A contract `answer ≡ definition of the inputs` leaves one answer. That is the contract of every public function but those that
 -- write into a buffer, which have relations of their own (`Issues`, `Judges` and so on).
 abbrev pub CheckNumberUnique : Type 0
 CheckNumberUnique =
     (symbols : List ℕ) (a b : NumberAnswer) → a ≡ checkedNumber symbols → b ≡ checkedNumber symbols → a ≡ b
+
+abbrev pub CheckNumbersUnique : Type 0
+CheckNumbersUnique =
+    (numbers answers : List ℕ) (a b : DayAnswer) (x y : List ℕ) → ChecksDay numbers answers a x → ChecksDay numbers answers b y →
+    (a ≡ b) × (x ≡ y)
 
 abbrev pub IssueNumberUnique : Type 0
 IssueNumberUnique =
@@ -147,6 +154,11 @@ abbrev pub CheckNumberCallUnique : Type 0
 CheckNumberCallUnique =
     (symbols : List ℕ) (n kind place n₂ kind₂ place₂ : ℕ) → NumberTells symbols n kind place → NumberTells symbols n₂ kind₂ place₂ →
     (n ≡ n₂) × (kind ≡ kind₂) × (place ≡ place₂)
+
+abbrev pub CheckNumbersCallUnique : Type 0
+CheckNumbersCallUnique =
+    (numbers answers : List ℕ) (n passed place n₂ passed₂ place₂ : ℕ) (x y : List ℕ) → DayTells numbers answers n passed place x →
+    DayTells numbers answers n₂ passed₂ place₂ y → (n ≡ n₂) × (passed ≡ passed₂) × (place ≡ place₂) × (x ≡ y)
 
 abbrev pub IssueNumberCallUnique : Type 0
 IssueNumberCallUnique =

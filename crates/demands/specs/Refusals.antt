@@ -11,11 +11,13 @@ use Rattle.refusal.specs.Table.{because}
 use Rattle.refusal.specs.declared.Refusal.{Refusal}
 use Rattle.refusal.specs.declared.Reason.the-variants.{FieldForm}
 use Rattle.check_characters.specs.Number.{Issues, checkedNumber}
+use Rattle.check_characters.specs.Day.{ChecksDay}
 use Rattle.check_characters.specs.Wedge.{nextCarry}
 use Rattle.check_characters.specs.Iban.{checkedIban}
 use Rattle.check_characters.specs.Identcode.{checkedIdentcode, partsAnswer, IssuesIdentcode}
 use Rattle.check_characters.specs.declared.identcode.PartsAnswer.the-variants.{Refused as NotRead}
 use Rattle.check_characters.specs.declared.carry.CarryAnswer.the-variants.{Refused as NoNext}
+use Rattle.check_characters.specs.declared.day.DayAnswer.the-variants.{Refused as NotAnswered}
 use Rattle.check_characters.specs.declared.number.Kind.{Kind}
 use Rattle.check_characters.specs.declared.number.NumberAnswer.the-variants.{Refused as RefusedAsNumber}
 use Rattle.check_characters.specs.declared.answer.IssueAnswer.the-variants.{Refused as NotIssued}
@@ -51,6 +53,7 @@ use Rattle.refused.specs.File.{Begins, dueBehind, toldBehind, RefusedFile, Mean
 use Rattle.refused.specs.Write.{RefusedWrite}
 use Rattle.refused.specs.Purpose.{RefusedPurpose}
 use Rattle.refused.specs.Number.{RefusedNumber, RefusedIban, RefusedIssue}
+use Rattle.refused.specs.Day.{AnsweredDay, RefusedDay}
 use Rattle.refused.specs.Wedge.{RefusedKey}
 use Rattle.refused.specs.Identcode.{RefusedIdentcode, RefusedIdentcodeIssue}
 
@@ -141,6 +144,12 @@ KeyRefusedExactly =
     (carry key : ℕ) (refusal : Refusal) →
     (nextCarry carry key ≡ NoNext refusal) ↔ RefusedKey carry key refusal
 
+-- Request 6. A day's numbers: 16, then 13; "either leaves the answers untouched".
+abbrev pub DayRefusedExactly : Type 0
+DayRefusedExactly =
+    (numbers answers after : List ℕ) (refusal : Refusal) →
+    ChecksDay numbers answers (NotAnswered refusal) after ↔ (RefusedDay numbers (length answers) refusal × (after ≡ answers))
+
 -- Document 02, request 2. An identcode, its parts, and the 21 digits of one to be issued: "with nothing written".
 abbrev pub IdentcodeRefusedExactly : Type 0
 IdentcodeRefusedExactly =
@@ -174,7 +183,7 @@ FailingCodeRefusesFile =
     Filled code → length code ≤ widthInTable (profile (versionOf file) Parcel) 1 → (checkedIdentcode code ≡ Passed → ⊥) →
     Judges file lent (RefusedAsFile (because FieldForm (length (fileBytes ls) + 4))) (replicate (lent .words) 0)
 
--- A line, a field, a writing, a number, an IBAN, an identcode and a key pass or are refused, never both.
+-- A line, a field, a writing, a number, an IBAN, an identcode, a key and a day's numbers pass or are refused, never both.
 abbrev pub LineAlwaysOne : Type 0
 LineAlwaysOne =
     (told : ℕ) (file : List ℕ) (offset : ℕ) →
@@ -244,3 +253,14 @@ KeyAlwaysOne =
 abbrev pub KeyNeverBoth : Type 0
 KeyNeverBoth =
     (carry key next : ℕ) (refusal : Refusal) → Leads carry key next → RefusedKey carry key refusal → ⊥
+
+abbrev pub DayAlwaysOne : Type 0
+DayAlwaysOne =
+    (numbers answers : List ℕ) →
+    ((passed : ℕ) × ((after : List ℕ) × AnsweredDay numbers answers passed after)) ⊎
+    ((refusal : Refusal) × RefusedDay numbers (length answers) refusal)
+
+abbrev pub DayNeverBoth : Type 0
+DayNeverBoth =
+    (numbers answers : List ℕ) (passed : ℕ) (after : List ℕ) (refusal : Refusal) →
+    AnsweredDay numbers answers passed after → RefusedDay numbers (length answers) refusal → ⊥

@@ -2,15 +2,16 @@
 use Prim.Native.Nat.{ℕ}
 use mathlib.Core.Path.{_≡_, sym, ap, _∙_}
 use mathlib.Core.List.{List}
-use Rattle.refusal.specs.Table.{Verdict}
+use Rattle.refusal.specs.Table.{Verdict, numberTold, placeTold}
 use Rattle.check_characters.specs.Answer.{issuedTo}
+use Rattle.check_characters.specs.Day.{answersAfter}
 use Rattle.check_characters.specs.declared.answer.IssueAnswer.{IssueAnswer}
+use Rattle.check_characters.specs.declared.day.DayAnswer.{DayAnswer}
 use Rattle.records.specs.declared.record.Named.{Named}
 use Rattle.writer.specs.Write.{writtenTo}
 use Rattle.writer.specs.declared.write.WriteAnswer.{WriteAnswer}
 use Rattle.purpose.specs.Purpose.{listAfter, outputAfter}
 use Rattle.purpose.specs.declared.write.PurposeAnswer.{PurposeAnswer}
-use Rattle.peliranopi.specs.Told.{numberTold, placeTold}
 
 -- a value that is told of an answer is that of the answer's definition, where the answer's case is known
 pub told : {A B : Type 0} (value : A → B) (answer definition known : A) (n : B) → answer ≡ definition → answer ≡ known → n ≡ value known →
@@ -46,3 +47,7 @@ purpose-left text out = left (λ (a : PurposeAnswer). outputAfter a text out)
 pub number-left : (body : List ℕ) (check : ℕ) (out : List ℕ) (answer definition : IssueAnswer) (after : List ℕ) → answer ≡ definition →
     after ≡ issuedTo answer body check out → after ≡ issuedTo definition body check out
 number-left body check out = left (λ (a : IssueAnswer). issuedTo a body check out)
+
+pub day-left : (numbers answers : List ℕ) (answer definition : DayAnswer) (after : List ℕ) → answer ≡ definition →
+    after ≡ answersAfter answer numbers answers → after ≡ answersAfter definition numbers answers
+day-left numbers answers = left (λ (a : DayAnswer). answersAfter a numbers answers)

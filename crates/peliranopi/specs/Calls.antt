@@ -3,10 +3,11 @@ use Prim.Native.Nat.{ℕ}
 use mathlib.Core.Path.{_≡_}
 use mathlib.Core.List.{List}
 use lib.ListN.{length}
-use Rattle.refusal.specs.Table.{Verdict}
+use Rattle.refusal.specs.Table.{Verdict, numberTold, placeTold}
 use Rattle.check_characters.specs.Answer.{issuedTo, checkVerdict, issueVerdict}
 use Rattle.check_characters.specs.Mod37.{checkOf}
 use Rattle.check_characters.specs.Number.{issueAnswer, numberVerdict, checkedNumber}
+use Rattle.check_characters.specs.Day.{dayAnswer, answersAfter, dayVerdict}
 use Rattle.check_characters.specs.Wedge.{nextCarry, carryVerdict}
 use Rattle.check_characters.specs.Iban.{checkedIban}
 use Rattle.check_characters.specs.Identcode.{checkDigitOf, checkedIdentcode, partsAnswer, issueIdentcodeAnswer, partsVerdict}
@@ -17,8 +18,8 @@ use Rattle.file.specs.Lent.{Lent}
 use Rattle.file.specs.File.{judged, listOf, fileVerdict}
 use Rattle.writer.specs.Write.{recordNumbered, between, writeAnswer, writtenTo, writeVerdict}
 use Rattle.purpose.specs.Purpose.{purposeAnswer, purposeOf, listAfter, outputAfter, purposeVerdict}
-use Rattle.peliranopi.specs.Told.{numberTold, placeTold, linesTold, parcelsTold, centsTold, recordTold, countTold, nextTold, startTold}
-use Rattle.peliranopi.specs.Told.{lengthTold, writtenTold, purposeTold, issuedTold, kindTold, carryTold, partsTold}
+use Rattle.peliranopi.specs.Told.{linesTold, parcelsTold, centsTold, recordTold, countTold, nextTold, startTold, lengthTold}
+use Rattle.peliranopi.specs.Told.{writtenTold, purposeTold, issuedTold, kindTold, carryTold, passedTold, partsTold}
 
 -- what every call tells: its number, and the place
 abbrev pub Tells : Verdict → ℕ → ℕ → Type 0
@@ -67,6 +68,12 @@ abbrev pub NumberTells : List ℕ → ℕ → ℕ → ℕ → Type 0
 NumberTells symbols number kind place =
     let answer = checkedNumber symbols in
     Tells (numberVerdict answer) number place × (kind ≡ kindTold answer)
+
+-- checking a day's numbers
+abbrev pub DayTells : List ℕ → List ℕ → ℕ → ℕ → ℕ → List ℕ → Type 0
+DayTells numbers answers number passed place after =
+    let answer = dayAnswer numbers (length answers) in
+    Tells (dayVerdict answer) number place × (passed ≡ passedTold answer) × (after ≡ answersAfter answer numbers answers)
 
 -- issuing a number with its check: what the answer tells, and the output then
 abbrev pub IssuedTells : IssueAnswer → List ℕ → ℕ → List ℕ → ℕ → ℕ → ℕ → List ℕ → Type 0

@@ -3,7 +3,6 @@
 use Prim.Native.Nat.{ℕ}
 use mathlib.Core.List.{List, [], _∷_}
 use lib.ListN.{replicate}
-use Rattle.refusal.specs.Table.{Verdict}
 use Rattle.check_characters.specs.declared.number.Kind.{Kind}
 use Rattle.check_characters.specs.declared.number.Kind.the-variants.{Tracking, Label}
 use Rattle.check_characters.specs.declared.number.NumberAnswer.{NumberAnswer}
@@ -12,6 +11,8 @@ use Rattle.check_characters.specs.declared.answer.IssueAnswer.{IssueAnswer}
 use Rattle.check_characters.specs.declared.answer.IssueAnswer.the-variants.{Issued, Refused}
 use Rattle.check_characters.specs.declared.carry.CarryAnswer.{CarryAnswer}
 use Rattle.check_characters.specs.declared.carry.CarryAnswer.the-variants as keyed
+use Rattle.check_characters.specs.declared.day.DayAnswer.{DayAnswer}
+use Rattle.check_characters.specs.declared.day.DayAnswer.the-variants as day
 use Rattle.check_characters.specs.declared.identcode.Parts.{Parts}
 use Rattle.check_characters.specs.declared.identcode.PartsAnswer.{PartsAnswer}
 use Rattle.check_characters.specs.declared.identcode.PartsAnswer.the-variants as parted
@@ -27,16 +28,6 @@ use Rattle.writer.specs.declared.write.WriteAnswer.{WriteAnswer}
 use Rattle.writer.specs.declared.write.WriteAnswer.the-variants as wrote
 use Rattle.purpose.specs.declared.write.PurposeAnswer.{PurposeAnswer}
 use Rattle.purpose.specs.declared.write.PurposeAnswer.the-variants as purposed
-
--- the paper's refusal number, 0 for accepted
-abbrev pub numberTold : Verdict → ℕ
-numberTold Verdict.passes = 0
-numberTold (Verdict.refused number place) = number
-
--- the refusal's place
-abbrev pub placeTold : Verdict → ℕ
-placeTold Verdict.passes = 0
-placeTold (Verdict.refused number place) = place
 
 -- of a whole file: "number of lines, number of 040 lines, and the cash total in cents"
 abbrev pub linesTold : FileAnswer → ℕ
@@ -108,6 +99,11 @@ kindTold (checked.Refused refusal) = 0
 abbrev pub carryTold : CarryAnswer → ℕ
 carryTold (keyed.Next carry) = carry
 carryTold (keyed.Refused refusal) = 0
+
+-- of a day's numbers: "the count of zeros"
+abbrev pub passedTold : DayAnswer → ℕ
+passedTold (day.Answered passed) = passed
+passedTold (day.Refused refusal) = 0
 
 -- of an identcode: where each of its six parts starts, and how many digits it has, twelve numbers in the parts' order
 abbrev pub asNumbers : Parts → List ℕ

@@ -13,6 +13,7 @@ pub use lines::peliranopi_write_line;
 pub use numbers::peliranopi_check_iban;
 pub use numbers::peliranopi_check_identcode;
 pub use numbers::peliranopi_check_number;
+pub use numbers::peliranopi_check_numbers;
 pub use numbers::peliranopi_issue_identcode;
 pub use numbers::peliranopi_issue_number;
 pub use numbers::peliranopi_next_carry;

@@ -3,10 +3,11 @@ ghost use mathlib.Core.Path.{_≡_};
 ghost use Rattle.check_characters.specs.Answer.{checkVerdict, issueVerdict};
 ghost use Rattle.peliranopi.specs.Told.{kindNumber, issuedTold, asNumbers};
 ghost use Rattle.peliranopi.specs.Calls.{Tells, NumberTells, IssueTells, CarryTells, IbanTells, IdentcodeTells, PartsTells};
-ghost use Rattle.peliranopi.specs.Calls.{IssueIdentcodeTells};
+ghost use Rattle.peliranopi.specs.Calls.{DayTells, IssueIdentcodeTells};
 use crate::tell;
 use check_characters::CarryAnswer;
 use check_characters::CheckAnswer;
+use check_characters::DayAnswer;
 use check_characters::IssueAnswer;
 use check_characters::Kind;
 use check_characters::NumberAnswer;
@@ -25,6 +26,28 @@ pub extern "C" fn peliranopi_check_number(symbols: &[u8], kind: &mut u32, place:
         }
         NumberAnswer::Refused(refusal) => {
             *kind = 0;
+            tell::refused(refusal, place)
+        }
+    }
+}
+
+#[no_mangle]
+pub extern "C" fn peliranopi_check_numbers(
+    numbers: &[u8],
+    answers: &mut [u8],
+    passed: &mut usize,
+    place: &mut usize,
+) -> u32
+    ensures { λ r. ⌜ DayTells (now (numbers .entry)) (now (answers .entry)) r (now (passed .exit)) (now (place .exit)) (now (answers .exit)) ⌝ }
+{
+    let answer = check_characters::check_numbers(numbers, answers);
+    match answer {
+        DayAnswer::Answered(count) => {
+            *passed = count;
+            tell::accepted(place)
+        }
+        DayAnswer::Refused(refusal) => {
+            *passed = 0;
             tell::refused(refusal, place)
         }
     }

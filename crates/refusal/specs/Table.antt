@@ -81,3 +81,13 @@ pub data Verdict : Type 0 where
 
 abbrev pub verdictOf : Refusal → Verdict
 verdictOf refusal = Verdict.refused (numberOf (refusal .why)) (refusal .place)
+
+-- the number that a call tells: the refusal's, 0 for accepted
+abbrev pub numberTold : Verdict → ℕ
+numberTold Verdict.passes = 0
+numberTold (Verdict.refused number place) = number
+
+-- and the refusal's place
+abbrev pub placeTold : Verdict → ℕ
+placeTold Verdict.passes = 0
+placeTold (Verdict.refused number place) = place

@@ -15,6 +15,7 @@ pub mod Writing
 pub mod Purposes
 pub mod Wrong
 pub mod Numbers
+pub mod Days
 pub mod Keys
 pub mod Identcodes
 pub mod Parcels

@@ -3,5 +3,6 @@ pub mod File
 pub mod Write
 pub mod Purpose
 pub mod Number
+pub mod Day
 pub mod Wedge
 pub mod Identcode

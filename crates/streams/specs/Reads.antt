@@ -5,6 +5,7 @@ use mathlib.Core.List.{List}
 use Rattle.io.specs.Counts.{Counts}
 use Rattle.text.specs.Choice.{if_then_else_}
 use Rattle.streams.specs.declared.Input.{Input}
+use Rattle.streams.specs.declared.Piece.{Piece}
 use Rattle.streams.specs.declared.Reading.{Reading}
 
 -- A read that a signal interrupted is made again, any other failure is one, and only a read that succeeds, and gives nothing, is
@@ -18,3 +19,9 @@ meaningOf nothing failed interrupted =
 abbrev pub Held : Input → List ℕ → Type 0
 Held (Input.Whole n) buffer = Counts n buffer
 Held Input.Failed buffer = Unit {0}
+
+-- so do the bytes of one read
+abbrev pub HeldPiece : Piece → List ℕ → Type 0
+HeldPiece (Piece.More n) buffer = Counts n buffer
+HeldPiece Piece.Ended buffer = Unit {0}
+HeldPiece Piece.Failed buffer = Unit {0}

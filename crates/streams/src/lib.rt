@@ -2,11 +2,18 @@
 ghost use mathlib.Core.Path.{_≡_};
 ghost use Prim.Native.Nat.{_≤_};
 ghost use Rattle.io.specs.Counts.{Counts};
-ghost use Rattle.streams.specs.Reads.{Held, meaningOf};
+ghost use Rattle.streams.specs.Reads.{Held, HeldPiece, meaningOf};
 
 // How many bytes of the buffer are the input: all of it, or as much as the buffer takes.
 pub enum Input {
     Whole(usize),
+    Failed,
+}
+
+// What one read gave: so many bytes at the buffer's front, none where a signal interrupted it.
+pub enum Piece {
+    More(usize),
+    Ended,
     Failed,
 }
 
@@ -27,17 +34,28 @@ pub fn read_input(fd: i32, buffer: &mut [u8]) -> Input
         if there == buffer.len() {
             return Input::Whole(there);
         }
-        let got = libc::read(fd, &mut buffer[there..]);
-        let reading = meaning(got == 0, got < 0, os::errno() == libc::EINTR);
-        match reading {
-            Reading::GoesOn => {}
-            Reading::Ended => return Input::Whole(there),
-            Reading::Failed => return Input::Failed,
+        let piece = read_piece(fd, &mut buffer[there..]);
+        match piece {
+            Piece::More(n) => there += n,
+            Piece::Ended => return Input::Whole(there),
+            Piece::Failed => return Input::Failed,
         }
-        there += io::count(got, &buffer[there..]);
         turns -= 1;
     }
     Input::Failed
+}
+
+// Reads once, into a buffer that is not empty.
+pub fn read_piece(fd: i32, buffer: &mut [u8]) -> Piece
+    ensures { λ r. ⌜ HeldPiece r (now (buffer .exit)) ⌝ }
+{
+    let got = libc::read(fd, buffer);
+    let reading = meaning(got == 0, got < 0, os::errno() == libc::EINTR);
+    match reading {
+        Reading::GoesOn => Piece::More(io::count(got, buffer)),
+        Reading::Ended => Piece::Ended,
+        Reading::Failed => Piece::Failed,
+    }
 }
 
 // What a read means that gave nothing, or failed, or failed by a signal.
@@ -58,9 +76,16 @@ fn meaning(nothing: bool, failed: bool, interrupted: bool) -> Reading
 
 // Writes to standard output, and says on standard error where that failed.
 pub fn say(text: &[u8]) {
-    if !io::write_all(libc::STDOUT_FILENO, text) {
-        os::fail(b"standard output");
+    is_said(text);
+}
+
+// The same, for who has to stop there: whether it was written.
+pub fn is_said(text: &[u8]) -> bool {
+    if io::write_all(libc::STDOUT_FILENO, text) {
+        return true;
     }
+    os::fail(b"standard output");
+    false
 }
 
 // The same for a number's decimal digits.

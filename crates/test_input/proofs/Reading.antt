@@ -1,4 +1,4 @@
--- The loops over the input: the steps of a number's digits, and where a line and a number end.
+-- The loops over the input: the steps of a number's digits, and where a number ends.
 use Prim.Native.Nat.{ℕ, _+_, _-_, _*_, _%_, _≤_, _<_}
 use mathlib.Core.Path.{_≡_, sym, _∙_}
 use mathlib.Core.Bool.{Bool, true, false, not}
@@ -11,7 +11,7 @@ use borrow.Author.Tests.{not-true, not-false}
 use Rattle.text.specs.Byte.{digit}
 use Rattle.text.specs.Scan.{firstFailing}
 use Rattle.text.proofs.Scans.{walk-stops, walk-ends}
-use Rattle.test_input.specs.Input.{inLine, lineEnd, valueFrom, behind, given}
+use Rattle.test_input.specs.Input.{valueFrom, behind, given}
 
 -- v is written in front of the byte at the place i
 module _ (s : List ℕ) (i v z : ℕ) where
@@ -30,20 +30,6 @@ module _ (s : List ℕ) (i v z : ℕ) where
 
 -- a loop from start on that is at the place i
 module _ (s : List ℕ) (start i : ℕ) where
-  pub line-stops :
-      (t : Bool) → i < length s → t ≡ inLine (getD s i 0) → not t ≡ true →
-      firstFailing (λ _ b. inLine b) i (drop i s) ≡ firstFailing (λ _ b. inLine b) start (drop start s) → i ≡ lineEnd s start
-  line-stops t h e q f =
-      let w = walk-stops (λ _ b. inLine b) s i (firstFailing (λ _ b. inLine b) start (drop start s)) t h e q f in
-      omega (arith, w)
-
-  pub line-ends :
-      length s ≤ i → firstFailing (λ _ b. inLine b) i (drop i s) ≡ firstFailing (λ _ b. inLine b) start (drop start s) →
-      length s ≡ lineEnd s start
-  line-ends h f =
-      let w = walk-ends (λ _ b. inLine b) s i (firstFailing (λ _ b. inLine b) start (drop start s)) h f in
-      omega (arith, w)
-
   module _ (v : ℕ) (ev : valueFrom v (drop i s) ≡ valueFrom 0 (drop start s))
       (f : firstFailing (λ _ b. digit b) i (drop i s) ≡ firstFailing (λ _ b. digit b) start (drop start s)) where
     pub given-stops :

@@ -1,21 +1,11 @@
--- The input of the test programs: where a line ends, and the number that stands at a place.
+-- The input of the test programs: the number that stands at a place.
 use Prim.Native.Nat.{ℕ, _+_, _-_, _*_, _%_, min}
-use mathlib.Core.Bool.{Bool, not}
 use mathlib.Core.List.{List, [], _∷_}
-use lib.Dec.{eqb}
 use lib.ListN.{length, drop}
 use Rattle.text.specs.Choice.{if_then_else_}
 use Rattle.text.specs.Byte.{digit}
 use Rattle.text.specs.Scan.{firstFailing}
 use Rattle.test_input.specs.declared.Given.{Given}
-
--- any byte but a line feed
-abbrev pub inLine : ℕ → Bool
-inLine b = not (eqb b 10)
-
--- the first line feed from here on, or the input's length
-abbrev pub lineEnd : List ℕ → ℕ → ℕ
-lineEnd s start = min (length s) (firstFailing (λ _ b. inLine b) start (drop start s))
 
 -- the number that the digits at the front write behind digits that write a, modulo 1,000,000
 abbrev pub valueFrom : ℕ → List ℕ → ℕ

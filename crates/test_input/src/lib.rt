@@ -1,27 +1,13 @@
-// The input of the test programs: lines that end with a line feed, and numbers in them.
+// The input of the test programs: the numbers in its lines.
 ghost use mathlib.Core.Path.{_≡_};
 ghost use Prim.Native.Nat.{_-_, _≤_};
 ghost use lib.ListN.{length};
-ghost use Rattle.test_input.specs.Input.{inLine, lineEnd, given};
+ghost use Rattle.test_input.specs.Input.{given};
 
 // A number, and where the input goes on behind it and the byte that ends it.
 pub struct Given {
     pub value: usize,
     pub next: usize,
-}
-
-// The end of the line that starts here: the next line feed, or the end of the input.
-pub fn line_end(s: &[u8], start: usize) -> usize
-    ensures { λ r. ⌜ (r ≡ lineEnd (now (s .entry)) start) × (r ≤ length (now (s .entry))) ⌝ }
-{
-    let mut i = start;
-    while i < s.len() {
-        if !is_in_line(s[i]) {
-            return i;
-        }
-        i += 1;
-    }
-    s.len()
 }
 
 // The number that the digits from here on write, modulo 1,000,000.
@@ -41,12 +27,6 @@ pub fn number(s: &[u8], start: usize) -> Given
         value,
         next: s.len(),
     }
-}
-
-fn is_in_line(b: u8) -> bool
-    ensures { λ r. ⌜ r ≡ inLine b ⌝ }
-{
-    b != b'\n'
 }
 
 // What a digit is worth; 0 for a byte below the digits.

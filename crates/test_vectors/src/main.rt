@@ -1,9 +1,11 @@
 // Runs vectors: each line of the input is a letter, a space and a text, and each gives a line with the text and its answer.
 // N: a DPD number is checked. B: one is issued from this body. C: the check character is given. I: an IBAN is checked. D: an identcode
 // is checked. P: its parts are read. J: one is issued from these digits. K: the carry after one more key is given, where the text is the
-// carry before it, a space and the key. T: the text is typed key by key, and the carry after each key is given.
+// carry before it, a space and the key. T: the text is typed key by key, and the carry after each key is given. A: a day's numbers are
+// checked, where the text is how many answer bytes are lent, a space and the numbers; each answer byte is given too.
 use check_characters::CarryAnswer;
 use check_characters::CheckAnswer;
+use check_characters::DayAnswer;
 use check_characters::IssueAnswer;
 use check_characters::Kind;
 use check_characters::NumberAnswer;
@@ -25,7 +27,7 @@ fn main() {
 fn run(s: &[u8]) {
     let mut start: usize = 0;
     while start < s.len() {
-        let end = test_input::line_end(s, start);
+        let end = text::line_feed(s, start);
         if end < start {
             return;
         }
@@ -52,6 +54,7 @@ fn say(line: &[u8]) {
         b'J' => say_issued_identcode(text),
         b'K' => say_next(text),
         b'T' => say_typed(text),
+        b'A' => say_day(text),
         _ => say_unknown(),
     }
 }
@@ -196,4 +199,45 @@ fn say_carry(answer: CarryAnswer) -> u32 {
             0
         }
     }
+}
+
+// The answer bytes hold 99 before the call, so that one sees which of them it wrote.
+fn say_day(s: &[u8]) {
+    let given = test_input::number(s, 0);
+    let room = given.value;
+    let at = given.next;
+    if room > 9 {
+        say_unknown();
+        return;
+    }
+    let mut answers = [99u8; 9];
+    say_answers(&s[at..], &mut answers[..room]);
+}
+
+fn say_answers(numbers: &[u8], answers: &mut [u8]) {
+    let answer = check_characters::check_numbers(numbers, answers);
+    match answer {
+        DayAnswer::Answered(passed) => say_passed(passed),
+        DayAnswer::Refused(refusal) => say_refused(refusal),
+    }
+    say_bytes(answers);
+    streams::say(b"\n");
+}
+
+fn say_passed(passed: usize) {
+    streams::say(b" passed ");
+    streams::say_decimal(passed as u64);
+}
+
+fn say_bytes(s: &[u8]) {
+    let mut i: usize = 0;
+    while i < s.len() {
+        say_byte(s[i]);
+        i += 1;
+    }
+}
+
+fn say_byte(b: u8) {
+    streams::say(b" ");
+    streams::say_decimal(b as u64);
 }

@@ -18,7 +18,7 @@ fn main() {
 fn run(s: &[u8]) {
     let mut start: usize = 0;
     while start < s.len() {
-        let end = test_input::line_end(s, start);
+        let end = text::line_feed(s, start);
         if end <= start {
             return;
         }

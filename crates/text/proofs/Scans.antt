@@ -12,7 +12,7 @@ use lib.Seq.{drop-cons}
 use lib.Dec.{eqb}
 use borrow.Author.Tests.{not-true, not-false, eq-eqb, ne-eqb, eqb-true}
 use Rattle.text.specs.Choice.{if_then_else_}
-use Rattle.text.specs.Scan.{firstFailing, all, count, among, paired, same}
+use Rattle.text.specs.Scan.{firstFailing, inLine, lineFeed, all, count, among, paired, same}
 use Rattle.text.proofs.Choices.{and-left, and-right, and-both, true-or-false}
 
 -- a loop at the place i that has walked over what lies in front of it: each premise is a fact that the loop has
@@ -26,6 +26,22 @@ module _ (ok : ℕ → ℕ → Bool) (s : List ℕ) (i z : ℕ) where
 
   pub walk-ends : length s ≤ i → firstFailing ok i (drop i s) ≡ z → i ≡ z
   walk-ends h f = sym (rw (drop-of-length-le s)) ∙ f
+
+-- a loop from start on that is at the place i, and looks for a line feed
+module _ (s : List ℕ) (start i : ℕ) where
+  pub feed-here :
+      (t : Bool) → i < length s → t ≡ inLine (getD s i 0) → not t ≡ true →
+      firstFailing (λ _ b. inLine b) i (drop i s) ≡ firstFailing (λ _ b. inLine b) start (drop start s) → i ≡ lineFeed s start
+  feed-here t h e q f =
+      let w = walk-stops (λ _ b. inLine b) s i (firstFailing (λ _ b. inLine b) start (drop start s)) t h e q f in
+      omega (arith, w)
+
+  pub feed-nowhere :
+      length s ≤ i → firstFailing (λ _ b. inLine b) i (drop i s) ≡ firstFailing (λ _ b. inLine b) start (drop start s) →
+      length s ≡ lineFeed s start
+  feed-nowhere h f =
+      let w = walk-ends (λ _ b. inLine b) s i (firstFailing (λ _ b. inLine b) start (drop start s)) h f in
+      omega (arith, w)
 
 -- where the walk passes over every byte, each passes the test, and the other way round
 module _ (ok : ℕ → ℕ → Bool) where

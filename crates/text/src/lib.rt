@@ -6,7 +6,7 @@ ghost use lib.Dec.{eqb};
 ghost use lib.ListN.{length, take, drop};
 ghost use Rattle.text.specs.Byte.{digit, capital, small, symbol, textByte, purposeByte, inClass};
 ghost use Rattle.text.specs.Choice.{if_then_else_};
-ghost use Rattle.text.specs.Scan.{all, count, among, same};
+ghost use Rattle.text.specs.Scan.{all, count, among, same, inLine, lineFeed};
 ghost use Rattle.text.specs.Placed.{placed, written};
 
 // The classes that a form asks of every byte.
@@ -146,6 +146,26 @@ fn one_for(mark: u8, b: u8) -> usize
         return 1;
     }
     0
+}
+
+// The next line feed from a place on, or the end of the run.
+pub fn line_feed(s: &[u8], start: usize) -> usize
+    ensures { λ r. ⌜ (r ≡ lineFeed (now (s .entry)) start) × (r ≤ length (now (s .entry))) ⌝ }
+{
+    let mut i = start;
+    while i < s.len() {
+        if !is_in_line(s[i]) {
+            return i;
+        }
+        i += 1;
+    }
+    s.len()
+}
+
+fn is_in_line(b: u8) -> bool
+    ensures { λ r. ⌜ r ≡ inLine b ⌝ }
+{
+    b != b'\n'
 }
 
 // Whether two runs are equal, byte for byte.

@@ -1,0 +1,11 @@
+pub mod Tabling
+pub mod Endings
+pub mod Splitting
+pub mod Overruling
+pub mod Slots
+pub mod Laying
+pub mod Keeping
+pub mod Answering
+pub mod Printing
+pub mod Pieces
+pub mod Example
