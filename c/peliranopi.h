@@ -19,9 +19,9 @@ extern "C" {
 
 /* The version of this interface; that of a file is PELIRANOPI_FILE_VERSION_5 or _7 below. CONTRIBUTING.md says how it is counted. */
 #define PELIRANOPI_VERSION_MAJOR 0
-#define PELIRANOPI_VERSION_MINOR 5
+#define PELIRANOPI_VERSION_MINOR 6
 #define PELIRANOPI_VERSION_PATCH 0
-#define PELIRANOPI_VERSION "0.5.0"
+#define PELIRANOPI_VERSION "0.6.0"
 
 /* The refusals. README.md has the table with their places. Later versions may have more: an answer that is not 0 is a refusal, also
  * where its number is not among these. */
@@ -43,7 +43,7 @@ enum {
     PELIRANOPI_OUTPUT_TOO_SHORT = 13,   /* the lent output has too few bytes */
     PELIRANOPI_FIELD_ENDS = 14,         /* the ends of the writer's fields do not fit its text */
     PELIRANOPI_NOT_THERE = 15,          /* there is no such field, line or carry, or it is not a 006 line */
-    PELIRANOPI_WRONG_LENGTH = 16,       /* a number has a wrong length */
+    PELIRANOPI_WRONG_LENGTH = 16,       /* a number or a day's buffer has a wrong length */
     PELIRANOPI_WRONG_SYMBOL = 17,       /* a symbol may not stand where it stands */
     PELIRANOPI_WRONG_CHECK = 18,        /* the check is wrong */
     PELIRANOPI_CONTACT_MISSING = 19,    /* a sender's phone or mail is empty, and this shipment's country is on the lent list */
@@ -141,6 +141,17 @@ uint32_t peliranopi_write_purpose(const uint8_t *file, size_t file_len,
 
 /* Checks a tracking number (15 symbols) or a label code (28): its kind, PELIRANOPI_TRACKING or PELIRANOPI_LABEL. */
 uint32_t peliranopi_check_number(const uint8_t *symbols, size_t symbols_len, uint32_t *kind, size_t *place);
+
+/* Checks a day's tracking numbers, which stand in one buffer, PELIRANOPI_TRACKING_LEN bytes each. A number that does not pass does
+ * not refuse the call: its answer byte says so. The call is refused by PELIRANOPI_WRONG_LENGTH where the buffer's length is no multiple
+ * of PELIRANOPI_TRACKING_LEN, then by PELIRANOPI_OUTPUT_TOO_SHORT where there are fewer answer bytes than numbers.
+ * answers: accepted, byte i is what peliranopi_check_number answers for number i, counted from 0: PELIRANOPI_ACCEPTED,
+ * PELIRANOPI_WRONG_SYMBOL or PELIRANOPI_WRONG_CHECK; every byte behind these is as it was. Refused, all bytes are as they were.
+ * passed: how many numbers were answered PELIRANOPI_ACCEPTED; 0 where there are no numbers.
+ * place: always 0. */
+uint32_t peliranopi_check_numbers(const uint8_t *numbers, size_t numbers_len,
+                                  uint8_t *answers, size_t answers_len,
+                                  size_t *passed, size_t *place);
 
 /* Issues the number that has this body (14 or 27 symbols).
  * written: how many bytes, 15 or 28.

@@ -378,6 +378,84 @@ static void check_number(const char *symbols, uint32_t refusal, uint32_t kind, s
     is("the place", at, place);
 }
 
+/* Checks a day's numbers with a room of so many answer bytes, which hold 99 before, 64 at most, and holds the answer against
+ * `passed COUNT` or `no NUMBER PLACE` with every byte of the room behind it. */
+static void check_numbers(const char *numbers, size_t room, const char *due)
+{
+    open_case("check_numbers", numbers);
+    uint8_t answers[66];
+    memset(answers, 99, sizeof answers);
+    size_t passed = NONSENSE, at = NONSENSE;
+    uint32_t refusal = peliranopi_check_numbers((const uint8_t *)numbers, strlen(numbers), answers + 1, room, &passed, &at);
+    char answer[512];
+    int length;
+    if (refusal == PELIRANOPI_ACCEPTED)
+        length = snprintf(answer, sizeof answer, "passed %zu", passed);
+    else
+        length = snprintf(answer, sizeof answer, "no %" PRIu32 " %zu", refusal, at);
+    for (size_t byte = 1; byte <= room; byte++)
+        length += snprintf(answer + length, sizeof answer - (size_t)length, " %u", (unsigned)answers[byte]);
+    if (strcmp(answer, due) != 0)
+        fail(answer);
+    is(refusal == PELIRANOPI_ACCEPTED ? "the place" : "what passed", refusal == PELIRANOPI_ACCEPTED ? at : passed, 0);
+    is("the byte in front of the answers", answers[0], 99);
+    is("the byte behind the answers", answers[room + 1], 99);
+}
+
+/* One byte in place of another in the middle one of three numbers, which pass: its answer is that of its own call, and those of its
+ * neighbours are 0. */
+static void check_numbers_alone(size_t place, uint8_t byte)
+{
+    static char input[64];
+    snprintf(input, sizeof input, "byte %u at %zu of the middle number", byte, place);
+    open_case("check_numbers", input);
+    uint8_t numbers[3 * PELIRANOPI_TRACKING_LEN], answers[4] = {99, 99, 99, 99};
+    memcpy(numbers, "09980000020041F00000000000000U016325329483752", sizeof numbers);
+    uint8_t *middle = numbers + PELIRANOPI_TRACKING_LEN;
+    middle[place] = byte;
+    uint32_t kind;
+    size_t passed = NONSENSE, at = NONSENSE, at_alone;
+    uint32_t alone = peliranopi_check_number(middle, PELIRANOPI_TRACKING_LEN, &kind, &at_alone);
+    is("the answer", peliranopi_check_numbers(numbers, sizeof numbers, answers, sizeof answers, &passed, &at), PELIRANOPI_ACCEPTED);
+    is("what passed", passed, alone == PELIRANOPI_ACCEPTED ? 3 : 2);
+    is("the place", at, 0);
+    is("the answer of the first", answers[0], PELIRANOPI_ACCEPTED);
+    is("the answer of the middle one", answers[1], alone);
+    is("the answer of the last", answers[2], PELIRANOPI_ACCEPTED);
+    is("the byte behind the last number's", answers[3], 99);
+    /* A byte behind the last number's that is 0 is not counted. */
+    answers[3] = 0;
+    is("the answer", peliranopi_check_numbers(numbers, sizeof numbers, answers, sizeof answers, &passed, &at), PELIRANOPI_ACCEPTED);
+    is("what passed again", passed, alone == PELIRANOPI_ACCEPTED ? 3 : 2);
+}
+
+static void check_numbers_cases(void)
+{
+    for (size_t place = 0; place < PELIRANOPI_TRACKING_LEN; place++) {
+        for (int byte = 0; byte < 256; byte++)
+            check_numbers_alone(place, (uint8_t)byte);
+    }
+    /* Every length of the buffer with every room: 16, then 13. */
+    const char *whole = "09980000020041F09980000020041G09980000020041f";
+    for (size_t length = 0; length <= strlen(whole); length++) {
+        char numbers[64];
+        snprintf(numbers, sizeof numbers, "%.*s", (int)length, whole);
+        for (size_t room = 0; room <= 4; room++) {
+            static const char *const stay[5] = {"", " 99", " 99 99", " 99 99 99", " 99 99 99 99"};
+            static const char *const answers[4] = {"passed 0", "passed 1 0", "passed 1 0 18", "passed 1 0 18 17"};
+            size_t count = length / PELIRANOPI_TRACKING_LEN;
+            char due[64];
+            if (length % PELIRANOPI_TRACKING_LEN)
+                snprintf(due, sizeof due, "no %d 0%s", PELIRANOPI_WRONG_LENGTH, stay[room]);
+            else if (room < count)
+                snprintf(due, sizeof due, "no %d 0%s", PELIRANOPI_OUTPUT_TOO_SHORT, stay[room]);
+            else
+                snprintf(due, sizeof due, "%s%s", answers[count], stay[room - count]);
+            check_numbers(numbers, room, due);
+        }
+    }
+}
+
 /* Issues a number into an output of so many bytes, 32 at most. */
 static void issue_number(const char *body, size_t length, uint32_t refusal, const char *number, size_t place)
 {
@@ -529,6 +607,16 @@ static void typed_keys(const char *keys, const char *due)
         fail(keys);
 }
 
+/* A room of answer bytes, a space and a day's numbers. */
+static void asked_day(const char *text, const char *due)
+{
+    char *space;
+    size_t room = (size_t)strtoul(text, &space, 10);
+    if (*space != ' ' || room > 64)
+        fail(text);
+    check_numbers(space + 1, room, due);
+}
+
 /* One stored vector: what is asked, the symbols, and the answer in words. The answer of `C` comes from no call. */
 static void vector(char asked, const char *symbols, const char *due)
 {
@@ -555,6 +643,8 @@ static void vector(char asked, const char *symbols, const char *due)
         asked_key(symbols, due);
     else if (asked == 'T')
         typed_keys(symbols, due);
+    else if (asked == 'A')
+        asked_day(symbols, due);
     else if (asked != 'C')
         fail("no such vector");
 }
@@ -621,6 +711,7 @@ int main(int argc, char **argv)
     find_field_cases();
     write_line_cases();
     write_purpose_cases();
+    check_numbers_cases();
     next_carry_cases();
     vector_cases(argv[2]);
     printf("test: %d calls from C: answered as they should be\n", cases);

@@ -1,4 +1,4 @@
-/* A read for tests/judge, in place of the C library's: a signal interrupts every other call. */
+/* A read for tests/judge and tests/returns, in place of the C library's: a signal interrupts every other call. */
 #define _GNU_SOURCE
 #include <errno.h>
 #include <sys/syscall.h>

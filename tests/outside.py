@@ -1,4 +1,4 @@
-"""Holds numbers, carries, IBANs and identcodes against stdnum: /usr/bin/python3 tests/outside.py COUNT SEED PROGRAM..., where the program
+"""Holds numbers, days of them, carries, IBANs and identcodes against stdnum: /usr/bin/python3 tests/outside.py COUNT SEED PROGRAM..., where the program
 answers requests as tests/compare/src/bin/numbers.rs does. COUNT requests of each kind are made, whole and damaged.
 
 stdnum knows the check characters, not our profile of them (document 01). So:
@@ -93,6 +93,13 @@ def expected_printed(text):
     return expected_iban(text)
 
 
+def expected_day(numbers):
+    """Number by number, each with its own verdict of stdnum."""
+    answers = [expected_number(text) for text in numbers]
+    told = ["0" if answer == "tracking" else answer.split()[1] for answer in answers]
+    return " ".join([f"passed {told.count('0')}", *told])
+
+
 def drawn(rng, symbols, count):
     return "".join(rng.choice(symbols) for _ in range(count))
 
@@ -138,6 +145,25 @@ def number(rng, label):
     body = number_body(rng, label)
     whole = body + mod_37_36.calc_check_digit(body)
     return damaged(rng, whole, lambda text: text[:-1] + rng.choice(SYMBOLS))
+
+
+def number_of_a_day(rng):
+    """A tracking number, whole or damaged, that has its length."""
+    while True:
+        text = number(rng, False)
+        if len(text) == 15:
+            return text
+
+
+def days(rng, count):
+    """So many numbers in days of drawn length."""
+    numbers = [number_of_a_day(rng) for _ in range(count)]
+    found, start = [], 0
+    while start < count:
+        end = start + rng.choice((1, 2, rng.randint(1, 12), rng.randint(1, 200)))
+        found.append(numbers[start:end])
+        start = end
+    return found
 
 
 def body(rng):
@@ -265,6 +291,21 @@ def compare(name, requests, expected, program):
     return len(expected) - sum(refusals.values()), "".join(f" {n}:{refusals[n]}" for n in sorted(refusals))
 
 
+def compare_days(count, seed, rng, program):
+    """The same numbers' kinds, of which each day is one request."""
+    drawn_days = days(rng, count)
+    name, expected = "tracking numbers, a day at once", [expected_day(day) for day in drawn_days]
+    compare(name, [f"day {''.join(day)}" for day in drawn_days], expected, program)
+    each = collections.Counter(int(byte) for told in expected for byte in told.split()[2:])
+    accepted = each.pop(0)
+    refusals = "".join(f" {n}:{each[n]}" for n in sorted(each))
+    print(
+        f"test: {count} {name}: answered as stdnum does, {accepted} accepted, refusals{refusals}, {len(drawn_days)} days (seed {seed})"
+    )
+    if accepted + sum(each.values()) != count or sorted(each) != [17, 18]:
+        sys.exit(f"test: of the {name} not all were answered, or not by each of 0, 17 and 18")
+
+
 def main(count, seed, program):
     rng, known = random.Random(seed), structures()
     for name, requests, expected in kinds(count, rng, known):
@@ -278,6 +319,7 @@ def main(count, seed, program):
     print(f"test: {count} {name}: stdnum takes them, {accepted} accepted, refusals{refusals} (seed {seed})")
     if accepted:
         sys.exit(f"test: of the {name} some were accepted")
+    compare_days(count, seed, rng, program)
 
 
 if __name__ == "__main__":

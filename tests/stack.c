@@ -93,6 +93,7 @@ int main(int argc, char **argv)
           TEXT("00612.50EURMusterAT611904300234573201ABCDATWW"), AT(ends), 10, AT(output), 128, 0, AT(&one), AT(&place));
     PRINT(write_purpose, PELIRANOPI_ACCEPTED, AT(file), length, TEXT("CH"), 5, AT(list), 16, AT(output), 128, AT(&one), AT(&place));
     PRINT(check_number, PELIRANOPI_ACCEPTED, TEXT("0002800099800000200371550566"), AT(&kind), AT(&place));
+    PRINT(check_numbers, PELIRANOPI_ACCEPTED, TEXT("09980000020041F09980000020041G09980000020041f"), AT(output), 128, AT(&one), AT(&place));
     PRINT(issue_number, PELIRANOPI_ACCEPTED, TEXT("000280009980000020037155056"), AT(output), 128, AT(&one), AT(&place));
     PRINT(next_carry, PELIRANOPI_ACCEPTED, PELIRANOPI_CARRY_START, 'Z', AT(&next), AT(&place));
     PRINT(check_iban, PELIRANOPI_ACCEPTED, TEXT("AT611904300234573201"), AT(&place));

@@ -68,6 +68,21 @@ def number(text):
     return "tracking number" if len(text) == 15 else "label code"
 
 
+def day(text):
+    """A room of answer bytes, which hold 99, and the numbers of a day, 15 symbols after 15; each is answered as it would be alone."""
+    room, _, numbers = text.partition(" ")
+    answers = [99] * int(room)
+    alone = [number(numbers[start : start + 15]) for start in range(0, len(numbers), 15)]
+    if len(numbers) % 15:
+        told = "no 16 0"
+    elif len(answers) < len(alone):
+        told = "no 13 0"
+    else:
+        told = f"passed {alone.count('tracking number')}"
+        answers[: len(alone)] = [int(answer.split()[1]) if answer.startswith("no ") else 0 for answer in alone]
+    return " ".join([told, *map(str, answers)])
+
+
 def issued(body):
     if len(body) not in (14, 27):
         return "no 16 0"
@@ -136,6 +151,7 @@ ANSWERS = {
     "J": issued_identcode,
     "K": asked,
     "T": typed,
+    "A": day,
 }
 
 if __name__ == "__main__":

@@ -1,6 +1,7 @@
 //! The dispatch core of a carrier desk: judges, reads and writes Austrian Post pre-advice flat
 //! files (versions 5 and 7), works out payment purposes, checks, reads and issues identcodes, checks
-//! and issues DPD parcel numbers, tells their carry key by key, and checks IBANs.
+//! and issues DPD parcel numbers, checks a day's tracking numbers at once, tells the carry key by
+//! key, and checks IBANs.
 //!
 //! These are safe functions over the static library of Peliranopi, which is for x86-64 and whose
 //! code is proved. Each takes every input, ends, and answers or refuses; a refusal has its number in
@@ -37,6 +38,7 @@
 #![deny(unsafe_op_in_unsafe_fn)]
 
 mod carry;
+mod day;
 mod fields;
 mod file;
 mod identcode;
@@ -47,6 +49,7 @@ mod refusal;
 mod version;
 
 pub use carry::{next_carry, CARRY_PASSED, CARRY_START};
+pub use day::{check_each, check_numbers, Answers, AnswersIntoIter, AnswersIter};
 pub use fields::{find_fields, Fields};
 pub use file::{find_field, judge, read_line, write_line, write_purpose, Line, Record, Totals};
 pub use identcode::{check_identcode, issue_identcode, read_identcode, IdentcodeParts};

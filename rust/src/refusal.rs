@@ -84,7 +84,7 @@ refusals! {
     13 OutputTooShort: "the lent output has too few bytes", "0";
     14 FieldEnds: "the ends of the writer's fields do not fit its text", "0";
     15 NotThere: "there is no such field, line or carry, or it is not a 006 line", "0";
-    16 WrongLength: "a number has a wrong length", "0";
+    16 WrongLength: "a number or a day's buffer has a wrong length", "0";
     17 WrongSymbol: "a symbol may not stand where it stands", "first such symbol";
     18 WrongCheck: "the check is wrong", "last symbol; for an IBAN 2";
     19 ContactMissing: "a sender's phone or mail is empty, and this shipment's country is on the lent list",

@@ -228,6 +228,203 @@ fn an_identcode_is_issued_and_nothing_else_is_written() {
     assert_eq!(output, [b'.'; 30]);
 }
 
+/// Tracking numbers: three that pass, one with a wrong check and two with a wrong symbol.
+const NUMBERS: [&[u8; TRACKING_LEN]; 6] = [
+    b"09980000020041F",
+    b"00000000000000U",
+    b"016325329483752",
+    b"09980000020041G",
+    b"09980000020041f",
+    b"0998000002O041F",
+];
+
+/// The byte that a number must have among the answers of a day: that of its own call.
+fn byte_alone(number: &[u8]) -> u8 {
+    match check_number(number) {
+        Ok(kind) => {
+            assert_eq!(kind, Kind::Tracking);
+            0
+        }
+        Err(refused) => refused.why.number().try_into().unwrap(),
+    }
+}
+
+/// The raw call of a day: its answer, `passed` and `place`, which are nonsense before.
+fn day_raw(numbers: &[u8], answers: &mut [u8]) -> (u32, usize, usize) {
+    let nonsense = usize::MAX / 3;
+    let (mut passed, mut place) = (nonsense, nonsense);
+    // SAFETY: each pointer comes with the length of its own slice or points to one local number.
+    let number = unsafe {
+        sys::peliranopi_check_numbers(
+            numbers.as_ptr(),
+            numbers.len(),
+            answers.as_mut_ptr(),
+            answers.len(),
+            &mut passed,
+            &mut place,
+        )
+    };
+    (number, passed, place)
+}
+
+/// Every row of up to three of the numbers, so that each answer has each other as its neighbour, in
+/// room that is just enough, and more.
+#[test]
+fn each_number_of_a_day_is_answered_as_it_would_be_alone() {
+    assert_eq!(NUMBERS.map(|n| byte_alone(n)), [0, 0, 0, 18, 17, 17]);
+    let kinds = NUMBERS.len();
+    for count in 0..=3 {
+        for which in 0..kinds.pow(count) {
+            let mut day = Vec::new();
+            (0..count).fold(which, |left, _| {
+                day.push(*NUMBERS[left % kinds]);
+                left / kinds
+            });
+            let due: Vec<u8> = day.iter().map(|number| byte_alone(number)).collect();
+            let passed = due.iter().filter(|byte| **byte == 0).count();
+            // A byte behind the last number's that is 0 must not be counted.
+            for (more, held) in [(0, 99), (1, 99), (20, 99), (1, 0), (20, 0)] {
+                let stays = vec![held; more];
+                let mut answers = vec![held; day.len() + more];
+                let answer = check_numbers(day.as_flattened(), &mut answers);
+                assert_eq!(answer, Ok(passed));
+                assert_eq!(answers, [&due[..], &stays].concat());
+                let answer = day_raw(day.as_flattened(), &mut answers);
+                assert_eq!(answer, (0, passed, 0));
+            }
+            let each = check_each(&day);
+            assert_eq!((each.passed(), each.len()), (passed, day.len()));
+            assert_eq!(each.is_empty(), day.is_empty());
+            let alone = day.iter().map(|number| {
+                let answer = check_number(number);
+                answer.map(|_| ()).map_err(|refused| refused.why)
+            });
+            assert!(each.iter().eq(alone.clone()) && each.into_iter().eq(alone));
+        }
+    }
+}
+
+#[test]
+fn a_day_of_no_numbers_writes_nothing() {
+    for room in [0, 1, 9] {
+        let mut answers = vec![99; room];
+        assert_eq!(check_numbers(b"", &mut answers), Ok(0));
+        assert_eq!(day_raw(b"", &mut answers), (0, 0, 0));
+        assert_eq!(answers, vec![99; room]);
+    }
+    assert_eq!(check_each(&[]).iter().next(), None);
+}
+
+/// Every length of the buffer with every room: 16 before 13, both at 0. What a refusal leaves is what
+/// was there.
+#[test]
+fn a_day_is_refused_by_its_length_and_then_by_its_room() {
+    let numbers = [*NUMBERS[0]; 4];
+    for length in 0..=numbers.as_flattened().len() {
+        let numbers = &numbers.as_flattened()[..length];
+        let count = length / TRACKING_LEN;
+        for room in 0..=6 {
+            let mut answers = vec![99; room];
+            let answer = check_numbers(numbers, &mut answers);
+            let due = match length % TRACKING_LEN {
+                0 if room >= count => {
+                    assert_eq!(answer, Ok(count));
+                    assert_eq!(answers[count..], vec![99; room - count]);
+                    continue;
+                }
+                0 => 13,
+                _ => 16,
+            };
+            assert_eq!(refusal(answer), (due, 0), "{length} bytes, room {room}");
+            assert_eq!(day_raw(numbers, &mut answers), (due, 0, 0));
+            assert_eq!(answers, vec![99; room]);
+        }
+    }
+}
+
+/// Every byte at every place of the number in the middle. The neighbours keep their answers.
+#[test]
+fn a_wrong_symbol_of_a_day_is_answered_for_its_own_number_alone() {
+    let mut seen = [0; 3];
+    for place in 0..TRACKING_LEN {
+        for byte in 0..=u8::MAX {
+            let mut day = [*NUMBERS[0]; 3];
+            day[1][place] = byte;
+            let due = byte_alone(&day[1]);
+            let mut answers = [99; 3];
+            let passed = check_numbers(day.as_flattened(), &mut answers);
+            assert_eq!(passed, Ok(2 + usize::from(due == 0)));
+            assert_eq!(answers, [0, due, 0], "{byte} at {place}");
+            seen[[0, 17, 18].iter().position(|one| *one == due).unwrap()] += 1;
+        }
+    }
+    assert!(seen.iter().all(|count| *count >= 15), "{seen:?}");
+}
+
+/// Numbers that pass, one symbol further: none of the day's own does.
+#[test]
+fn a_day_is_cut_where_it_starts() {
+    let twice = [*NUMBERS[0]; 2];
+    let mut shifted = twice;
+    shifted.as_flattened_mut().rotate_right(1);
+    let mut answers = [99; 2];
+    assert_eq!(check_numbers(twice.as_flattened(), &mut answers), Ok(2));
+    assert_eq!(check_numbers(shifted.as_flattened(), &mut answers), Ok(0));
+    assert_eq!(answers, [17, 17]);
+}
+
+/// A label code is no tracking number, and with two more bytes it is two.
+#[test]
+fn a_label_code_among_a_days_numbers() {
+    let label = b"0002800099800000200371550566";
+    assert_eq!(check_number(label), Ok(Kind::Label));
+    let mut answers = [99; 9];
+    assert_eq!(refusal(check_numbers(label, &mut answers)), (16, 0));
+    assert_eq!(answers, [99; 9]);
+    let longer = [&label[..], b"00"].concat();
+    let passed = check_numbers(&longer, &mut answers).unwrap();
+    let due = [&longer[..15], &longer[15..]].map(byte_alone);
+    assert_eq!(answers[..2], due);
+    assert_eq!(passed, due.iter().filter(|byte| **byte == 0).count());
+    assert_eq!(answers[2..], [99; 7]);
+}
+
+/// More numbers than a byte, and than two bytes, can count.
+#[test]
+fn a_long_day() {
+    let mut day = vec![*NUMBERS[1]; 70_000];
+    for at in [0, 255, 256, 65_535, 65_536, 69_999] {
+        day[at] = *NUMBERS[3];
+    }
+    let each = check_each(&day);
+    assert_eq!((each.passed(), each.len()), (70_000 - 6, 70_000));
+    for (number, answer) in day.iter().zip(&each) {
+        let due = match number == NUMBERS[3] {
+            true => Err(Reason::WrongCheck),
+            false => Ok(()),
+        };
+        assert_eq!(answer, due);
+    }
+}
+
+/// The iterators say how many answers are left, and have no more behind the last.
+#[test]
+fn the_answers_of_a_day_are_counted_down() {
+    let answers = check_each(&[*NUMBERS[0], *NUMBERS[3]]);
+    let (mut borrowed, mut owned) = (answers.iter(), answers.clone().into_iter());
+    for (left, due) in [
+        (2, Some(Ok(()))),
+        (1, Some(Err(Reason::WrongCheck))),
+        (0, None),
+        (0, None),
+    ] {
+        assert_eq!((borrowed.len(), owned.len()), (left, left));
+        assert_eq!((borrowed.next(), owned.next()), (due, due));
+    }
+    assert_eq!(check_each(&[*NUMBERS[0], *NUMBERS[3]]), answers);
+    assert_ne!(check_each(&[*NUMBERS[0], *NUMBERS[4]]), answers);
+}
+
 /// The carries behind the symbols of a number that is typed.
 fn carries(symbols: &[u8]) -> Result<Vec<u32>, Refusal> {
     let mut carry = CARRY_START;

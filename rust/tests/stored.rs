@@ -116,6 +116,7 @@ fn answer(request: &str) -> String {
             said(next, |next| next.to_string())
         }
         "T" => typed(symbols),
+        "A" => day(&request[2..]),
         asked => panic!("no call answers {asked}"),
     }
 }
@@ -129,6 +130,20 @@ fn typed(keys: &[u8]) -> String {
         said(next, |next| next.to_string())
     });
     answers.collect::<Vec<_>>().join(" ")
+}
+
+/// The answer to a room and a day's numbers, and behind it every answer byte of the room.
+fn day(request: &str) -> String {
+    let (room, numbers) = request.split_once(' ').expect("a room and numbers");
+    let mut answers = vec![99; room.parse().expect("a number")];
+    let passed = check_numbers(numbers.as_bytes(), &mut answers);
+    let told = said(passed, |passed| format!("passed {passed}"));
+    let answers = answers.iter().map(u8::to_string);
+    [told]
+        .into_iter()
+        .chain(answers)
+        .collect::<Vec<_>>()
+        .join(" ")
 }
 
 /// Check characters (`C`) come from no call.

@@ -130,6 +130,16 @@ extern "C" {
         place: *mut usize,
     ) -> u32;
 
+    /// Checks a day's tracking numbers, which stand one behind the other.
+    pub fn peliranopi_check_numbers(
+        numbers: *const u8,
+        numbers_len: usize,
+        answers: *mut u8,
+        answers_len: usize,
+        passed: *mut usize,
+        place: *mut usize,
+    ) -> u32;
+
     /// Issues the number that has this body.
     pub fn peliranopi_issue_number(
         body: *const u8,

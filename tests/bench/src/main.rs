@@ -1,6 +1,8 @@
 //! Measures the static library beside the independent implementation in tests/reference and beside csv-core, which only splits
-//! files into fields. ./bench runs it; docs/BENCHMARKS.md says what the numbers mean.
+//! files into fields: bench [DAY], where DAY is a file that the numbers of the measured day are written to, for others to check. ./bench
+//! runs it; docs/BENCHMARKS.md says what the numbers mean.
 
+mod day;
 mod files;
 mod splitting;
 mod timing;
@@ -59,6 +61,7 @@ fn main() {
     print_targets(&measured);
     measure_parts();
     measure_numbers();
+    day::measure();
 }
 
 /// What judging a long and a short file of a kind took: the library, the reference, and csv-core for splitting.

@@ -2,7 +2,7 @@
 
 use crate::Call;
 use reference::generate::{
-    carry_call, countries, damaged_iban, damaged_identcode, damaged_number, file_case,
+    carry_call, countries, damaged_iban, damaged_identcode, damaged_number, day_call, file_case,
     identcode_issue_call, issue_call, line_call, purpose_call, valid_iban, valid_identcode,
     valid_number, writer_call, Rng,
 };
@@ -22,6 +22,7 @@ pub enum Kind {
     ReadIdentcode,
     IssueIdentcode,
     Carry,
+    Day,
 }
 
 /// A call of this kind.
@@ -50,6 +51,7 @@ pub fn call(kind: Kind, rng: &mut Rng) -> Call {
         }
         Kind::IssueIdentcode => Call::IssueIdentcode(identcode_issue_call(rng)),
         Kind::Carry => Call::Carry(carry_call(rng)),
+        Kind::Day => Call::Day(day_call(rng)),
     }
 }
 

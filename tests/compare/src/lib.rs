@@ -5,7 +5,7 @@ pub mod draw;
 pub mod library;
 pub mod promised;
 
-use reference::generate::{CarryCall, IssueCall, LineCall, PurposeCall, Rng, WriterCall};
+use reference::generate::{CarryCall, DayCall, IssueCall, LineCall, PurposeCall, Rng, WriterCall};
 use reference::version::Version;
 
 /// A call with all that goes into it.
@@ -31,6 +31,7 @@ pub enum Call {
     ReadIdentcode(Vec<u8>),
     IssueIdentcode(IssueCall),
     Carry(CarryCall),
+    Day(DayCall),
 }
 
 impl Call {
@@ -45,6 +46,7 @@ impl Call {
             Call::CheckIdentcode(code) | Call::ReadIdentcode(code) => code,
             Call::Issue(call) | Call::IssueIdentcode(call) => &call.body,
             Call::Carry(_) => &[],
+            Call::Day(call) => &call.numbers,
         }
     }
 
@@ -80,6 +82,7 @@ impl Call {
             Call::Write(call) => call.output,
             Call::Purpose(call) => call.output,
             Call::Issue(call) | Call::IssueIdentcode(call) => call.output,
+            Call::Day(call) => call.room,
             _ => 0,
         }
     }
@@ -129,6 +132,7 @@ impl Call {
                 "nothing else".to_string()
             }
             Call::Carry(call) => format!("carry {}, byte {}", call.carry, call.symbol),
+            Call::Day(call) => format!("room for {} answers", call.room),
         }
     }
 }

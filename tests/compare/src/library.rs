@@ -21,6 +21,7 @@ pub fn left(call: &Call, mut left: Left) -> Left {
         Call::ReadIdentcode(_) => read_identcode(&mut left),
         Call::IssueIdentcode(_) => issue_identcode(&mut left),
         Call::Carry(call) => next_carry(&mut left, call),
+        Call::Day(_) => check_numbers(&mut left),
     }
     left
 }
@@ -232,4 +233,21 @@ fn next_carry(left: &mut Left, call: &CarryCall) {
     left.answer =
         unsafe { sys::peliranopi_next_carry(call.carry, call.symbol, &mut next, &mut left.place) };
     left.values = vec![u64::from(next)];
+}
+
+fn check_numbers(left: &mut Left) {
+    let mut passed = NONSENSE;
+    let answers = lent(&mut left.output);
+    // SAFETY: as said above.
+    left.answer = unsafe {
+        sys::peliranopi_check_numbers(
+            left.input.as_ptr(),
+            left.input.len(),
+            answers.as_mut_ptr(),
+            answers.len(),
+            &mut passed,
+            &mut left.place,
+        )
+    };
+    left.values = vec![passed as u64];
 }

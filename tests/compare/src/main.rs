@@ -22,7 +22,7 @@ struct Share {
     refusals: &'static [u32],
 }
 
-const SHARES: [Share; 12] = [
+const SHARES: [Share; 13] = [
     Share {
         kind: Kind::File,
         name: "files",
@@ -68,7 +68,7 @@ const SHARES: [Share; 12] = [
     Share {
         kind: Kind::Iban,
         name: "IBANs",
-        share: 230,
+        share: 210,
         refusals: &[16, 17, 18],
     },
     Share {
@@ -94,6 +94,12 @@ const SHARES: [Share; 12] = [
         name: "carries",
         share: 40,
         refusals: &[15, 17],
+    },
+    Share {
+        kind: Kind::Day,
+        name: "days",
+        share: 20,
+        refusals: &[13, 16],
     },
 ];
 

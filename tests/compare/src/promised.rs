@@ -4,7 +4,7 @@ use crate::{lent, Call, Left};
 use reference::file::judge;
 use reference::identcode::{check_identcode, issue_identcode, read_identcode};
 use reference::line::{find_field, read_line};
-use reference::numbers::{check_iban, check_number, issue_number, next_carry, Kind};
+use reference::numbers::{check_iban, check_number, check_numbers, issue_number, next_carry, Kind};
 use reference::purpose::purpose;
 use reference::writer::write_line;
 use reference::Refusal;
@@ -32,7 +32,7 @@ fn count(call: &Call) -> usize {
         Call::File { .. } | Call::Line { .. } => 3,
         Call::Field(_) => 2,
         Call::Write(_) | Call::Purpose(_) | Call::Check(_) => 1,
-        Call::Issue(_) | Call::IssueIdentcode(_) | Call::Carry(_) => 1,
+        Call::Issue(_) | Call::IssueIdentcode(_) | Call::Carry(_) | Call::Day(_) => 1,
         Call::Iban(_) | Call::CheckIdentcode(_) => 0,
         Call::ReadIdentcode(_) => 12,
     }
@@ -100,5 +100,6 @@ fn values(call: &Call, left: &mut Left) -> Result<Vec<u64>, Refusal> {
         }
         Call::IssueIdentcode(call) => Ok(vec![issue_identcode(&call.body, output)? as u64]),
         Call::Carry(call) => Ok(vec![u64::from(next_carry(call.carry, call.symbol)?)]),
+        Call::Day(call) => Ok(vec![check_numbers(&call.numbers, output)? as u64]),
     }
 }

@@ -1,6 +1,6 @@
 //! A call of the static library, and all that is seen of its answer.
 
-use reference::generate::{CarryCall, IssueCall, LineCall, PurposeCall, WriterCall};
+use reference::generate::{CarryCall, DayCall, IssueCall, LineCall, PurposeCall, WriterCall};
 
 /// A call with the sizes of what is lent.
 #[derive(Clone, Debug)]
@@ -21,6 +21,7 @@ pub enum Call {
     CheckNumber {
         symbols: Vec<u8>,
     },
+    CheckNumbers(DayCall),
     IssueNumber(IssueCall),
     NextCarry(CarryCall),
     CheckIban {

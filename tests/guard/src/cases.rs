@@ -39,6 +39,7 @@ pub fn all(rng: &mut Rng) -> Vec<Call> {
     purposes(rng, &mut calls);
     carries(rng, &mut calls);
     versions(&mut calls);
+    days(rng, &mut calls);
     calls
 }
 
@@ -406,5 +407,31 @@ fn versions(calls: &mut Vec<Call>) {
                 calls.push(Call::WriteLine(call));
             }
         }
+    }
+}
+
+/// Every length of the numbers with rooms for fewer, as many and more of them, and generated days.
+fn days(rng: &mut Rng, calls: &mut Vec<Call>) {
+    for length in 0..=BYTES {
+        for room in 0..=6 {
+            let whole = repeated(&number_of(rng.digits(14)), length);
+            let any = (0..length).map(|_| rng.byte()).collect();
+            for numbers in [whole, rng.digits(length), any] {
+                calls.push(Call::CheckNumbers(DayCall { numbers, room }));
+            }
+        }
+    }
+    for room in 0..=BYTES {
+        let numbers = repeated(&number_of(rng.digits(14)), 15 * room);
+        for lent in [room.saturating_sub(1), room, room + 1] {
+            let numbers = numbers.clone();
+            calls.push(Call::CheckNumbers(DayCall {
+                numbers,
+                room: lent,
+            }));
+        }
+    }
+    for _ in 0..1_000 {
+        calls.push(Call::CheckNumbers(day_call(rng)));
     }
 }

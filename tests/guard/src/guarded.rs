@@ -3,7 +3,7 @@
 use crate::call::{Answer, Call, BYTE, WORD};
 use crate::pages::{Lent, Room, Side};
 use peliranopi::sys;
-use reference::generate::{CarryCall, IssueCall, LineCall, PurposeCall, WriterCall};
+use reference::generate::{CarryCall, DayCall, IssueCall, LineCall, PurposeCall, WriterCall};
 
 /// A room for each buffer of a call: seven at most, the single numbers among them.
 pub struct Desk {
@@ -41,6 +41,7 @@ impl Desk {
             Call::WriteLine(call) => self.write_line(call),
             Call::WritePurpose(call) => self.write_purpose(call),
             Call::CheckNumber { symbols } => self.check_number(symbols),
+            Call::CheckNumbers(call) => self.check_numbers(call),
             Call::IssueNumber(call) => self.issue_number(call),
             Call::NextCarry(call) => self.next_carry(call),
             Call::CheckIban { symbols } => self.check_iban(symbols),
@@ -196,6 +197,25 @@ impl Desk {
         stayed(&symbols, bytes);
         let numbers = vec![kind.content()[0].into()];
         answer("check_number", refusal, place, numbers)
+    }
+
+    fn check_numbers(&mut self, call: &DayCall) -> Answer {
+        let numbers = self.lay(&call.numbers);
+        let answers = self.lay(&vec![BYTE; call.room]);
+        let (passed, place) = (self.number(), self.number());
+        // SAFETY: as in `judge`.
+        let refusal = unsafe {
+            sys::peliranopi_check_numbers(
+                numbers.start,
+                numbers.length,
+                answers.start,
+                answers.length,
+                passed.start,
+                place.start,
+            )
+        };
+        stayed(&numbers, &call.numbers);
+        answer("check_numbers", refusal, place, vec![value(passed)]).with_output(answers)
     }
 
     fn issue_number(&mut self, call: &IssueCall) -> Answer {

@@ -64,7 +64,7 @@ fn run(calls: &[Call], done: &AtomicUsize) {
 }
 
 /// A run without, say, one accepted file would show little: acceptance and each of the refusals is
-/// among the answers, and each of the twelve functions both accepts and refuses.
+/// among the answers, and each of the thirteen functions both accepts and refuses.
 fn every_answer_is_among(given: &BTreeSet<(&str, u32)>) {
     let numbers: BTreeSet<u32> = given.iter().map(|(_, refusal)| *refusal).collect();
     let refusals = Reason::ALL.iter().map(|refusal| refusal.number());
@@ -74,7 +74,7 @@ fn every_answer_is_among(given: &BTreeSet<(&str, u32)>) {
         .iter()
         .map(|(function, refusal)| (*function, *refusal == 0))
         .collect();
-    assert_eq!(both.len(), 24, "{given:?}");
+    assert_eq!(both.len(), 26, "{given:?}");
 }
 
 /// Says in which call the child ended, of which so many were done.

@@ -12,6 +12,10 @@ type Row = (&'static str, Side, &'static [u8], Try);
 type Try = fn(Lent<u8>);
 
 const BODY: &[u8] = b"09980000020041";
+/// Two numbers of digits alone, so that each is looked at to its last symbol, and room for the answers
+/// of two.
+const DAY: &[u8] = &[b'0'; 30];
+const ANSWERS: &[u8] = &[0; 2];
 /// Room for a carry, and for a place.
 const CARRY: &[u8] = &[0; size_of::<u32>()];
 const PLACE: &[u8] = &[0; size_of::<usize>()];
@@ -20,7 +24,7 @@ const IDENTCODE: &[u8] = b"1000000000000000000007";
 const PARTS: &[u8] = &[0; 12 * size_of::<usize>()];
 const FEWER_PARTS: &[u8] = PARTS.split_at(11 * size_of::<usize>()).0;
 
-const INSIDE: [Row; 10] = [
+const INSIDE: [Row; 13] = [
     ("reads the last byte", Side::Behind, BODY, |lent| {
         read(lent.start.wrapping_add(13))
     }),
@@ -35,6 +39,15 @@ const INSIDE: [Row; 10] = [
     }),
     ("lends 7 countries", Side::Behind, BODY, |lent| {
         lend_countries(lent.start, 14)
+    }),
+    ("checks a day", Side::Behind, DAY, |lent| {
+        check_day(lent.start)
+    }),
+    ("answers a day", Side::Behind, ANSWERS, |lent| {
+        answer_day(lent.start, 2)
+    }),
+    ("counts a day", Side::Behind, PLACE, |lent| {
+        count_day(lent.start)
     }),
     ("tells a carry", Side::Behind, CARRY, |lent| {
         tell_carry(lent.start)
@@ -53,7 +66,7 @@ const INSIDE: [Row; 10] = [
     }),
 ];
 
-const OUTSIDE: [Row; 18] = [
+const OUTSIDE: [Row; 24] = [
     ("reads one byte past", Side::Behind, BODY, |lent| {
         read(lent.start.wrapping_add(14))
     }),
@@ -80,6 +93,24 @@ const OUTSIDE: [Row; 18] = [
     }),
     ("lends one country before", Side::Before, BODY, |lent| {
         lend_countries(lent.start.wrapping_sub(2), 16)
+    }),
+    ("checks a day one byte past", Side::Behind, DAY, |lent| {
+        check_day(lent.start.wrapping_add(1))
+    }),
+    ("checks a day one byte before", Side::Before, DAY, |lent| {
+        check_day(lent.start.wrapping_sub(1))
+    }),
+    ("answers one number past", Side::Behind, ANSWERS, |lent| {
+        answer_day(lent.start, 3)
+    }),
+    ("answers one number before", Side::Before, ANSWERS, |lent| {
+        answer_day(lent.start.wrapping_sub(1), 2)
+    }),
+    ("counts a day past", Side::Behind, PLACE, |lent| {
+        count_day(lent.start.wrapping_add(PLACE.len()))
+    }),
+    ("counts a day before", Side::Before, PLACE, |lent| {
+        count_day(lent.start.wrapping_sub(PLACE.len()))
     }),
     ("tells a carry past", Side::Behind, CARRY, |lent| {
         tell_carry(lent.start.wrapping_add(CARRY.len()))
@@ -144,6 +175,54 @@ fn check(symbols: *const u8, length: usize) {
     let (mut kind, mut place) = (0, 0);
     // SAFETY: as for `read`, where the length is not that of the buffer.
     unsafe { sys::peliranopi_check_number(symbols, length, &mut kind, &mut place) };
+}
+
+/// Two numbers are read here.
+fn check_day(numbers: *const u8) {
+    let (mut answers, mut passed, mut place) = ([0; 2], 0, 0);
+    // SAFETY: as for `read`, where the numbers are not in the buffer.
+    unsafe {
+        sys::peliranopi_check_numbers(
+            numbers,
+            DAY.len(),
+            answers.as_mut_ptr(),
+            answers.len(),
+            &mut passed,
+            &mut place,
+        )
+    };
+}
+
+/// The answers of so many numbers are written here.
+fn answer_day(answers: *mut u8, count: usize) {
+    let (day, mut passed, mut place) = ([b'0'; 45], 0, 0);
+    // SAFETY: as for `read`, where the answers are not in the buffer.
+    unsafe {
+        sys::peliranopi_check_numbers(
+            day.as_ptr(),
+            15 * count,
+            answers,
+            count,
+            &mut passed,
+            &mut place,
+        )
+    };
+}
+
+/// How many numbers passed is written here.
+fn count_day(passed: *mut u8) {
+    let (mut answers, mut place) = ([0; 2], 0);
+    // SAFETY: as for `read`, where the count is not in the buffer.
+    unsafe {
+        sys::peliranopi_check_numbers(
+            DAY.as_ptr(),
+            DAY.len(),
+            answers.as_mut_ptr(),
+            answers.len(),
+            passed.cast(),
+            &mut place,
+        )
+    };
 }
 
 fn issue(output: *mut u8, length: usize) {

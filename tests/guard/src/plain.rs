@@ -27,6 +27,7 @@ fn lent(call: &Call) -> (Vec<u32>, Vec<u8>) {
         Call::Judge { words, .. } => (*words, 0),
         Call::WriteLine(call) => (0, call.output),
         Call::WritePurpose(call) => (call.words, call.output),
+        Call::CheckNumbers(call) => (0, call.room),
         Call::IssueNumber(call) | Call::IssueIdentcode(call) => (0, call.output),
         _ => (0, 0),
     };
@@ -79,6 +80,10 @@ fn result(call: &Call, list: &mut [u32], output: &mut [u8]) -> Named {
         Call::CheckNumber { symbols } => {
             let kind = peliranopi::check_number(symbols);
             named("check_number", kind.map(|kind| [kind as u64]))
+        }
+        Call::CheckNumbers(call) => {
+            let passed = peliranopi::check_numbers(&call.numbers, output);
+            named("check_numbers", passed.map(|count| [count as u64]))
         }
         Call::IssueNumber(call) => {
             let written = peliranopi::issue_number(&call.body, output);

@@ -1,5 +1,5 @@
-//! A second, independent implementation of document 01 and of the requests 1, 2, 4 and 5 of document
-//! 02, for tests only.
+//! A second, independent implementation of document 01 and of the requests 1, 2, 4, 5 and 6 of
+//! document 02, for tests only.
 //!
 //! It is written from the paper alone, in ways that are easy to believe. Nothing here is proved: it
 //! is a partner to compare with. `generate` draws the inputs for such comparisons.

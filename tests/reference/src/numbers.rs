@@ -27,6 +27,31 @@ pub fn check_number(number: &[u8]) -> Result<Kind, Refusal> {
     Ok(kind)
 }
 
+/// "Tracking numbers into one buffer, 15 bytes after 15 bytes. One call answers for all of them, an
+/// answer byte each: 0, 17 or 18 as each number would get alone, with the count of zeros returned.
+/// Answer bytes past the last number stay. Refusals: 16 if the length is not a multiple of 15, then
+/// 13 if there are fewer answer bytes than numbers; either leaves the answers untouched" (document
+/// 02, request 6).
+pub fn check_numbers(numbers: &[u8], answers: &mut [u8]) -> Result<usize, Refusal> {
+    let each = numbers.chunks_exact(15);
+    if !each.remainder().is_empty() {
+        return refuse(16, 0);
+    }
+    if answers.len() < each.len() {
+        return refuse(13, 0);
+    }
+    let mut zeros = 0;
+    for (number, answer) in each.zip(answers) {
+        *answer = match check_number(number) {
+            Ok(_) => 0,
+            Err(refusal) if refusal.number == 17 => 17,
+            Err(_) => 18,
+        };
+        zeros += usize::from(*answer == 0);
+    }
+    Ok(zeros)
+}
+
 /// "Issuing takes 14 or 27 symbols: 16, 17, then 13; it writes body and check at the output's start
 /// and nothing else, and a refusal writes nothing." "The answer is how many bytes were written."
 pub fn issue_number(body: &[u8], out: &mut [u8]) -> Result<usize, Refusal> {

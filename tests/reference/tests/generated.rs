@@ -6,7 +6,7 @@ use reference::file::{judge, Totals};
 use reference::generate::*;
 use reference::identcode::{check_identcode, issue_identcode, read_identcode};
 use reference::line::{find_field, read_line};
-use reference::numbers::{check_iban, check_number, issue_number, next_carry, Kind};
+use reference::numbers::{check_iban, check_number, check_numbers, issue_number, next_carry, Kind};
 use reference::profile::Record;
 use reference::purpose::purpose;
 use reference::version::Version;
@@ -773,6 +773,64 @@ fn numbers_that_are_keyed() {
         }
     }
     assert!(stopped > 1_000, "{stopped}");
+}
+
+/// Whether 15 symbols are 14 digits and the check that 001's steps give.
+fn answer_by_001(number: &[u8]) -> u8 {
+    let (check, body) = number.split_last().unwrap();
+    let is_symbol = check.is_ascii_digit() || check.is_ascii_uppercase();
+    if !is_symbol || !body.iter().all(u8::is_ascii_digit) {
+        return 17;
+    }
+    if *check == check_of_001(body) {
+        0
+    } else {
+        18
+    }
+}
+
+/// Each answer as 001's steps give it, and each beside each other one.
+#[test]
+fn days() {
+    let mut rng = Rng::new(23);
+    let (mut counts, mut beside) = (Counts::new(), BTreeMap::new());
+    let (mut none, mut exact, mut longest, mut both) = (0, 0, 0, 0);
+    for _ in 0..20_000 {
+        let DayCall { numbers, room } = day_call(&mut rng);
+        let mut answers = vec![9; room];
+        let answer = check_numbers(&numbers, &mut answers);
+        let held = numbers.len() / 15;
+        match answer {
+            Ok(passed) => {
+                let due: Vec<u8> = numbers.chunks(15).map(answer_by_001).collect();
+                assert_eq!(answers[..held], due);
+                assert_eq!(passed, due.iter().filter(|byte| **byte == 0).count());
+                assert!(answers[held..].iter().all(|byte| *byte == 9));
+                for pair in due.windows(2) {
+                    *beside.entry((pair[0], pair[1])).or_insert(0) += 1;
+                }
+                none += usize::from(held == 0);
+                exact += usize::from(room == held);
+                longest = longest.max(held);
+            }
+            Err(refusal) => {
+                let due = if numbers.len() % 15 != 0 { 16 } else { 13 };
+                assert_eq!((refusal.number, refusal.place), (due, 0));
+                assert!(due == 16 || room < held);
+                both += usize::from(due == 16 && room < held);
+                assert!(answers.iter().all(|byte| *byte == 9));
+            }
+        }
+        count(&mut counts, &answer);
+    }
+    assert_each(&counts, &[0, 13, 16]);
+    assert!(counts.values().all(|count| *count >= 400), "{counts:?}");
+    assert_eq!(beside.len(), 9, "{beside:?}");
+    assert!(beside.values().all(|count| *count >= 400), "{beside:?}");
+    assert!(none > 200 && exact > 2_000 && longest > 500 && both > 400);
+    println!(
+        "{counts:?}, {beside:?}, {none} of none, {exact} with just room, {both} with both faults"
+    );
 }
 
 /// The remainder by 97, one symbol after the other.

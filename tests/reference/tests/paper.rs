@@ -4,7 +4,7 @@
 use reference::file::{judge, Totals};
 use reference::identcode::{check_identcode, issue_identcode, read_identcode};
 use reference::line::{find_field, read_line, Line};
-use reference::numbers::{check_iban, check_number, issue_number, next_carry, Kind};
+use reference::numbers::{check_iban, check_number, check_numbers, issue_number, next_carry, Kind};
 use reference::purpose::purpose;
 use reference::version::Version;
 use reference::writer::write_line;
@@ -190,6 +190,46 @@ fn refusals_of_numbers() {
     assert_eq!(issue_number(b"09980000020041", &mut out), Ok(15));
     assert_eq!(&out[..15], b"09980000020041F");
     assert_eq!(out[15..], [9; 5]);
+}
+
+/// "0, 17 or 18 as each number would get alone, with the count of zeros returned. Answer bytes past
+/// the last number stay."
+#[test]
+fn a_days_numbers() {
+    let mut answers = [9; 5];
+    assert_eq!(check_numbers(b"", &mut []), Ok(0));
+    assert_eq!(check_numbers(b"", &mut answers), Ok(0));
+    assert_eq!(answers, [9; 5]);
+    let day = b"09980000020041F09980000020041G09980000020041f09980978004757U";
+    assert_eq!(check_numbers(day, &mut answers), Ok(2));
+    assert_eq!(answers, [0, 18, 17, 0, 9]);
+    assert_eq!(check_numbers(&day[15..30], &mut answers[..1]), Ok(0));
+    assert_eq!(check_numbers(&day[30..], &mut answers[..2]), Ok(1));
+    assert_eq!(answers, [17, 0, 17, 0, 9]);
+}
+
+/// "16 if the length is not a multiple of 15, then 13 if there are fewer answer bytes than numbers;
+/// either leaves the answers untouched." A label code is no tracking number.
+#[test]
+fn refusals_of_days() {
+    let day = [*b"09980000020041F"; 4];
+    for length in 0..=60 {
+        for room in 0..=5 {
+            let mut answers = vec![9; room];
+            let due = match (length % 15, length / 15) {
+                (0, count) if count <= room => Ok(count),
+                (0, _) => no(13, 0),
+                _ => no(16, 0),
+            };
+            let answer = check_numbers(&day.as_flattened()[..length], &mut answers);
+            assert_eq!(answer, due);
+            let written = answer.unwrap_or(0);
+            assert_eq!(answers[..written], vec![0; written]);
+            assert_eq!(answers[written..], vec![9; room - written]);
+        }
+    }
+    let label = b"0002800099800000200371550566";
+    assert_eq!(check_numbers(label, &mut [9; 5]), no(16, 0));
 }
 
 /// "The carry starts at 36"; behind the check, "carry plus its value leave 1 modulo 36", and twice 1

@@ -1,10 +1,11 @@
 //! Answers requests on standard input by the static library, one a line: `number SYMBOLS`, `issue BODY`, `iban SYMBOLS`,
-//! `identcode CODE`, `issue-identcode BODY` or `key SYMBOLS`. Prints for each `tracking`, `label`, the number issued, `iban`,
-//! `identcode` or the carry behind the symbols; refused, `no NUMBER PLACE`. tests/outside.py asks.
+//! `identcode CODE`, `issue-identcode BODY`, `key SYMBOLS` or `day NUMBERS`. Prints for each `tracking`, `label`, the number issued,
+//! `iban`, `identcode`, the carry behind the symbols, or how many of the numbers passed and the answer of each; refused, `no NUMBER
+//! PLACE`. tests/outside.py asks.
 
 use compare::{lent, library, Call, Left};
-use peliranopi::{next_carry, CARRY_START};
-use reference::generate::{IssueCall, Rng};
+use peliranopi::{next_carry, CARRY_START, TRACKING_LEN};
+use reference::generate::{DayCall, IssueCall, Rng};
 use std::io::{BufRead, Write};
 
 fn main() -> std::io::Result<()> {
@@ -56,6 +57,10 @@ fn request(line: &[u8]) -> Option<Call> {
             output: symbols.len() + 1,
             body: symbols,
         })),
+        b"day" => Some(Call::Day(DayCall {
+            room: symbols.len() / TRACKING_LEN,
+            numbers: symbols,
+        })),
         _ => None,
     }
 }
@@ -74,6 +79,11 @@ fn answer(call: &Call, mut left: Left) -> String {
         }
         (Call::Iban(_), []) => "iban".to_string(),
         (Call::CheckIdentcode(_), []) => "identcode".to_string(),
+        (Call::Day(_), [passed]) => {
+            let answers = lent(&mut left.output).iter().map(u8::to_string);
+            let all = [format!("passed {passed}")].into_iter().chain(answers);
+            all.collect::<Vec<_>>().join(" ")
+        }
         _ => format!("unknown {:?}", left.values),
     }
 }

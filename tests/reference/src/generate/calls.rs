@@ -1,10 +1,10 @@
-//! Calls of the other entry points: one line, one field, the writer, the purpose, issuing and the
-//! carry.
+//! Calls of the other entry points: one line, one field, the writer, the purpose, issuing, the carry
+//! and a day's numbers.
 
 use super::countries::countries;
 use super::damage::{damage, damage_as, file_case, Damage};
 use super::files::{take_apart, valid_file_as, valid_file_of};
-use super::values::number_body;
+use super::values::{number_body, number_of};
 use super::versions::{told, version};
 use super::Rng;
 use crate::version::Version;
@@ -381,4 +381,61 @@ pub fn carry_call(rng: &mut Rng) -> CarryCall {
         _ => rng.byte(),
     };
     CarryCall { carry, symbol }
+}
+
+/// A call on a day's tracking numbers: their bytes, and how many answer bytes are lent.
+#[derive(Clone, Debug)]
+pub struct DayCall {
+    pub numbers: Vec<u8>,
+    pub room: usize,
+}
+
+/// Mostly up to twelve numbers, whole and damaged, with a byte for each and some more. Sometimes very
+/// many; sometimes cut off or shifted by a few symbols, or with too little room.
+pub fn day_call(rng: &mut Rng) -> DayCall {
+    let count = match rng.below(200) {
+        0 => rng.between(100, 600),
+        1..=9 => rng.between(13, 60),
+        _ => rng.between(0, 12),
+    };
+    let whole = rng.pick(&[0, 50, 50, 90, 100]);
+    let mut numbers: Vec<u8> = (0..count)
+        .flat_map(|_| match rng.percent(whole) {
+            true => number_of(rng.digits(14)),
+            false => damaged_number_of_a_day(rng),
+        })
+        .collect();
+    match rng.below(12) {
+        0 => numbers.truncate(rng.below(numbers.len() + 1)),
+        1 => numbers.extend((0..rng.between(1, 16)).map(|_| rng.digit())),
+        2 if count > 0 => numbers.rotate_left(rng.between(1, 14)),
+        _ => {}
+    }
+    let count = numbers.len() / 15;
+    let room = match rng.below(12) {
+        0 => rng.below(count + 1),
+        1..=2 => count.saturating_sub(1),
+        3 => rng.below(20),
+        4..=7 => count,
+        8 => count + 1,
+        _ => count + rng.between(1, 20),
+    };
+    DayCall { numbers, room }
+}
+
+/// A tracking number that passed, damaged so that it keeps its length; few still pass.
+fn damaged_number_of_a_day(rng: &mut Rng) -> Vec<u8> {
+    let mut number = number_of(rng.digits(14));
+    let place = rng.below(14);
+    match rng.below(8) {
+        0 => number[14] = rng.digit(),
+        1 => number[14] = rng.capital(),
+        2 => number[14] = number[14].to_ascii_lowercase(),
+        3 => number[place] = rng.digit(),
+        4 => number.swap(place, place + 1),
+        5 => number[place] = rng.pick(b"/:@AZ[`az{OI -"),
+        6 => number[rng.below(15)] = rng.byte(),
+        _ => number = (0..15).map(|_| rng.byte()).collect(),
+    }
+    number
 }

@@ -13,16 +13,17 @@ mod values;
 mod versions;
 
 pub use calls::{
-    carry_call, identcode_issue_call, issue_call, line_call, purpose_call, valid_writer_call,
-    writer_call, CarryCall, IssueCall, LineCall, PurposeCall, WriterCall,
+    carry_call, day_call, identcode_issue_call, issue_call, line_call, purpose_call,
+    valid_writer_call, writer_call, CarryCall, DayCall, IssueCall, LineCall, PurposeCall,
+    WriterCall,
 };
 pub use countries::{countries, own};
 pub use damage::{damage, damage_as, file_case, Damage, FileCase};
 pub use fields::{field_cases, FieldCase};
 pub use files::{put_together, take_apart, valid_file, valid_file_as, valid_file_of, Lines};
 pub use values::{
-    damaged_iban, damaged_identcode, damaged_number, identcode_of, valid_iban, valid_identcode,
-    valid_number,
+    damaged_iban, damaged_identcode, damaged_number, identcode_of, number_of, valid_iban,
+    valid_identcode, valid_number,
 };
 pub use versions::{told, version};
 

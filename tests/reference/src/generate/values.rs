@@ -631,7 +631,11 @@ pub fn number_body(rng: &mut Rng) -> Vec<u8> {
 
 /// A tracking number or a label code that passes.
 pub fn valid_number(rng: &mut Rng) -> Vec<u8> {
-    let body = number_body(rng);
+    number_of(number_body(rng))
+}
+
+/// A body and its check.
+pub fn number_of(body: Vec<u8>) -> Vec<u8> {
     let mut number = vec![0; body.len() + 1];
     issue_number(&body, &mut number).expect("the body has its shape and the output its length");
     number
