@@ -1,12 +1,12 @@
 -- A day's numbers: the answers as they are written one by one, and what the call answers, by cases.
-use Prim.Native.Nat.{ℕ, _+_, _-_, _*_, _/_, _%_, _≤_, _<_}
+use Prim.Native.Nat.{ℕ, _+_, _-_, _*_, _%_, _≤_, _<_}
 use mathlib.Core.Path.{_≡_, sym, ap, _∙_}
-use mathlib.Core.List.{List}
+use mathlib.Core.List.{List, _++_}
 use native.Mathlib.Nat.{zero-add}
 use native.Mathlib.Numerals.{add-one}
 use native.Mathlib.Omega.{arith}
 use lib.ListN.{length, take, drop, getD, set, length-drop}
-use lib.Seq.{paste, paste-suc, length-take-le, take-at}
+use lib.Seq.{paste, paste-suc, length-take-le, take-append-le, drop-append-le, take-at}
 use mir.Val.{Fits}
 use mir.Syntax.{w8}
 use borrow.Author.Tests.{eq-eqb, ne-eqb, lt-ltb, le-ltb}
@@ -18,7 +18,7 @@ use Rattle.text.specs.Placed.{written}
 use Rattle.text.proofs.Placing.{copy-done, clip-whole}
 use Rattle.text.proofs.Tables.{tabled-at, tabled-long}
 use Rattle.check_characters.specs.Number.{lengthOf, checkedAs, checkedNumber, numberVerdict}
-use Rattle.check_characters.specs.Day.{numberAt, howMany, dayAnswers, zeros, dayAnswer, answersAfter}
+use Rattle.check_characters.specs.Day.{numberAt, howMany, dayAnswers, zeros, dayAnswer}
 use Rattle.check_characters.specs.declared.day.DayAnswer.the-variants.{Answered, Refused}
 use Rattle.check_characters.specs.declared.number.Kind.the-variants.{Tracking}
 use Rattle.check_characters.specs.declared.number.NumberAnswer.{NumberAnswer}
@@ -27,6 +27,12 @@ use Rattle.check_characters.proofs.Checking.{checked-tracking}
 -- a refusal's number fits into the byte of an answer
 pub number-fits : (n : ℕ) (why : Reason) → n ≡ numberOf why → Fits w8 n
 number-fits n why e = omega (arith, number-small why)
+
+-- what stands behind a number does not change it
+pub number-front : (numbers behind : List ℕ) (i : ℕ) → 15 * i + 15 ≤ length numbers → numberAt (numbers ++ behind) i ≡ numberAt numbers i
+number-front numbers behind i h =
+    ap (take 15) (drop-append-le (15 * i) numbers behind (omega arith))
+    ∙ take-append-le 15 (drop (15 * i) numbers) behind (simp length-drop (omega arith))
 
 module _ (numbers : List ℕ) where
   pub answers-long : length (dayAnswers numbers) ≡ howMany numbers

@@ -1,5 +1,5 @@
 -- Proofs of the statements in specs/Bench.
-use mathlib.Core.Path.{_≡_, sym, _∙_}
+use mathlib.Core.Path.{sym, _∙_}
 use Rattle.scans.proofs.Pieces as pieces
 use Rattle.demands.specs.Bench.{
   AnyPieces,

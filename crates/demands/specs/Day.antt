@@ -1,6 +1,6 @@
 -- Document 02, request 6, 'A day's numbers at once': "One call answers for all of them, an answer byte each: 0, 17 or 18 as each number would
 -- get alone, with the count of zeros returned. Answer bytes past the last number stay." specs/Refusals says when it refuses.
-use Prim.Native.Nat.{ℕ, _+_, _*_, _≤_, _<_}
+use Prim.Native.Nat.{ℕ, _+_, _*_, _<_}
 use mathlib.Core.Path.{_≡_}
 use mathlib.Core.List.{List, [], _++_}
 use mathlib.Core.Logic.{_↔_}

@@ -1,14 +1,14 @@
 -- A day's numbers are answered, or refused, exactly when the numbers and the room for their answers say so.
-use Prim.Native.Nat.{ℕ, _+_, _-_, _*_, _/_, _%_, _≤_, _<_}
+use Prim.Native.Nat.{ℕ, _+_, _-_, _*_, _%_, _≤_, _<_}
 use mathlib.Core.Path.{_≡_, refl, sym, ap, subst, _∙_}
-use mathlib.Core.Bool.{true, false, not}
+use mathlib.Core.Bool.{not}
 use mathlib.Core.List.{List, [], _∷_, _++_}
 use mathlib.Core.Logic.{_⊎_, inl, inr, _↔_, ⊎-elim}
 use native.Mathlib.Nat.{zero-add}
 use native.Mathlib.Omega.{arith}
 use lib.Dec.{eqb, ltb}
 use lib.ListN.{length, take, drop, getD, length-append, length-drop, List·getD-append}
-use lib.Seq.{ext-getD, getD-append-add, getD-drop, length-take-le, take-append-le, drop-append-le, drop-append-add}
+use lib.Seq.{ext-getD, getD-append-add, getD-drop, length-take-le, drop-append-add}
 use borrow.Author.Tests.{ltb-true, ltb-false, eqb-true, eqb-false, not-true, not-false}
 use Rattle.refusal.specs.Table.{because, numberOf, numberTold}
 use Rattle.refusal.specs.declared.Refusal.{Refusal}
@@ -24,7 +24,7 @@ use Rattle.check_characters.specs.declared.number.Kind.{Kind}
 use Rattle.check_characters.specs.declared.number.Kind.the-variants.{Tracking, Label}
 use Rattle.check_characters.specs.declared.number.NumberAnswer.{NumberAnswer}
 use Rattle.check_characters.specs.declared.number.NumberAnswer.the-variants.{Accepted, Refused as NotAccepted}
-use Rattle.check_characters.proofs.Days.{answers-long, answer-at, number-inside, front, day-length, day-short, day-answered}
+use Rattle.check_characters.proofs.Days.{number-front, answers-long, answer-at, number-inside, front, day-length, day-short, day-answered}
 use Rattle.slips.specs.Exactly.{SoundNumber}
 use Rattle.slips.proofs.Numbers.{accepted-sound, sound-accepted}
 use Rattle.refused.specs.Number.{RefusedNumber}
@@ -220,12 +220,6 @@ module _ (first rest : List ℕ) (many : ℕ) (whole : length first ≡ 15 * man
   many-both : howMany (first ++ rest) ≡ howMany first + howMany rest
   many-both = omega (arith, length-append first rest)
 
-  in-first : (i : ℕ) → i < howMany first → numberAt (first ++ rest) i ≡ numberAt first i
-  in-first i h =
-      let inside : 15 * i + 15 ≤ length first = number-inside first i h in
-      ap (take 15) (drop-append-le (15 * i) first rest (omega arith))
-      ∙ take-append-le 15 (drop (15 * i) first) rest (simp length-drop (omega arith))
-
   in-rest : (i : ℕ) → howMany first ≤ i → numberAt (first ++ rest) i ≡ numberAt rest (i - howMany first)
   in-rest i h =
       let e : 15 * i ≡ length first + 15 * (i - howMany first) = omega (arith, many-first) in
@@ -238,7 +232,7 @@ module _ (first rest : List ℕ) (many : ℕ) (whole : length first ≡ 15 * man
       (λ i l. let all : i < howMany (first ++ rest) = omega (arith, answers-long (first ++ rest)) in
       answer-at (first ++ rest) i all ∙ ⊎-elim
       (λ t. let h : i < howMany first = ltb-true i (howMany first) t in
-      ap alone (in-first i h) ∙ sym (answer-at first i h)
+      ap alone (number-front first rest i (number-inside first i h)) ∙ sym (answer-at first i h)
       ∙ sym (List·getD-append (dayAnswers first) (dayAnswers rest) 0 i (omega (arith, answers-long first))))
       (λ f. let h : howMany first ≤ i = ltb-false i (howMany first) f in
       let e : length (dayAnswers first) + (i - howMany first) ≡ i = omega (arith, answers-long first) in

@@ -1,12 +1,10 @@
 -- The lines of a text, laid out, checked as a day's numbers and overruled by their marks, have their answers.
-use Prim.Native.Nat.{ℕ, zero, suc, _+_, _*_, _/_, _%_, _≤_, _<_, min}
-use mathlib.Core.Path.{_≡_, refl, sym, ap, _∙_}
-use mathlib.Core.Bool.{Bool, true, false}
-use mathlib.Core.List.{List, [], _∷_, _++_, map}
+use Prim.Native.Nat.{ℕ, _+_, _*_, _%_, _≤_, _<_, min}
+use mathlib.Core.Path.{_≡_, sym, ap, _∙_}
+use mathlib.Core.List.{List, map}
 use native.Mathlib.Nat.{zero-add}
 use native.Mathlib.Omega.{arith}
-use lib.Dec.{eqb, ltb}
-use lib.ListN.{length, take, drop, getD, length-append, length-drop, take-append-drop, List·getD-append}
+use lib.ListN.{length, take, drop, getD, length-append, take-append-drop, List·getD-append}
 use lib.Seq.{length-take-le, getD-take}
 use borrow.Author.Tests.{eq-eqb, le-ltb}
 use Rattle.text.specs.Placed.{written}
@@ -16,12 +14,12 @@ use Rattle.refusal.specs.Table.{numberTold}
 use Rattle.check_characters.specs.declared.day.DayAnswer.{DayAnswer}
 use Rattle.check_characters.specs.declared.day.DayAnswer.the-variants.{Answered}
 use Rattle.check_characters.specs.Number.{numberVerdict, checkedNumber}
+use Rattle.check_characters.proofs.Days.{number-front}
 use Rattle.check_characters.specs.Day.{numberAt, howMany, zeros, dayAnswers, dayAnswer, answersAfter, ChecksDay}
 use Rattle.scans.specs.declared.Answered as told-of
 use Rattle.scans.specs.Scans.{wholeLines, lineAnswer, AnswersLines}
 use Rattle.scans.specs.Laying.{ruled, answerAt, overruled, Lays}
 use Rattle.scans.proofs.Tabling.{tabled-alike, written-again}
-use Rattle.scans.proofs.Slots.{number-front}
 
 -- what the number in the place i is told
 abbrev told : List ℕ → ℕ → ℕ

@@ -3,13 +3,12 @@ use Prim.Native.Nat.{ℕ, suc, _+_, _-_, _*_, _≤_, _<_}
 use mathlib.Core.Path.{_≡_, refl, sym, ap, _∙_}
 use mathlib.Core.List.{List, [], _∷_, _++_, map}
 use native.Mathlib.Numerals.{add-one}
-use native.Mathlib.Nat.{add-zero, zero-add}
+use native.Mathlib.Nat.{zero-add}
 use native.Mathlib.Omega.{arith}
-use lib.ListN.{length, set, take, drop, getD, length-append, length-take, length-drop, length-set}
+use lib.ListN.{length, set, take, drop, getD, length-take, length-drop, length-set}
 use lib.Seq.{take-all, take-suc, drop-cons, length-take-le}
 use Rattle.text.specs.Scan.{lineFeed}
 use Rattle.text.specs.Tabled.{tabled}
-use Rattle.scans.specs.declared.Answered.{Answered}
 use Rattle.scans.specs.Scans.{wholeLines, lineAnswer, bytesOf, answeredOf}
 use Rattle.scans.specs.Laying.{markOf, laid, answerAt, Lays}
 use Rattle.scans.proofs.Tabling.{tabled-more, tabled-alike}

@@ -5,11 +5,9 @@ use mathlib.Core.List.{List, [], _∷_, _++_, append-assoc, append-nil}
 use native.Mathlib.Nat.{zero-add}
 use native.Mathlib.Numerals.{add-one}
 use native.Mathlib.Omega.{arith}
-use lib.Dec.{ltb}
 use lib.ListN.{length, take, getD, length-append}
 use lib.Seq.{take-suc, take-all}
 use borrow.Author.Tests.{lt-ltb, le-ltb}
-use Rattle.text.specs.Choice.{if_then_else_}
 use Rattle.text.specs.Placed.{placed}
 use Rattle.text.proofs.Placing.{placed-on, placed-none, placed-long}
 use Rattle.scans.specs.Scans.{printedOne, printed, Prints}

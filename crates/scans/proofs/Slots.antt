@@ -5,8 +5,8 @@ use mathlib.Core.Bool.{Bool, true, false}
 use mathlib.Core.List.{List, _++_, append-assoc}
 use native.Mathlib.Omega.{arith}
 use lib.Dec.{eqb}
-use lib.ListN.{length, set, take, drop, getD, length-append, length-drop, take-append-drop}
-use lib.Seq.{take-append-le, drop-append-le, take-at, drop-at, length-take-le, getD-set-same, getD-set-other}
+use lib.ListN.{length, set, take, drop, length-drop, take-append-drop}
+use lib.Seq.{take-at, drop-at, length-take-le, getD-set-same, getD-set-other}
 use borrow.Author.Tests.{eqb-true}
 use Rattle.text.specs.Choice.{if_then_else_}
 use Rattle.text.specs.Placed.{written, placed}
@@ -14,13 +14,9 @@ use Rattle.text.proofs.Placing.{placed-there, placed-long}
 use Rattle.refusal.specs.Table.{numberTold}
 use Rattle.check_characters.specs.Number.{numberVerdict, checkedNumber}
 use Rattle.check_characters.specs.Day.{numberAt}
+use Rattle.check_characters.proofs.Days.{number-front}
 use Rattle.scans.specs.Scans.{numberOn, lineAnswer}
 use Rattle.scans.specs.Laying.{markOf, laid, ruled, answerAt}
-
--- what stands behind a number does not change it
-pub number-front : (p z : List ℕ) (k : ℕ) → 15 * k + 15 ≤ length p → numberAt (p ++ z) k ≡ numberAt p k
-number-front p z k l =
-    rw (drop-append-le (15 * k) p z (omega arith), take-append-le 15 (drop (15 * k) p) z (omega (arith, length-drop (15 * k) p)))
 
 module _ (numbers number : List ℕ) (i : ℕ) (l : 15 * i + length number ≤ length numbers) where
   pub number-stays : (k : ℕ) → k < i → numberAt (written numbers (15 * i) number) k ≡ numberAt numbers k

@@ -1,19 +1,16 @@
 -- The lines of a text: the next one from a place on, where there is one, and a text taken in pieces.
-use Prim.Native.Nat.{ℕ, zero, suc, _+_, _-_, _≤_, _<_, min}
-use mathlib.Core.Path.{_≡_, refl, sym, ap, _∙_}
-use mathlib.Core.Bool.{Bool, true, false, not, false≢true, true≢false}
-use mathlib.Core.List.{List, [], _∷_, _++_, map, append-assoc, append-nil}
-use native.Mathlib.Nat.{add-zero}
-use native.Mathlib.Numerals.{add-one}
+use Prim.Native.Nat.{ℕ, _+_, _-_, _≤_, _<_}
+use mathlib.Core.Path.{_≡_, sym, ap, _∙_}
+use mathlib.Core.Bool.{true, false}
+use mathlib.Core.List.{List, [], _∷_, _++_, append-assoc, append-nil}
 use native.Mathlib.Omega.{arith}
 use lib.Dec.{eqb}
-use lib.ListN.{length, take, drop, getD, length-append, length-drop}
+use lib.ListN.{length, take, drop, length-append, length-drop}
 use lib.Seq.{drop-drop, take-at, drop-at, append-snoc}
-use borrow.Author.Tests.{not-true, not-false, eqb-true}
-use Rattle.text.specs.Choice.{if_then_else_}
-use Rattle.text.specs.Scan.{firstFailing, all, inLine, lineFeed}
+use borrow.Author.Tests.{not-true, not-false}
+use Rattle.text.specs.Scan.{all, inLine, lineFeed}
 use Rattle.text.proofs.Choices.{and-left, and-right}
-use Rattle.text.proofs.Runs.{front, Front, Fails, first-least}
+use Rattle.text.proofs.Runs.{front, Front, Fails}
 use Rattle.scans.specs.Scans.{linesFrom, wholeLines}
 
 -- bytes without a line feed are added to the line

@@ -5,7 +5,7 @@ use mathlib.Core.List.{List, [], _∷_, _++_}
 use native.Mathlib.Nat.{add-zero, add-suc, suc-add, zero-add}
 use native.Mathlib.Numerals.{add-one}
 use native.Mathlib.Omega.{arith}
-use lib.ListN.{length, set, take, drop, getD, length-append, List·getD-append}
+use lib.ListN.{length, set, drop, getD, length-append}
 use lib.Seq.{drop-cons, set-at, getD-at, append-snoc, drop-at}
 use Rattle.text.specs.Placed.{written}
 use Rattle.text.specs.Tabled.{tabled}

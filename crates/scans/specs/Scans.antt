@@ -5,7 +5,6 @@
 -- are no whole line yet (`example-scans`).
 use Prim.Native.Nat.{ℕ, suc, _+_, _-_, _/_, _%_, _≤_, min}
 use mathlib.Core.Path.{_≡_}
-use mathlib.Core.Bool.{Bool}
 use mathlib.Core.List.{List, [], _∷_, _++_, map}
 use lib.Dec.{eqb, ltb}
 use lib.ListN.{length, take, drop, getD}

@@ -3,7 +3,7 @@ use Prim.Native.Nat.{_≤_, _-_}
 use mathlib.Core.Path.{_≡_}
 use lib.ListN.{length}
 use lib.Seq.{paste, paste-zero}
-use Rattle.check_characters.specs.Day.{howMany, dayAnswers}
+use Rattle.check_characters.specs.Day.{dayAnswers}
 use Rattle.check_characters.proofs.Days.{number-inside, number-long, day-again, day-done}
 use borrow.Author.Needs.{needs}
 use Rattle.check_characters.proofs.day.check_each.Statement.{statement}
