@@ -1,4 +1,4 @@
--- The examples that the numbers, a day of them, the table of steps, the wedge, the IBANs and the identcodes open with, worked out.
+-- The examples that the numbers, a day of them, the table of steps, the wedge and the IBANs open with, worked out.
 use Prim.Native.Nat.{ℕ, _%_}
 use mathlib.Core.Path.{_≡_, refl}
 use mathlib.Core.List.{List, [], _∷_}
@@ -13,7 +13,6 @@ use Rattle.check_characters.specs.Day.{dayAnswers, dayAnswer}
 use Rattle.check_characters.specs.Iban.{digitsOf, spread, decimalFrom, ibanNumber}
 use Rattle.check_characters.specs.declared.carry.CarryAnswer.the-variants.{Next}
 use Rattle.check_characters.specs.declared.day.DayAnswer.the-variants.{Answered}
-use Rattle.check_characters.specs.Identcode.{weightAt, weighed, checkDigit, checkDigitOf}
 
 -- the carry behind each symbol
 abbrev carries : ℕ → List ℕ → List ℕ
@@ -56,7 +55,3 @@ pub example-walk : (remainders 0 (bytes "1904" ∷ bytes "3002" ∷ bytes "3457"
     × (remainders 2 (bytes "AT16" ∷ []) ≡ 53 ∷ [])
 unfolding valueOf digitsOf
 example-walk = (refl, refl)
-
-pub example-identcode : (weighed (bytes "854637900327598186342") ≡ 204) × (checkDigitOf (bytes "854637900327598186342") ≡ byte "6")
-unfolding valueOf symbolOf weightAt checkDigit
-example-identcode = (refl, refl)

@@ -8,5 +8,4 @@ pub mod Days
 pub mod Issuing
 pub mod Digits
 pub mod Ibans
-pub mod Identcodes
 pub mod Example

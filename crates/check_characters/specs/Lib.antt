@@ -6,4 +6,3 @@ pub mod Answer
 pub mod Number
 pub mod Day
 pub mod Iban
-pub mod Identcode

@@ -10,7 +10,7 @@ use Rattle.check_characters.specs.Number.{issueAnswer, checkedNumber}
 use Rattle.check_characters.specs.Day.{answersAfter}
 use Rattle.check_characters.specs.Wedge.{nextCarry}
 use Rattle.check_characters.specs.Iban.{checkedIban}
-use Rattle.check_characters.specs.Identcode.{checkDigitOf, checkedIdentcode, partsAnswer, issueIdentcodeAnswer}
+use Rattle.check_digits.specs.Identcode.{checkDigitOf, checkedIdentcode, partsAnswer, issueIdentcodeAnswer}
 use Rattle.check_characters.specs.declared.answer.IssueAnswer.{IssueAnswer}
 use Rattle.check_characters.specs.declared.day.DayAnswer.{DayAnswer}
 use Rattle.fields.specs.Profile.{profile}

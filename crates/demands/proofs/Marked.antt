@@ -6,7 +6,7 @@ use Rattle.check_characters.specs.Answer.{roomFor, issuedTo}
 use Rattle.check_characters.specs.Mod37.{step, passes}
 use Rattle.check_characters.specs.Number.{shapeOf, checkedAs, allowedInNumber, checkedNumber}
 use Rattle.check_characters.specs.Iban.{digitsOf, barred, soundOf, allowedInIban, checkedIban}
-use Rattle.check_characters.specs.Identcode.{weightAt, checkDigit, passes as codePasses, checkedIdentcode, partsAnswer, issueIdentcodeAnswer}
+use Rattle.check_digits.specs.Identcode.{weightAt, checkDigit, passes as codePasses, checkedIdentcode, partsAnswer, issueIdentcodeAnswer}
 use Rattle.forms.specs.Shape.{allDigits, digits, capitals, customer, bic, mail, purposeText}
 use Rattle.forms.specs.Amount.{cents, pointed, leadingZero, amount}
 use Rattle.forms.specs.Date.{standsFor, like, leap, daysIn, calendar, goodDay, goodTime, dateTime}

@@ -11,13 +11,13 @@ use Rattle.check_characters.specs.Number.{Issues, checkedNumber}
 use Rattle.check_characters.specs.Day.{ChecksDay}
 use Rattle.check_characters.specs.Wedge.{nextCarry}
 use Rattle.check_characters.specs.Iban.{checkedIban}
-use Rattle.check_characters.specs.Identcode.{checkedIdentcode, partsAnswer, IssuesIdentcode}
+use Rattle.check_digits.specs.Identcode.{checkedIdentcode, partsAnswer, IssuesIdentcode}
 use Rattle.check_characters.specs.declared.carry.CarryAnswer.{CarryAnswer}
 use Rattle.check_characters.specs.declared.day.DayAnswer.{DayAnswer}
 use Rattle.check_characters.specs.declared.number.NumberAnswer.{NumberAnswer}
 use Rattle.check_characters.specs.declared.answer.IssueAnswer.{IssueAnswer}
 use Rattle.check_characters.specs.declared.answer.CheckAnswer.{CheckAnswer}
-use Rattle.check_characters.specs.declared.identcode.PartsAnswer.{PartsAnswer}
+use Rattle.check_digits.specs.declared.identcode.PartsAnswer.{PartsAnswer}
 use Rattle.identcodes.specs.Tree.{Finds}
 use Rattle.identcodes.specs.declared.CodeAnswer.{CodeAnswer}
 use Rattle.fields.specs.Profile.{profile}

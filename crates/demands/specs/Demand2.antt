@@ -9,14 +9,14 @@ use mathlib.Core.Logic.{_↔_}
 use lib.ListN.{length, take, drop}
 use Rattle.check_characters.specs.Number.{Issues, checkedNumber}
 use Rattle.check_characters.specs.Iban.{checkedIban}
-use Rattle.check_characters.specs.Identcode.{checkedIdentcode, partsAnswer, IssuesIdentcode}
+use Rattle.check_digits.specs.Identcode.{checkedIdentcode, partsAnswer, IssuesIdentcode}
 use Rattle.check_characters.specs.declared.number.Kind.{Kind}
 use Rattle.check_characters.specs.declared.number.NumberAnswer.the-variants.{Accepted}
 use Rattle.check_characters.specs.declared.answer.IssueAnswer.{IssueAnswer}
 use Rattle.check_characters.specs.declared.answer.IssueAnswer.the-variants.{Issued}
 use Rattle.check_characters.specs.declared.answer.CheckAnswer.the-variants.{Accepted as Passed}
-use Rattle.check_characters.specs.declared.identcode.Parts.{Parts}
-use Rattle.check_characters.specs.declared.identcode.PartsAnswer.the-variants.{Read}
+use Rattle.check_digits.specs.declared.identcode.Parts.{Parts}
+use Rattle.check_digits.specs.declared.identcode.PartsAnswer.the-variants.{Read}
 use Rattle.fields.specs.Profile.{profile}
 use Rattle.records.specs.Version.{versionNumbered, UnderVersion}
 use Rattle.records.specs.declared.version.Version.{Version}

@@ -9,7 +9,7 @@ use Rattle.check_characters.specs.Symbol.{valueOf}
 use Rattle.check_characters.specs.Mod37.{carry}
 use Rattle.check_characters.specs.Number.{allowedInNumber, checkedNumber}
 use Rattle.check_characters.specs.Iban.{checkedIban}
-use Rattle.check_characters.specs.Identcode.{checkedIdentcode}
+use Rattle.check_digits.specs.Identcode.{checkedIdentcode}
 use Rattle.check_characters.specs.declared.number.Kind.{Kind}
 use Rattle.check_characters.specs.declared.number.NumberAnswer.the-variants.{Accepted}
 use Rattle.check_characters.specs.declared.answer.CheckAnswer.the-variants.{Accepted as Passed}

@@ -13,9 +13,9 @@ use Rattle.forms.specs.Date.{dateTime}
 use Rattle.check_characters.specs.Answer.{checkVerdict, issuedTo}
 use Rattle.check_characters.specs.Number.{numberVerdict, checkedNumber}
 use Rattle.check_characters.specs.Iban.{checkedIban}
-use Rattle.check_characters.specs.Identcode.{checkDigitOf, checkedIdentcode, partsAnswer, issueIdentcodeAnswer}
-use Rattle.check_characters.specs.declared.identcode.PartsAnswer.{PartsAnswer}
-use Rattle.check_characters.specs.declared.identcode.PartsAnswer.the-variants.{Read, Refused as NotRead}
+use Rattle.check_digits.specs.Identcode.{checkDigitOf, checkedIdentcode, partsAnswer, issueIdentcodeAnswer}
+use Rattle.check_digits.specs.declared.identcode.PartsAnswer.{PartsAnswer}
+use Rattle.check_digits.specs.declared.identcode.PartsAnswer.the-variants.{Read, Refused as NotRead}
 use Rattle.slips.specs.Exactly.{digitsIn, inOrder}
 use Rattle.file.specs.Lent.{Lent}
 use Rattle.file.specs.File.{judged}

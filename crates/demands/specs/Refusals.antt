@@ -14,8 +14,8 @@ use Rattle.check_characters.specs.Number.{Issues, checkedNumber}
 use Rattle.check_characters.specs.Day.{ChecksDay}
 use Rattle.check_characters.specs.Wedge.{nextCarry}
 use Rattle.check_characters.specs.Iban.{checkedIban}
-use Rattle.check_characters.specs.Identcode.{checkedIdentcode, partsAnswer, IssuesIdentcode}
-use Rattle.check_characters.specs.declared.identcode.PartsAnswer.the-variants.{Refused as NotRead}
+use Rattle.check_digits.specs.Identcode.{checkedIdentcode, partsAnswer, IssuesIdentcode}
+use Rattle.check_digits.specs.declared.identcode.PartsAnswer.the-variants.{Refused as NotRead}
 use Rattle.check_characters.specs.declared.carry.CarryAnswer.the-variants.{Refused as NoNext}
 use Rattle.check_characters.specs.declared.day.DayAnswer.the-variants.{Refused as NotAnswered}
 use Rattle.check_characters.specs.declared.number.Kind.{Kind}

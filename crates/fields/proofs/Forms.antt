@@ -10,10 +10,10 @@ use Rattle.text.specs.Byte.{digit}
 use Rattle.text.proofs.Choices.{and-both}
 use Rattle.text.proofs.Scans.{all-of}
 use Rattle.forms.specs.Shape.{allDigits, digits}
-use Rattle.check_characters.specs.Identcode.{checkedIdentcode}
+use Rattle.check_digits.specs.Identcode.{checkedIdentcode}
 use Rattle.check_characters.specs.declared.answer.CheckAnswer.{CheckAnswer}
 use Rattle.check_characters.specs.declared.answer.CheckAnswer.the-variants.{Accepted, Refused}
-use Rattle.check_characters.proofs.Identcodes.{code-digit, accepted-whole}
+use Rattle.check_digits.proofs.Identcodes.{code-digit, accepted-whole}
 use Rattle.fields.specs.Form.{accepted, isIdentcode}
 
 -- a test of a check's answer is a test of the answer's definition

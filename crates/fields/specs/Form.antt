@@ -7,7 +7,7 @@ use Rattle.text.specs.Quoted.{bytes}
 use Rattle.text.specs.Scan.{same}
 use Rattle.forms.specs.Shape.{digits, purposeText}
 use Rattle.check_characters.specs.Iban.{checkedIban}
-use Rattle.check_characters.specs.Identcode.{checkedIdentcode}
+use Rattle.check_digits.specs.Identcode.{checkedIdentcode}
 use Rattle.check_characters.specs.declared.answer.CheckAnswer.{CheckAnswer}
 use Rattle.check_characters.specs.declared.answer.CheckAnswer.the-variants.{Accepted, Refused}
 

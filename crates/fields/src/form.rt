@@ -125,7 +125,7 @@ fn is_iban(field: &[u8]) -> bool
 fn is_identcode(field: &[u8]) -> bool
     ensures { λ r. ⌜ r ≡ isIdentcode (now (field .entry)) ⌝ }
 {
-    is_accepted(check_characters::check_identcode(field))
+    is_accepted(check_digits::check_identcode(field))
 }
 
 // Whether a check passed.

@@ -10,7 +10,7 @@ use Rattle.check_characters.specs.Number.{issueAnswer, numberVerdict, checkedNu
 use Rattle.check_characters.specs.Day.{dayAnswer, answersAfter, dayVerdict}
 use Rattle.check_characters.specs.Wedge.{nextCarry, carryVerdict}
 use Rattle.check_characters.specs.Iban.{checkedIban}
-use Rattle.check_characters.specs.Identcode.{checkDigitOf, checkedIdentcode, partsAnswer, issueIdentcodeAnswer, partsVerdict}
+use Rattle.check_digits.specs.Identcode.{checkDigitOf, checkedIdentcode, partsAnswer, issueIdentcodeAnswer, partsVerdict}
 use Rattle.check_characters.specs.declared.answer.IssueAnswer.{IssueAnswer}
 use Rattle.line.specs.Line.{readAnswer, lineVerdict}
 use Rattle.line.specs.Find.{findAnswer, fieldVerdict}

@@ -13,9 +13,9 @@ use Rattle.check_characters.specs.declared.carry.CarryAnswer.{CarryAnswer}
 use Rattle.check_characters.specs.declared.carry.CarryAnswer.the-variants as keyed
 use Rattle.check_characters.specs.declared.day.DayAnswer.{DayAnswer}
 use Rattle.check_characters.specs.declared.day.DayAnswer.the-variants as day
-use Rattle.check_characters.specs.declared.identcode.Parts.{Parts}
-use Rattle.check_characters.specs.declared.identcode.PartsAnswer.{PartsAnswer}
-use Rattle.check_characters.specs.declared.identcode.PartsAnswer.the-variants as parted
+use Rattle.check_digits.specs.declared.identcode.Parts.{Parts}
+use Rattle.check_digits.specs.declared.identcode.PartsAnswer.{PartsAnswer}
+use Rattle.check_digits.specs.declared.identcode.PartsAnswer.the-variants as parted
 use Rattle.records.specs.declared.record.Record.{Record}
 use Rattle.records.specs.declared.record.Record.the-variants.{Header, Sender, Shipment, Parcel, Product, Feature}
 use Rattle.line.specs.declared.read.LineAnswer.{LineAnswer}

@@ -11,8 +11,8 @@ use check_characters::DayAnswer;
 use check_characters::IssueAnswer;
 use check_characters::Kind;
 use check_characters::NumberAnswer;
-use check_characters::Parts;
-use check_characters::PartsAnswer;
+use check_digits::Parts;
+use check_digits::PartsAnswer;
 
 #[no_mangle]
 pub extern "C" fn peliranopi_check_number(symbols: &[u8], kind: &mut u32, place: &mut usize) -> u32
@@ -98,7 +98,7 @@ pub extern "C" fn peliranopi_check_iban(symbols: &[u8], place: &mut usize) -> u3
 pub extern "C" fn peliranopi_check_identcode(code: &[u8], place: &mut usize) -> u32
     ensures { λ r. ⌜ IdentcodeTells (now (code .entry)) r (now (place .exit)) ⌝ }
 {
-    tell_checked(check_characters::check_identcode(code), place)
+    tell_checked(check_digits::check_identcode(code), place)
 }
 
 // The header has the twelve numbers as a struct of six parts.
@@ -110,7 +110,7 @@ pub extern "C" fn peliranopi_read_identcode(
 ) -> u32
     ensures { λ r. ⌜ PartsTells (now (code .entry)) r (now (parts .exit)) (now (place .exit)) ⌝ }
 {
-    let answer = check_characters::read_identcode(code);
+    let answer = check_digits::read_identcode(code);
     match answer {
         PartsAnswer::Read(found) => {
             *parts = as_numbers(found);
@@ -133,11 +133,7 @@ pub extern "C" fn peliranopi_issue_identcode(
     ensures { λ r. ⌜ IssueIdentcodeTells (now (body .entry)) (now (output .entry)) r
         (now (written .exit)) (now (place .exit)) (now (output .exit)) ⌝ }
 {
-    tell_issued(
-        check_characters::issue_identcode(body, output),
-        written,
-        place,
-    )
+    tell_issued(check_digits::issue_identcode(body, output), written, place)
 }
 
 // What checking a number tells.

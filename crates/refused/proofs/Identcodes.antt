@@ -14,13 +14,13 @@ use Rattle.refusal.specs.declared.Refusal.{Refusal}
 use Rattle.refusal.specs.declared.Reason.the-variants.{OutputTooShort, WrongLength, WrongSymbol, WrongCheck}
 use Rattle.refusal.proofs.Verdicts.{no-pass}
 use Rattle.check_characters.specs.Answer.{roomFor, issuedTo, checkVerdict, issueVerdict}
-use Rattle.check_characters.specs.Identcode.{allowedInIdentcode, wrongInIdentcode, checkDigitOf, passes}
-use Rattle.check_characters.specs.Identcode.{checkedIdentcode, partsWhere, partsAnswer, partsVerdict}
-use Rattle.check_characters.specs.Identcode.{issueIdentcodeAnswer, IssuesIdentcode}
+use Rattle.check_digits.specs.Identcode.{allowedInIdentcode, wrongInIdentcode, checkDigitOf, passes}
+use Rattle.check_digits.specs.Identcode.{checkedIdentcode, partsWhere, partsAnswer, partsVerdict}
+use Rattle.check_digits.specs.Identcode.{issueIdentcodeAnswer, IssuesIdentcode}
 use Rattle.check_characters.specs.declared.answer.CheckAnswer.{CheckAnswer}
 use Rattle.check_characters.specs.declared.answer.CheckAnswer.the-variants.{Accepted, Refused}
 use Rattle.check_characters.specs.declared.answer.IssueAnswer.the-variants.{Issued, Refused as NotIssued}
-use Rattle.check_characters.specs.declared.identcode.PartsAnswer.the-variants.{Refused as NotRead}
+use Rattle.check_digits.specs.declared.identcode.PartsAnswer.the-variants.{Refused as NotRead}
 use Rattle.slips.specs.Exactly.{bodyOf, SoundIdentcode}
 use Rattle.slips.proofs.Shaping.{shaped-all, all-shaped}
 use Rattle.slips.proofs.Identcodes.{accepted-sound, sound-accepted}

@@ -6,7 +6,7 @@ use native.Mathlib.Omega.{arith}
 use lib.ListN.{length, drop, length-append}
 use Rattle.refusal.specs.Table.{because}
 use Rattle.refusal.specs.declared.Reason.the-variants.{FieldForm}
-use Rattle.check_characters.specs.Identcode.{checkedIdentcode}
+use Rattle.check_digits.specs.Identcode.{checkedIdentcode}
 use Rattle.check_characters.specs.declared.answer.CheckAnswer.the-variants.{Accepted}
 use Rattle.records.specs.Record.{typeOf}
 use Rattle.fields.specs.Form.{isIdentcode}

@@ -6,7 +6,7 @@ use lib.ListN.{length}
 use Rattle.refusal.specs.Table.{because}
 use Rattle.refusal.specs.declared.Refusal.{Refusal}
 use Rattle.refusal.specs.declared.Reason.the-variants.{OutputTooShort, WrongLength, WrongSymbol, WrongCheck}
-use Rattle.check_characters.specs.Identcode.{allowedInIdentcode, checkDigitOf}
+use Rattle.check_digits.specs.Identcode.{allowedInIdentcode, checkDigitOf}
 use Rattle.slips.specs.Exactly.{symbolAt, Shaped, bodyOf}
 use Rattle.refused.specs.Number.{FirstWrong}
 

@@ -18,11 +18,11 @@ use Rattle.text.proofs.Runs.{all-append}
 use Rattle.text.proofs.Scans.{all-at, all-of}
 use Rattle.text.proofs.Finite.{every-at}
 use Rattle.check_characters.specs.Answer.{roomFor, issueVerdict}
-use Rattle.check_characters.specs.Identcode.{allowedInIdentcode, wrongInIdentcode, weighed, checkDigitOf, issueIdentcodeAnswer, IssuesIdentcode}
+use Rattle.check_digits.specs.Identcode.{allowedInIdentcode, wrongInIdentcode, weighed, checkDigitOf, issueIdentcodeAnswer, IssuesIdentcode}
 use Rattle.check_characters.specs.declared.answer.IssueAnswer.{IssueAnswer}
 use Rattle.check_characters.specs.declared.answer.IssueAnswer.the-variants.{Issued, Refused}
 use Rattle.check_characters.proofs.Issuing.{room-there, room-whole}
-use Rattle.check_characters.proofs.Identcodes.{digit-is, identcode-right}
+use Rattle.check_digits.proofs.Identcodes.{digit-is, identcode-right}
 use Rattle.slips.specs.Exactly.{Shaped, SoundIdentcode, bodyOf}
 use Rattle.slips.proofs.Shaping.{shaped-all, all-shaped}
 use Rattle.slips.proofs.Written.{written-start, front-shaped, written-again}

@@ -20,10 +20,10 @@ use Rattle.text.proofs.Bytes.{digit-range}
 use Rattle.text.proofs.Runs.{all-append, all-apart}
 use Rattle.text.proofs.Scans.{all-at, all-of}
 use Rattle.check_characters.specs.Symbol.{valueOf}
-use Rattle.check_characters.specs.Identcode.{allowedInIdentcode, wrongInIdentcode, weightAt, weighedFrom, weighed, checkDigitOf, passes, checkedIdentcode}
+use Rattle.check_digits.specs.Identcode.{allowedInIdentcode, wrongInIdentcode, weightAt, weighedFrom, weighed, checkDigitOf, passes, checkedIdentcode}
 use Rattle.check_characters.specs.declared.answer.CheckAnswer.the-variants.{Accepted}
 use Rattle.check_characters.proofs.Symbols.{value-digit}
-use Rattle.check_characters.proofs.Identcodes.{weight-three, weight-one, weighed-append, passes-leaves, leaves-passes, accepted-whole}
+use Rattle.check_digits.proofs.Identcodes.{weight-three, weight-one, weighed-append, passes-leaves, leaves-passes, accepted-whole}
 use Rattle.slips.specs.Slips.{AgreeBut, swapped, FiveApart}
 use Rattle.slips.specs.Exactly.{SoundIdentcode, Shaped, bodyOf}
 use Rattle.slips.proofs.Shaping.{shaped-all, all-shaped}

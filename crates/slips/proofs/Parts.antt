@@ -7,12 +7,12 @@ use native.Mathlib.Omega.{arith}
 use lib.ListN.{length, take, drop}
 use lib.Seq.{take-all, take-add, drop-drop}
 use Rattle.refusal.proofs.Verdicts.{no-pass}
-use Rattle.check_characters.specs.Identcode.{parts, checkedIdentcode, partsWhere, partsAnswer, partsVerdict}
+use Rattle.check_digits.specs.Identcode.{parts, checkedIdentcode, partsWhere, partsAnswer, partsVerdict}
 use Rattle.check_characters.specs.declared.answer.CheckAnswer.{CheckAnswer}
 use Rattle.check_characters.specs.declared.answer.CheckAnswer.the-variants.{Accepted, Refused}
-use Rattle.check_characters.specs.declared.identcode.Part.{Part}
-use Rattle.check_characters.specs.declared.identcode.Parts.{Parts}
-use Rattle.check_characters.specs.declared.identcode.PartsAnswer.the-variants as read
+use Rattle.check_digits.specs.declared.identcode.Part.{Part}
+use Rattle.check_digits.specs.declared.identcode.Parts.{Parts}
+use Rattle.check_digits.specs.declared.identcode.PartsAnswer.the-variants as read
 use Rattle.slips.specs.Exactly.{SoundIdentcode, inOrder, withoutCheck, Laid, Divides, digitsJoined, bodyOf}
 use Rattle.slips.proofs.Identcodes.{accepted-sound, sound-accepted}
 

@@ -8,9 +8,9 @@ use lib.ListN.{length, getD, take, drop}
 use Rattle.check_characters.specs.Mod37.{passes}
 use Rattle.check_characters.specs.Number.{lengthOf, allowedInNumber}
 use Rattle.check_characters.specs.Iban.{ibanNumber, checkDigits, barred, allowedInIban}
-use Rattle.check_characters.specs.Identcode.{allowedInIdentcode, checkDigitOf}
-use Rattle.check_characters.specs.declared.identcode.Part.{Part}
-use Rattle.check_characters.specs.declared.identcode.Parts.{Parts}
+use Rattle.check_digits.specs.Identcode.{allowedInIdentcode, checkDigitOf}
+use Rattle.check_digits.specs.declared.identcode.Part.{Part}
+use Rattle.check_digits.specs.declared.identcode.Parts.{Parts}
 use Rattle.check_characters.specs.declared.number.Kind.{Kind}
 
 -- the symbol at a place, counted from 0

@@ -9,9 +9,9 @@ use check_characters::DayAnswer;
 use check_characters::IssueAnswer;
 use check_characters::Kind;
 use check_characters::NumberAnswer;
-use check_characters::Part;
-use check_characters::Parts;
-use check_characters::PartsAnswer;
+use check_digits::Part;
+use check_digits::Parts;
+use check_digits::PartsAnswer;
 use refusal::Refusal;
 use streams::Input;
 
@@ -103,7 +103,7 @@ fn say_issued(body: &[u8]) {
 
 fn say_issued_identcode(body: &[u8]) {
     let mut out = [b'.'; 30];
-    let answer = check_characters::issue_identcode(body, &mut out);
+    let answer = check_digits::issue_identcode(body, &mut out);
     say_output(answer, &out);
 }
 
@@ -130,7 +130,7 @@ fn say_iban(s: &[u8]) {
 }
 
 fn say_identcode(s: &[u8]) {
-    say_checked(check_characters::check_identcode(s), b" identcode\n");
+    say_checked(check_digits::check_identcode(s), b" identcode\n");
 }
 
 fn say_checked(answer: CheckAnswer, name: &[u8]) {
@@ -143,7 +143,7 @@ fn say_checked(answer: CheckAnswer, name: &[u8]) {
 }
 
 fn say_parts(s: &[u8]) {
-    let answer = check_characters::read_identcode(s);
+    let answer = check_digits::read_identcode(s);
     match answer {
         PartsAnswer::Read(parts) => say_each(s, parts),
         PartsAnswer::Refused(refusal) => say_no(refusal),

@@ -1,5 +1,5 @@
 -- `numbers::peliranopi_read_identcode` meets its contract.
-use Rattle.check_characters.specs.Identcode.{partsVerdict}
+use Rattle.check_digits.specs.Identcode.{partsVerdict}
 use Rattle.peliranopi.specs.Told.{partsTold}
 use Rattle.peliranopi.proofs.Telling.{told-number, told-place, told}
 use borrow.Author.Needs.{needs}

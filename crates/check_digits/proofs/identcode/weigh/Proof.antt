@@ -4,11 +4,11 @@ use mathlib.Core.Path.{_≡_}
 use lib.ListN.{length, take, drop}
 use Rattle.text.specs.Scan.{firstFailing}
 use Rattle.text.proofs.Scans.{walk-on, walk-stops, walk-ends}
-use Rattle.check_characters.specs.Identcode.{allowedInIdentcode, wrongInIdentcode, weighed}
-use Rattle.check_characters.proofs.Identcodes.{digit-least, digit-fits, weighs-fits, sum-stays, sum-little, sum-on}
+use Rattle.check_digits.specs.Identcode.{allowedInIdentcode, wrongInIdentcode, weighed}
+use Rattle.check_digits.proofs.Identcodes.{digit-least, digit-fits, weighs-fits, sum-stays, sum-little, sum-on}
 use borrow.Author.Needs.{needs}
-use Rattle.check_characters.proofs.identcode.weigh.Statement.{statement}
-use Rattle.check_characters.proofs.identcode.weigh.Tie as tie
+use Rattle.check_digits.proofs.identcode.weigh.Statement.{statement}
+use Rattle.check_digits.proofs.identcode.weigh.Tie as tie
 
 ruleset laws = (needs, walk-on, walk-stops, walk-ends, digit-least, digit-fits, weighs-fits, sum-stays, sum-little, sum-on)
 

@@ -1,8 +1,8 @@
 -- `identcode::weight_at` meets its contract.
-use Rattle.check_characters.proofs.Identcodes.{weight-three, weight-one}
+use Rattle.check_digits.proofs.Identcodes.{weight-three, weight-one}
 use borrow.Author.Needs.{needs}
-use Rattle.check_characters.proofs.identcode.weight_at.Statement.{statement}
-use Rattle.check_characters.proofs.identcode.weight_at.Tie as tie
+use Rattle.check_digits.proofs.identcode.weight_at.Statement.{statement}
+use Rattle.check_digits.proofs.identcode.weight_at.Tie as tie
 
 ruleset laws = (needs, weight-three, weight-one)
 

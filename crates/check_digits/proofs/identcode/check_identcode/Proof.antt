@@ -1,8 +1,8 @@
 -- `identcode::check_identcode` meets its contract.
-use Rattle.check_characters.proofs.Identcodes.{checked-length, checked-wrong, checked-passes, checked-fails}
+use Rattle.check_digits.proofs.Identcodes.{checked-length, checked-wrong, checked-passes, checked-fails}
 use borrow.Author.Needs.{needs}
-use Rattle.check_characters.proofs.identcode.check_identcode.Statement.{statement}
-use Rattle.check_characters.proofs.identcode.check_identcode.Tie as tie
+use Rattle.check_digits.proofs.identcode.check_identcode.Statement.{statement}
+use Rattle.check_digits.proofs.identcode.check_identcode.Tie as tie
 
 ruleset laws = (needs, checked-length, checked-wrong, checked-passes, checked-fails)
 

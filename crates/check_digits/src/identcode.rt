@@ -11,11 +11,10 @@
 ghost use mathlib.Core.Path.{_≡_};
 ghost use Prim.Native.Nat.{_≤_};
 ghost use lib.ListN.{length, take};
-ghost use Rattle.check_characters.specs.Identcode.{wrongInIdentcode, weightAt, weighed, checkDigit, checkedIdentcode};
-ghost use Rattle.check_characters.specs.Identcode.{partsAnswer, IssuesIdentcode};
-use crate::answer;
-use crate::answer::CheckAnswer;
-use crate::answer::IssueAnswer;
+ghost use Rattle.check_digits.specs.Identcode.{wrongInIdentcode, weightAt, weighed, checkDigit, checkedIdentcode};
+ghost use Rattle.check_digits.specs.Identcode.{partsAnswer, IssuesIdentcode};
+use check_characters::CheckAnswer;
+use check_characters::IssueAnswer;
 use refusal::Reason;
 use refusal::Refusal;
 
@@ -112,7 +111,7 @@ pub fn issue_identcode(body: &[u8], output: &mut [u8]) -> IssueAnswer
         });
     }
     let check = check_digit(walk.sum);
-    answer::issue(body, check, output)
+    check_characters::issue(body, check, output)
 }
 
 // Walks over digits to the first symbol that is no digit, or the end.

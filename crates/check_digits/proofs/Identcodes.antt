@@ -23,19 +23,19 @@ use Rattle.text.proofs.Choices.{came-then, came-else}
 use Rattle.text.proofs.Bytes.{digit-range}
 use Rattle.text.proofs.Numbers.{eq-or-ne}
 use Rattle.text.proofs.Scans.{none-fails}
 use Rattle.check_characters.specs.Symbol.{valueOf, symbolOf}
 use Rattle.check_characters.specs.Answer.{roomFor, checkVerdict}
-use Rattle.check_characters.specs.Identcode.{allowedInIdentcode, position, parts, wrongInIdentcode, weightAt}
-use Rattle.check_characters.specs.Identcode.{weighedFrom, weighed, checkDigit, checkDigitOf, passes}
-use Rattle.check_characters.specs.Identcode.{checkedIdentcode, partsWhere, partsAnswer, issueIdentcodeAnswer}
+use Rattle.check_digits.specs.Identcode.{allowedInIdentcode, position, parts, wrongInIdentcode, weightAt}
+use Rattle.check_digits.specs.Identcode.{weighedFrom, weighed, checkDigit, checkDigitOf, passes}
+use Rattle.check_digits.specs.Identcode.{checkedIdentcode, partsWhere, partsAnswer, issueIdentcodeAnswer}
 use Rattle.check_characters.specs.declared.answer.CheckAnswer.{CheckAnswer}
 use Rattle.check_characters.specs.declared.answer.CheckAnswer.the-variants.{Accepted, Refused}
 use Rattle.check_characters.specs.declared.answer.IssueAnswer.{IssueAnswer}
 use Rattle.check_characters.specs.declared.answer.IssueAnswer.the-variants as issue
-use Rattle.check_characters.specs.declared.identcode.Part.{Part}
-use Rattle.check_characters.specs.declared.identcode.Parts.{Parts}
-use Rattle.check_characters.specs.declared.identcode.PartsAnswer.the-variants as read
+use Rattle.check_digits.specs.declared.identcode.Part.{Part}
+use Rattle.check_digits.specs.declared.identcode.Parts.{Parts}
+use Rattle.check_digits.specs.declared.identcode.PartsAnswer.the-variants as read
 use Rattle.check_characters.proofs.Symbols.{value-digit, low-symbol}
 
 module _ (i : ℕ) where
   pub weight-three : i % 2 ≡ 0 → 3 ≡ weightAt i
@@ -156,7 +156,7 @@ module _ (s : List ℕ) where
       pub checked-fails : (sum % 10 ≡ 0 → ⊥) → Refused (because WrongCheck 21) ≡ checkedIdentcode s
       unfolding checkedIdentcode
       checked-fails n =
-          simp (eq-eqb (length s) 22, ← ew, long, le-ltb wrong 22, leaves-passes s long fine (λ e. n (rw whole e)))
+          simp (← ew, long, le-ltb wrong 22, leaves-passes s long fine (λ e. n (rw whole e)))
 
 -- what an accepted code is
 pub record Whole (s : List ℕ) : Type 0 where

@@ -1,8 +1,8 @@
 -- `identcode::check_digit` meets its contract.
-use Rattle.check_characters.proofs.Identcodes.{digit-none, digit-some}
+use Rattle.check_digits.proofs.Identcodes.{digit-none, digit-some}
 use borrow.Author.Needs.{needs}
-use Rattle.check_characters.proofs.identcode.check_digit.Statement.{statement}
-use Rattle.check_characters.proofs.identcode.check_digit.Tie as tie
+use Rattle.check_digits.proofs.identcode.check_digit.Statement.{statement}
+use Rattle.check_digits.proofs.identcode.check_digit.Tie as tie
 
 ruleset laws = (needs, digit-none, digit-some)
 

@@ -19,16 +19,16 @@ use Rattle.text.specs.Byte.{digit}
 use Rattle.text.specs.Scan.{firstFailing}
 use Rattle.refusal.specs.declared.Reason.the-variants.{WrongLength, WrongSymbol, WrongCheck}
 use Rattle.refusal.specs.Table.{because, verdictOf, Verdict}
 use Rattle.check_characters.specs.Symbol.{valueOf, symbolOf}
 use Rattle.check_characters.specs.Answer.{roomFor, issuedTo}
 use Rattle.check_characters.specs.declared.answer.CheckAnswer.{CheckAnswer}
 use Rattle.check_characters.specs.declared.answer.CheckAnswer.the-variants.{Accepted, Refused}
 use Rattle.check_characters.specs.declared.answer.IssueAnswer.{IssueAnswer}
 use Rattle.check_characters.specs.declared.answer.IssueAnswer.the-variants as issue
-use Rattle.check_characters.specs.declared.identcode.Part.{Part}
-use Rattle.check_characters.specs.declared.identcode.Parts.{Parts}
-use Rattle.check_characters.specs.declared.identcode.PartsAnswer.{PartsAnswer}
-use Rattle.check_characters.specs.declared.identcode.PartsAnswer.the-variants as read
+use Rattle.check_digits.specs.declared.identcode.Part.{Part}
+use Rattle.check_digits.specs.declared.identcode.Parts.{Parts}
+use Rattle.check_digits.specs.declared.identcode.PartsAnswer.{PartsAnswer}
+use Rattle.check_digits.specs.declared.identcode.PartsAnswer.the-variants as read
 
 -- "Position: 3-7": from one place of the code to another, both counted from 1; our places are counted from 0
 abbrev pub position : ℕ → ℕ → Part

@@ -1,8 +1,8 @@
 -- `identcode::read_identcode` meets its contract.
-use Rattle.check_characters.proofs.Identcodes.{all-six, parts-read, parts-refused}
+use Rattle.check_digits.proofs.Identcodes.{all-six, parts-read, parts-refused}
 use borrow.Author.Needs.{needs}
-use Rattle.check_characters.proofs.identcode.read_identcode.Statement.{statement}
-use Rattle.check_characters.proofs.identcode.read_identcode.Tie as tie
+use Rattle.check_digits.proofs.identcode.read_identcode.Statement.{statement}
+use Rattle.check_digits.proofs.identcode.read_identcode.Tie as tie
 
 ruleset laws = (needs, all-six, parts-read, parts-refused)
 

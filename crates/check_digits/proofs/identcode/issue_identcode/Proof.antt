@@ -1,10 +1,10 @@
 -- `identcode::issue_identcode` meets its contract.
 use Rattle.check_characters.specs.Answer.{issuedTo}
 use Rattle.check_characters.proofs.Issuing.{issued-with}
-use Rattle.check_characters.proofs.Identcodes.{identcode-length, identcode-wrong, identcode-right, identcode-check}
+use Rattle.check_digits.proofs.Identcodes.{identcode-length, identcode-wrong, identcode-right, identcode-check}
 use borrow.Author.Needs.{needs}
-use Rattle.check_characters.proofs.identcode.issue_identcode.Statement.{statement}
-use Rattle.check_characters.proofs.identcode.issue_identcode.Tie as tie
+use Rattle.check_digits.proofs.identcode.issue_identcode.Statement.{statement}
+use Rattle.check_digits.proofs.identcode.issue_identcode.Tie as tie
 
 ruleset laws = (needs, identcode-length, identcode-wrong, identcode-right, identcode-check, issued-with)
 

@@ -1,0 +1,2 @@
+pub mod Identcodes
+pub mod Example
