@@ -45,9 +45,13 @@ def edited(crate, edit):
 
 
 def refused(name, crate, room):
-    """What the compiler says of this copy of a crate, or nothing where it compiles."""
-    words = [COMPILER, room / "empty" / "main.rt", "--crate-name", "empty", "--lib", f"std={KIT}/libs/std/src/lib.rt"]
-    for below in reached(name, []):
+    """What the compiler says of this copy of a crate, or nothing where it compiles. A library is put below a program that does nothing."""
+    own, libraries = crate / "src" / "main.rt", reached(name, [])
+    if own.exists():
+        libraries.remove(name)
+    words = [COMPILER, own if own.exists() else room / "empty" / "main.rt", "--crate-name", "program"]
+    words += ["--lib", f"std={KIT}/libs/std/src/lib.rt"]
+    for below in libraries:
         folder = crate if below == name else CRATES / below if below in STANDS_ON else KIT / "libs" / below
         words += ["--lib", f"{below}={folder}/src/lib.rt"]
     told = subprocess.run(words, stdout=subprocess.DEVNULL, stderr=subprocess.PIPE, text=True)

@@ -144,7 +144,7 @@ KeyRefusedExactly =
     (carry key : ℕ) (refusal : Refusal) →
     (nextCarry carry key ≡ NoNext refusal) ↔ RefusedKey carry key refusal
 
--- Request 6. A day's numbers: 16, then 13; "either leaves the answers untouched".
+-- Document 02, request 6. A day's numbers: 16, then 13; "either leaves the answers untouched".
 abbrev pub DayRefusedExactly : Type 0
 DayRefusedExactly =
     (numbers answers after : List ℕ) (refusal : Refusal) →

@@ -1,4 +1,4 @@
--- No answer both passes and is refused, whatever the kind of answer.
+-- No answer both passes and is refused, whatever the kind of answer; and a byte holds the number of every refusal.
 use Prim.Native.Nat.{ℕ, _≤_}
 use mathlib.Core.Path.{_≡_, sym, ap, _∙_}
 use mathlib.Core.Bool.{Bool, true, false}

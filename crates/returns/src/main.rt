@@ -1,19 +1,15 @@
 // The returns bench: tracking numbers one a line on standard input, their answers one a line on standard output, each as soon as its line
 // is there, and at the end a line `counts LINES PASSED LENGTH SYMBOL CHECK`. Where a read or a write fails it says so, prints no counts and
 // stops.
+ghost use mathlib.Core.Path.{_≡_};
+ghost use mathlib.Core.Bool.{false};
 ghost use Prim.Native.Nat.{_<_, _≤_};
-ghost use lib.ListN.{length};
+ghost use lib.ListN.{length, take};
 ghost use Rattle.io.specs.Counts.{Counts};
+ghost use Rattle.scans.specs.Tallying.{noLine};
+ghost use Rattle.returns.specs.Turns.{Tells, Leaves};
+use scans::Tally;
 use streams::Piece;
-
-// How many lines there were, and how many of them were answered 0, 16, 17 and 18.
-struct Tally {
-    lines: u64,
-    passed: u64,
-    length: u64,
-    symbol: u64,
-    check: u64,
-}
 
 // Between two reads: whether it goes on, and how many bytes at the buffer's front wait for the rest of their line.
 struct Bench {
@@ -49,7 +45,7 @@ fn main() {
 
 // Nothing is read yet.
 fn first_turn() -> Bench
-    ensures { λ r. ⌜ r .waiting ≤ 17 ⌝ }
+    ensures { λ r. ⌜ (r .waiting ≡ 0) × (r .counts ≡ noLine) ⌝ }
 {
     let counts = Tally {
         lines: 0,
@@ -85,7 +81,7 @@ fn take_turn(buffer: &mut [u8], bench: Bench) -> Bench
 
 // Answers the whole lines, and keeps what stands behind the last of them.
 fn answer_more(buffer: &mut [u8], there: usize, before: Tally) -> Bench
-    ensures { λ r. ⌜ r .waiting ≤ 17 ⌝ }
+    ensures { λ r. ⌜ (r .waiting ≤ 17) × Leaves (take there (now (buffer .entry))) before r (now (buffer .exit)) ⌝ }
 {
     let telling = answer_whole(text::clip(buffer, 0, there), before);
     let Telling::Said(told) = telling else {
@@ -121,7 +117,7 @@ fn answer_last(buffer: &mut [u8], waiting: usize, before: Tally) -> Bench
 }
 
 fn closed(counts: Tally) -> Bench
-    ensures { λ r. ⌜ r .waiting ≤ 17 ⌝ }
+    ensures { λ r. ⌜ (r .«open» ≡ false) × (r .waiting ≤ 17) ⌝ }
 {
     Bench {
         open: false,
@@ -131,7 +127,9 @@ fn closed(counts: Tally) -> Bench
 }
 
 // Answers the whole lines of a text, up to 1,024 at a time.
-fn answer_whole(text: &[u8], before: Tally) -> Telling {
+fn answer_whole(text: &[u8], before: Tally) -> Telling
+    ensures { λ r. ⌜ Tells (now (text .entry)) before r ⌝ }
+{
     let mut answers = [0u8; 1024];
     let mut counts = before;
     let mut at: usize = 0;
@@ -141,35 +139,20 @@ fn answer_whole(text: &[u8], before: Tally) -> Telling {
         if n == 0 {
             return Telling::Said(Told { next: at, counts });
         }
-        if !are_said(&answers[..n]) {
+        if !say_answers(&answers[..n]) {
             return Telling::Failed;
         }
-        counts = counted(counts, &answers[..n]);
+        counts = scans::count_answers(counts, &answers[..n]);
         at += answered.next;
     }
     Telling::Said(Told { next: at, counts })
 }
 
 // Says the answers of at most 1,024 lines, in one write.
-fn are_said(answers: &[u8]) -> bool {
+fn say_answers(answers: &[u8]) -> bool {
     let mut lines = [0u8; 3072];
     let n = scans::print_answers(answers, &mut lines);
-    streams::is_said(&lines[..n])
-}
-
-// The counts with these answers. No run has so many lines that a count begins again.
-fn counted(counts: Tally, answers: &[u8]) -> Tally {
-    Tally {
-        lines: std::num::wrapping_add_u64(counts.lines, answers.len() as u64),
-        passed: more(counts.passed, 0, answers),
-        length: more(counts.length, 16, answers),
-        symbol: more(counts.symbol, 17, answers),
-        check: more(counts.check, 18, answers),
-    }
-}
-
-fn more(count: u64, answer: u8, answers: &[u8]) -> u64 {
-    std::num::wrapping_add_u64(count, text::count_of(answer, answers) as u64)
+    streams::write_out(&lines[..n])
 }
 
 fn say_counts(counts: Tally) {

@@ -1,4 +1,4 @@
--- The example that the scans open with, worked out, and every answer as it is printed.
+-- The examples that the scans and their counts open with, worked out, and every answer as it is printed.
 use Prim.Native.Nat.{ℕ}
 use mathlib.Core.Path.{_≡_, refl}
 use mathlib.Core.List.{List, [], _∷_, _++_, map}
@@ -8,6 +8,7 @@ use Rattle.check_characters.specs.Mod37.{step, passes}
 use Rattle.check_characters.specs.Number.{shapeOf, allowedInNumber, checkedAs, checkedNumber}
 use Rattle.scans.specs.Scans.{wholeLines, numberOn, lineAnswer, printed}
 use Rattle.scans.specs.Pieces.{restOf}
+use Rattle.scans.specs.Tallying.{withAnswer, tallied, noLine}
 
 abbrev example : List ℕ
 example = bytes "09980000020041F" ++ (13 ∷ 10 ∷ []) ++ bytes "0998" ++ (10 ∷ []) ++ bytes "0998"
@@ -18,3 +19,7 @@ example-scans = (refl, refl)
 
 pub example-printed : printed (0 ∷ 16 ∷ 17 ∷ 18 ∷ []) ≡ bytes "0" ++ (10 ∷ bytes "16") ++ (10 ∷ bytes "17") ++ (10 ∷ bytes "18") ++ (10 ∷ [])
 example-printed = refl
+
+pub example-tally : tallied noLine (0 ∷ 16 ∷ 0 ∷ 18 ∷ []) ≡ record { lines = 4; passed = 2; length = 1; symbol = 0; check = 1 }
+unfolding withAnswer
+example-tally = refl

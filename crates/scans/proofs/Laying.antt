@@ -15,7 +15,7 @@ use Rattle.scans.proofs.Tabling.{tabled-more, tabled-alike}
 use Rattle.scans.proofs.Splitting.{feed-behind, next-line, no-line}
 use Rattle.scans.proofs.Slots.{laid-long, answer-stays, answer-there}
 
-bytes-both : (a b : List (List ℕ)) → bytesOf (a ++ b) ≡ bytesOf a + bytesOf b
+pub bytes-both : (a b : List (List ℕ)) → bytesOf (a ++ b) ≡ bytesOf a + bytesOf b
 bytes-both [] b = sym (zero-add (bytesOf b))
 bytes-both (line ∷ a) b = omega (arith, bytes-both a b)
 

@@ -8,4 +8,6 @@ pub mod Keeping
 pub mod Answering
 pub mod Printing
 pub mod Pieces
+pub mod Tallying
+pub mod Repeating
 pub mod Example

@@ -5,7 +5,7 @@ use mathlib.Core.Bool.{Bool, true, false}
 use mathlib.Core.List.{List, _++_, append-assoc}
 use native.Mathlib.Omega.{arith}
 use lib.Dec.{eqb}
-use lib.ListN.{length, set, take, drop, length-drop, take-append-drop}
+use lib.ListN.{length, set, take, drop, take-append-drop}
 use lib.Seq.{take-at, drop-at, length-take-le, getD-set-same, getD-set-other}
 use borrow.Author.Tests.{eqb-true}
 use Rattle.text.specs.Choice.{if_then_else_}

@@ -1,3 +1,4 @@
 pub mod Scans
 pub mod Laying
 pub mod Pieces
+pub mod Tallying

@@ -1,5 +1,6 @@
 -- What the returns bench answers to an input that comes in pieces (R6e of docs/DECISIONS.md). It works each piece off as it comes:
--- `answer_lines` answers the whole lines in front, call after call, and `keep` keeps what is left for the next piece.
+-- `answer_lines` answers the whole lines in front, call after call, and `keep` keeps what is left for the next piece. The program's own
+-- functions are held to that by returns/specs/Turns.
 use Prim.Native.Nat.{ℕ}
 use mathlib.Core.List.{List, [], _∷_, _++_, map}
 use lib.Dec.{eqb}

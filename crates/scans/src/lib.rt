@@ -1,12 +1,16 @@
 // The returns bench's scans: tracking numbers that stand one a line in a text, answered up to 1,024 at a time. A line ends with a line feed;
 // a carriage return in front of it belongs to the line's end, as scanners send both. What stands behind the last line feed waits for the
 // rest of its line.
+mod tally;
+
 ghost use mathlib.Core.Path.{_≡_};
 ghost use Prim.Native.Nat.{_+_, _-_, _*_, _/_, _≤_, min};
 ghost use lib.ListN.{length};
 ghost use Rattle.text.specs.Placed.{placed};
 ghost use Rattle.scans.specs.Scans.{numberOn, AnswersLines, printedOne, printed, Prints, Keeps};
 ghost use Rattle.scans.specs.Laying.{markOf, laid, ruled, overruled, Lays};
+pub use tally::Tally;
+pub use tally::count_answers;
 
 // How many lines were answered, and where the text goes on behind them.
 pub struct Answered {
@@ -23,6 +27,7 @@ pub fn answer_lines(text: &[u8], answers: &mut [u8]) -> Answered
     let room = least(answers.len(), 1024);
     let answered = lay_out(text, room, &mut numbers, &mut marks);
     let n = answered.lines;
+    // Never refused: these are n numbers, and there are at least n answer bytes.
     check_characters::check_numbers(&numbers[..15 * n], answers);
     overrule(&marks[..n], answers);
     answered

@@ -76,11 +76,11 @@ fn meaning(nothing: bool, failed: bool, interrupted: bool) -> Reading
 
 // Writes to standard output, and says on standard error where that failed.
 pub fn say(text: &[u8]) {
-    is_said(text);
+    write_out(text);
 }
 
-// The same, for who has to stop there: whether it was written.
-pub fn is_said(text: &[u8]) -> bool {
+// The same, for who has to stop where it failed: whether all of it was written.
+pub fn write_out(text: &[u8]) -> bool {
     if io::write_all(libc::STDOUT_FILENO, text) {
         return true;
     }
@@ -88,7 +88,7 @@ pub fn is_said(text: &[u8]) -> bool {
     false
 }
 
-// The same for a number's decimal digits.
+// Says a number's decimal digits.
 pub fn say_decimal(n: u64) {
     let mut digits = [0u8; 20];
     let count = io::decimal(n, &mut digits);
