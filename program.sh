@@ -1,5 +1,6 @@
 # Sourced by ./judge and ./returns, which name the built program in `name`: finds it or builds it, and opens what it is to read, FILE or -
-# for standard input. Sets `command`, and `what` it reads in words. PELIRANOPI_BIN names the folder of the built program where it is not target/bin.
+# for standard input. Sets `command`, and `what` it reads in words. PELIRANOPI_BIN names the folder of the built program where it is not
+# target/bin.
 set -u
 could_not() { echo "${0##*/}: $*" >&2; exit 2; }
 [ $# -eq 1 ] || { echo "usage: ${0##*/} FILE|-" >&2; exit 2; }

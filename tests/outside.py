@@ -1,5 +1,5 @@
-"""Holds numbers, days of them, carries, IBANs and identcodes against stdnum: /usr/bin/python3 tests/outside.py COUNT SEED PROGRAM..., where the program
-answers requests as tests/compare/src/bin/numbers.rs does. COUNT requests of each kind are made, whole and damaged.
+"""Holds numbers, days of them, carries, IBANs and identcodes against stdnum: /usr/bin/python3 tests/outside.py COUNT SEED PROGRAM..., where
+the program answers requests as tests/compare/src/bin/numbers.rs does. COUNT requests of each kind are made, whole and damaged.
 
 stdnum knows the check characters, not our profile of them (document 01). So:
 - MOD 37,36 knows neither lengths nor where a letter may stand. Where length and symbols are right, stdnum's verdict is compared;

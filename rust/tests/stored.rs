@@ -86,11 +86,7 @@ fn answer(request: &str) -> String {
             Kind::Tracking => "tracking number".to_string(),
             Kind::Label => "label code".to_string(),
         }),
-        "B" => {
-            let mut output = *b"..............................";
-            let written = issue_number(symbols, &mut output);
-            said(written, |_| String::from_utf8_lossy(&output).into_owned())
-        }
+        "B" => issued(issue_number, symbols),
         "I" => said(check_iban(symbols), |()| "IBAN".to_string()),
         "D" => said(check_identcode(symbols), |()| "identcode".to_string()),
         "P" => said(read_identcode(symbols), |parts| {
@@ -105,11 +101,7 @@ fn answer(request: &str) -> String {
             let text = String::from_utf8_lossy(symbols);
             parts.map(|part| &text[part]).join(" ")
         }),
-        "J" => {
-            let mut output = *b"..............................";
-            let written = issue_identcode(symbols, &mut output);
-            said(written, |_| String::from_utf8_lossy(&output).into_owned())
-        }
+        "J" => issued(issue_identcode, symbols),
         "K" => {
             let (carry, key) = request[2..].split_once(' ').expect("a carry and a key");
             let next = next_carry(carry.parse().expect("a number"), key.as_bytes()[0]);
@@ -119,6 +111,13 @@ fn answer(request: &str) -> String {
         "A" => day(&request[2..]),
         asked => panic!("no call answers {asked}"),
     }
+}
+
+/// What is issued from a body, at the front of an output that is longer.
+fn issued(issue: fn(&[u8], &mut [u8]) -> Result<usize, Refusal>, body: &[u8]) -> String {
+    let mut output = *b"..............................";
+    let written = issue(body, &mut output);
+    said(written, |_| String::from_utf8_lossy(&output).into_owned())
 }
 
 /// The answer to each key, from the first carry on. Behind a refusal there is none: 0 stands for it.
