@@ -1,10 +1,10 @@
 -- Proofs of the statements in specs/Demand1.
-use Prim.Native.Nat.{ℕ}
+use Prim.Native.Nat.{ℕ, _+_}
 use mathlib.Core.Path.{_≡_, sym, ap, _∙_}
 use mathlib.Core.List.{List}
 use lib.ListN.{length, replicate}
 use Rattle.text.specs.Placed.{placed}
-use Rattle.check_characters.specs.Answer.{issuedTo}
+use Rattle.check_characters.specs.Answer.{roomFor, issuedTo}
 use Rattle.check_characters.specs.Mod37.{checkOf}
 use Rattle.check_characters.specs.Number.{issueAnswer, checkedNumber}
 use Rattle.check_characters.specs.Day.{answersAfter}
@@ -36,6 +36,7 @@ use Rattle.demands.specs.Demand1.{
   TestFieldUnique,
   JudgeUnique,
   PlaceUnique,
+  IssueUnique,
   FindOrGrowUnique,
   ClearUnique,
   WriteLineUnique,
@@ -106,6 +107,9 @@ judge-unique s words a b x y p q = (p .0 ∙ sym (q .0), p .1 ∙ sym (q .1))
 
 pub place-unique : PlaceUnique
 place-unique out at = one-answer (placed out at)
+
+pub issue-unique : IssueUnique
+issue-unique body check out = one-output (roomFor (length body + 1)) body out check
 
 pub find-or-grow-unique : FindOrGrowUnique
 find-or-grow-unique file tree parcels offset a b x y p q = (p .0 ∙ sym (q .0), p .1 ∙ sym (q .1))

@@ -2,11 +2,12 @@
 -- it." That is what the checker shows of every function, and no entry point has a `requires`. "It refuses by the numbers in our
 -- table, at the first place the table's order gives, and what each buffer then holds is fixed": of each entry point, two outcomes
 -- that its contract allows are equal.
-use Prim.Native.Nat.{ℕ}
+use Prim.Native.Nat.{ℕ, _+_}
 use mathlib.Core.Path.{_≡_}
 use mathlib.Core.List.{List}
 use lib.ListN.{length, replicate}
 use Rattle.text.specs.Placed.{placed}
+use Rattle.check_characters.specs.Answer.{roomFor, issuedTo}
 use Rattle.check_characters.specs.Number.{Issues, checkedNumber}
 use Rattle.check_characters.specs.Day.{ChecksDay}
 use Rattle.check_characters.specs.Wedge.{nextCarry}
@@ -97,6 +98,13 @@ JudgeUnique =
 abbrev pub PlaceUnique : Type 0
 PlaceUnique =
     (output : List ℕ) (place : ℕ) (run x y : List ℕ) → x ≡ placed output place run → y ≡ placed output place run → x ≡ y
+
+-- a number written with its check, whatever it is
+abbrev pub IssueUnique : Type 0
+IssueUnique =
+    (body : List ℕ) (check : ℕ) (output : List ℕ) (a b : IssueAnswer) (x y : List ℕ) →
+    (a ≡ roomFor (length body + 1) (length output)) × (x ≡ issuedTo a body check output) →
+    (b ≡ roomFor (length body + 1) (length output)) × (y ≡ issuedTo b body check output) → (a ≡ b) × (x ≡ y)
 
 -- an identcode looked for, and the tree then
 abbrev pub FindOrGrowUnique : Type 0
