@@ -4,13 +4,13 @@ ghost use Rattle.check_characters.specs.Answer.{room_for, issued_to};
 
 use refusal::{Reason, Refusal};
 
-#[derive(Drop)]
+#[derive(Clone, Copy)]
 pub enum CheckAnswer {
     Accepted,
     Refused(Refusal),
 }
 
-#[derive(Drop)]
+#[derive(Clone, Copy)]
 pub enum IssueAnswer {
     // How many bytes were written.
     Issued(usize),

@@ -9,7 +9,7 @@ ghost use Rattle.check_characters.specs.Wedge.{is_carry, next_carry};
 use crate::{steps, symbol};
 use refusal::{Reason, Refusal};
 
-#[derive(Drop)]
+#[derive(Clone, Copy)]
 pub enum CarryAnswer {
     // The carry after the key.
     Next(u32),

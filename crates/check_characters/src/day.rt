@@ -10,7 +10,7 @@ use crate::number::{Kind, NumberAnswer};
 use crate::{number, steps};
 use refusal::{Reason, Refusal};
 
-#[derive(Drop)]
+#[derive(Clone, Copy)]
 pub enum DayAnswer {
     // How many numbers passed; each has its answer.
     Answered(usize),

@@ -20,20 +20,20 @@ use crate::answer::IssueAnswer;
 use crate::{answer, carry, steps, symbol};
 use refusal::{Reason, Refusal};
 
-#[derive(Drop)]
+#[derive(Clone, Copy)]
 pub enum Kind {
     Tracking,
     Label,
 }
 
-#[derive(Drop)]
+#[derive(Clone, Copy)]
 pub enum NumberAnswer {
     Accepted(Kind),
     Refused(Refusal),
 }
 
 // How far a number's symbols are allowed, and the carry behind these.
-#[derive(Drop)]
+#[derive(Clone, Copy)]
 struct Walked {
     wrong: usize,
     carry: u8,

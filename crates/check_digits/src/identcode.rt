@@ -16,14 +16,14 @@ use check_characters::{CheckAnswer, IssueAnswer};
 use refusal::{Reason, Refusal};
 
 // One part: where it starts in the code, and how many digits it has.
-#[derive(Drop)]
+#[derive(Clone, Copy)]
 pub struct Part {
     pub start: usize,
     pub length: usize,
 }
 
 // The parts of an identcode, in their order.
-#[derive(Drop)]
+#[derive(Clone, Copy)]
 pub struct Parts {
     // Country of origin or partner.
     pub origin: Part,
@@ -37,14 +37,14 @@ pub struct Parts {
     pub check: Part,
 }
 
-#[derive(Drop)]
+#[derive(Clone, Copy)]
 pub enum PartsAnswer {
     Read(Parts),
     Refused(Refusal),
 }
 
 // How far digits reach, and their sum, each times its weight.
-#[derive(Drop)]
+#[derive(Clone, Copy)]
 struct Walk {
     wrong: usize,
     sum: u32,

@@ -8,7 +8,7 @@ use crate::{form, table};
 use records::{Record, Version};
 use refusal::Reason;
 
-#[derive(Drop)]
+#[derive(Clone, Copy)]
 pub enum Tested {
     Good,
     Bad(Reason),

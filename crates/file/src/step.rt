@@ -13,7 +13,7 @@ use records::{Due, Record, Version};
 use refusal::{Reason, Refusal};
 
 // Where the judge is: the next line's offset, what the lines so far have, and what the next line's judge is told.
-#[derive(Drop)]
+#[derive(Clone, Copy)]
 pub struct State {
     pub at: usize,
     pub lines: usize,
@@ -25,7 +25,7 @@ pub struct State {
     pub contacts: bool,
 }
 
-#[derive(Drop)]
+#[derive(Clone, Copy)]
 pub enum Step {
     Next(State),
     Stopped(Refusal),

@@ -12,14 +12,14 @@ use line::FILE_LIMIT;
 use records::Due;
 use refusal::{Reason, Refusal};
 
-#[derive(Drop)]
+#[derive(Clone, Copy)]
 pub struct Totals {
     pub lines: usize,
     pub parcels: usize,
     pub cents: u64,
 }
 
-#[derive(Drop)]
+#[derive(Clone, Copy)]
 pub enum FileAnswer {
     Accepted(Totals),
     Refused(Refusal),

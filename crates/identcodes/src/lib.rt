@@ -16,7 +16,7 @@
 ghost use Rattle.std.specs.Prelude.{◌≡◌, ◌<◌, get_or, set};
 ghost use Rattle.identcodes.specs.Tree.{fork, leads_to, slot_from, unlike_at, planted, parted, is_there, grown, has_room, Finds};
 
-#[derive(Drop)]
+#[derive(Clone, Copy)]
 pub enum CodeAnswer {
     // The tree has this code.
     Known,

@@ -10,7 +10,7 @@ use crate::{part, read};
 use records::{Due, Version, VersionTold};
 use refusal::{Reason, Refusal};
 
-#[derive(Drop)]
+#[derive(Clone, Copy)]
 pub enum FieldAnswer {
     Found { start: usize, long: usize },
     Refused(Refusal),

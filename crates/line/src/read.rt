@@ -11,7 +11,7 @@ use crate::{need, scan, walk};
 use records::{Due, Named, Record, Version, VersionTold};
 use refusal::{Reason, Refusal};
 
-#[derive(Drop)]
+#[derive(Clone, Copy)]
 pub struct Line {
     pub kind: Record,
     pub count: usize,
@@ -19,7 +19,7 @@ pub struct Line {
     pub next: usize,
 }
 
-#[derive(Drop)]
+#[derive(Clone, Copy)]
 pub enum LineAnswer {
     Accepted(Line),
     Refused(Refusal),

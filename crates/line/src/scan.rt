@@ -9,7 +9,7 @@ use refusal::{Reason, Refusal};
 // The most bytes that a file may have.
 pub const FILE_LIMIT: usize = 65535;
 
-#[derive(Drop)]
+#[derive(Clone, Copy)]
 pub enum TextAnswer {
     // The text of the line runs up to this byte, where CR LF stands.
     Ends(usize),

@@ -10,7 +10,7 @@ use fields::Tested;
 use records::{Record, Version};
 use refusal::Refusal;
 
-#[derive(Drop)]
+#[derive(Clone, Copy)]
 pub enum Walk {
     Fine,
     Stopped(Refusal),

@@ -5,7 +5,7 @@ ghost use Rattle.purpose.specs.Source.{is_cash_line, from_shipment, for_feature,
 use crate::at::{field_at, is_filled_at, is_typed, offset_of};
 use crate::shipment::{first_parcel, shipment_above};
 
-#[derive(Drop)]
+#[derive(Clone, Copy)]
 pub enum Source {
     // The field with this number of the line that starts at this offset.
     Field { offset: usize, number: usize },
@@ -13,7 +13,7 @@ pub enum Source {
     Joined { parcel: usize, shipment: usize },
 }
 
-#[derive(Drop)]
+#[derive(Clone, Copy)]
 pub enum Sourced {
     From(Source),
     Nowhere,

@@ -8,7 +8,7 @@ use crate::{cut, source};
 use file::FileAnswer;
 use refusal::{Reason, Refusal};
 
-#[derive(Drop)]
+#[derive(Clone, Copy)]
 pub enum PurposeAnswer {
     Written(usize),
     Refused(Refusal),

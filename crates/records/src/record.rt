@@ -2,7 +2,7 @@
 ghost use Rattle.std.specs.Prelude.{◌≡◌, false, ◌&&◌, ◌||◌, leb, eqb};
 ghost use Rattle.records.specs.Record.{row_of, named, count_fits, may_follow, may_come, may_end};
 
-#[derive(Drop)]
+#[derive(Clone, Copy)]
 pub enum Record {
     // 010
     Header,
@@ -19,14 +19,14 @@ pub enum Record {
 }
 
 // What a record type names.
-#[derive(Drop)]
+#[derive(Clone, Copy)]
 pub enum Named {
     Known(Record),
     Unknown,
 }
 
 // Which record is due: any, where a line is judged alone; at a file's start the header; else one that may follow.
-#[derive(Drop)]
+#[derive(Clone, Copy)]
 pub enum Due {
     Any,
     First,

@@ -2,7 +2,7 @@
 ghost use Rattle.std.specs.Prelude.{◌≡◌};
 ghost use Rattle.records.specs.Version.{is_version, version_numbered};
 
-#[derive(Drop)]
+#[derive(Clone, Copy)]
 pub enum Version {
     // Document 01's field rules.
     Five,
@@ -11,7 +11,7 @@ pub enum Version {
 }
 
 // What a number says of the version.
-#[derive(Drop)]
+#[derive(Clone, Copy)]
 pub enum VersionTold {
     Either(Version),
     Neither,

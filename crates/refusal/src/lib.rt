@@ -2,7 +2,7 @@
 ghost use Rattle.std.specs.Prelude.{◌≡◌};
 ghost use Rattle.refusal.specs.Table.{number_of};
 
-#[derive(Drop)]
+#[derive(Clone, Copy)]
 pub enum Reason {
     FileTooLong,
     NoLineEnd,
@@ -27,7 +27,7 @@ pub enum Reason {
     UnknownVersion,
 }
 
-#[derive(Drop)]
+#[derive(Clone, Copy)]
 pub struct Refusal {
     pub why: Reason,
     pub place: usize,

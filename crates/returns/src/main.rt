@@ -10,7 +10,7 @@ use scans::Tally;
 use streams::Piece;
 
 // Between two reads: whether it goes on, and how many bytes at the buffer's front wait for the rest of their line.
-#[derive(Drop)]
+#[derive(Clone, Copy)]
 struct Bench {
     open: bool,
     waiting: usize,
@@ -18,13 +18,13 @@ struct Bench {
 }
 
 // What was said of a text: the answers of its whole lines, which end at a place.
-#[derive(Drop)]
+#[derive(Clone, Copy)]
 struct Told {
     next: usize,
     counts: Tally,
 }
 
-#[derive(Drop)]
+#[derive(Clone, Copy)]
 enum Telling {
     Said(Told),
     Failed,

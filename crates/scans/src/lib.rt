@@ -11,7 +11,7 @@ ghost use Rattle.scans.specs.Laying.{mark_of, laid, ruled, overruled, Lays};
 pub use tally::{Tally, count_answers};
 
 // How many lines were answered, and where the text goes on behind them.
-#[derive(Drop)]
+#[derive(Clone, Copy)]
 pub struct Answered {
     pub lines: usize,
     pub next: usize,

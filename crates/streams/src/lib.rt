@@ -4,21 +4,21 @@ ghost use Rattle.io.specs.Counts.{IsPrefixLen};
 ghost use Rattle.streams.specs.Reads.{Held, HeldPiece, meaning_of};
 
 // How many bytes of the buffer are the input: all of it, or as much as the buffer takes.
-#[derive(Drop)]
+#[derive(Clone, Copy)]
 pub enum Input {
     Whole(usize),
     Failed,
 }
 
 // What one read gave: so many bytes at the buffer's front, none where a signal interrupted it.
-#[derive(Drop)]
+#[derive(Clone, Copy)]
 pub enum Piece {
     More(usize),
     Ended,
     Failed,
 }
 
-#[derive(Drop)]
+#[derive(Clone, Copy)]
 enum Reading {
     GoesOn,
     Ended,

@@ -3,7 +3,7 @@ ghost use Rattle.std.specs.Prelude.{◌≡◌, ◌-◌, ◌≤◌, length};
 ghost use Rattle.test_input.specs.Input.{given};
 
 // A number, and where the input goes on behind it and the byte that ends it.
-#[derive(Drop)]
+#[derive(Clone, Copy)]
 pub struct Given {
     pub value: usize,
     pub next: usize,

@@ -27,7 +27,7 @@ fn run(s: &[u8]) {
     }
 }
 
-#[derive(Drop)]
+#[derive(Clone, Copy)]
 struct Call {
     version: u32,
     number: u32,

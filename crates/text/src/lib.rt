@@ -7,7 +7,7 @@ ghost use Rattle.text.specs.Scan.{all, count, among, same, in_line, line_feed};
 ghost use Rattle.text.specs.Placed.{placed, written};
 
 // The classes that a form asks of every byte.
-#[derive(Drop)]
+#[derive(Clone, Copy)]
 pub enum Class {
     Digit,
     Capital,

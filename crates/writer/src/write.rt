@@ -10,7 +10,7 @@ use line::Walk;
 use records::{Named, Record, Version, VersionTold};
 use refusal::{Reason, Refusal};
 
-#[derive(Drop)]
+#[derive(Clone, Copy)]
 pub enum WriteAnswer {
     // How many bytes.
     Written(usize),
