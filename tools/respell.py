@@ -4,7 +4,8 @@ behind the kit's port.py: python3 tools/respell.py
 
 A name is respelled where it is declared in a file of specs/ or proofs/, and wherever it stands as a whole word: in .antt files, in the
 clauses and imports of .rt files, in the wrong programs, and between backquotes in the pages. Names of code, exported names, strings,
-inputs and outputs are no such names. It stops where two names would fall together, unless APART says what becomes of them.
+inputs and outputs are no such names. Where a lemma would get the name of a definition
+it gets an ending, and where two names would fall together otherwise it stops, unless APART says what becomes of them.
 """
 
 import collections
@@ -34,18 +35,16 @@ DECLARED = [
     re.compile(r"^(?:pub )?(?:data|record) (" + WORD + r")"),
     re.compile(r"^ruleset (?:pub )?(" + WORD + r")"),
 ]
-MEMBER = re.compile(r"^  (?:pub )?(" + WORD + r")\s*:(?:\s|$)")
+MEMBER = re.compile(r"^ +(?:abbrev |unfoldable )?(?:pub )?(" + WORD + r")\s*:(?:\s|$)")
 
 
 def declared(text):
-    """The names that a file of specs/ or proofs/ declares, members of data and of records too."""
-    inside = False
+    """The names that a file of specs/ or proofs/ declares, members of data, of records and of sections too."""
     for line in text.split("\n"):
         found = [m.group(1) for m in (shape.match(line) for shape in DECLARED) if m]
         if found:
             yield found[0]
-        inside = bool(re.match(r"^(?:pub )?(data|record) ", line)) if re.match(r"^\S", line) else inside
-        if inside and (m := MEMBER.match(line)):
+        if m := MEMBER.match(line):
             yield m.group(1)
 
 
@@ -64,6 +63,12 @@ def main():
     names = set()
     for path in antt:
         names |= set(declared(open(path, encoding="utf-8").read()))
+    # What the kit's own libraries declare under the same name stays.
+    foreign = set()
+    for path in antt:
+        for row in re.findall(r"^use (?!Rattle\.(?!std\b))[^{;]*\{([^}]*)\}", open(path, encoding="utf-8").read(), re.M):
+            foreign |= {name.strip() for name in row.split(",")}
+    names -= foreign
     # An invariant and a measure are named after the loop, and a function's proof after the function.
     names = {name for name in names if not re.match(r"(invariant|decreases)-", name)}
     new = {name: snake(name) for name in names if snake(name) != name}
@@ -76,6 +81,11 @@ def main():
     for name in names - {name for apart in APART_IN.values() for name in apart}:
         together[new.get(name, name)].add(name)
     together = {name: olds for name, olds in together.items() if len(olds) > 1}
+    for name, olds in list(together.items()):
+        lemmas = [old for old in olds if "-" in old]
+        if len(olds) == 2 and len(lemmas) == 1 and name + "_lem" not in names:
+            new[lemmas[0]] = name + "_lem"
+            del together[name]
     if together:
         sys.exit(f"respell: names fall together: {together}")
 

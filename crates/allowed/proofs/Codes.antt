@@ -29,21 +29,21 @@ code_here w s at (f ∷ fs) rest there ok = code_there s at f fs rest there (par
 
 -- the line that starts here has one of the codes of a line
 module _ (s : List ℕ) (earlier : ℕ) (fs : List (List ℕ)) (rest : List ℕ) (at : ℕ) where
-  other-type : (kind : Record) → drop earlier s ≡ render kind fs ++ rest → same (type_of kind) (bytes "040") ≡ false →
+  other_type : (kind : Record) → drop earlier s ≡ render kind fs ++ rest → same (type_of kind) (bytes "040") ≡ false →
       same_parcel s earlier at ≡ false
   unfolding same_parcel
-  other-type kind there e = rw (type_there s earlier kind fs rest there, e)
+  other_type kind there e = rw (type_there s earlier kind fs rest there, e)
 
   pub same_code : {rules : Rules} → Sound rules → (kind : Record) → drop earlier s ≡ render kind fs ++ rest → LineOk rules kind fs →
       same_parcel s earlier at ≡ one_of_codes (identcode_at s at) (codes_on kind fs)
   unfolding same_parcel
-  same_code w Header there ok = other-type Header there refl
-  same_code w Sender there ok = other-type Sender there refl
-  same_code w Shipment there ok = other-type Shipment there refl
+  same_code w Header there ok = other_type Header there refl
+  same_code w Sender there ok = other_type Sender there refl
+  same_code w Shipment there ok = other_type Shipment there refl
   same_code w Parcel there ok = rw (type_there s earlier Parcel fs rest there, code_here w s earlier fs rest there ok)
       (sym (or-false (same (field_no fs 1) (identcode_at s at))))
-  same_code w Product there ok = other-type Product there refl
-  same_code w Feature there ok = other-type Feature there refl
+  same_code w Product there ok = other_type Product there refl
+  same_code w Feature there ok = other_type Feature there refl
 
 -- the codes of the lines that start at these places are these
 abbrev pub Seen : List ℕ → List ℕ → List (List ℕ) → Type 0
@@ -68,22 +68,22 @@ Fresh seen [] = Unit {0}
 Fresh seen (c ∷ cs) = (one_of_codes c seen ≡ false) × Fresh seen cs
 
 module _ (s starts : List ℕ) (codes : List (List ℕ)) (at : ℕ) (fs : List (List ℕ)) (rest : List ℕ) (seen : Seen s starts codes) where
-  pub fresh-not : {rules : Rules} → Sound rules → (kind : Record) → drop at s ≡ render kind fs ++ rest → LineOk rules kind fs →
+  pub fresh_not : {rules : Rules} → Sound rules → (kind : Record) → drop at s ≡ render kind fs ++ rest → LineOk rules kind fs →
       repeats kind s starts at ≡ false → Fresh codes (codes_on kind fs)
   unfolding repeats
-  fresh-not w Header there ok e = tt
-  fresh-not w Sender there ok e = tt
-  fresh-not w Shipment there ok e = tt
-  fresh-not w Parcel there ok e = (rw (code_here w s at fs rest there ok) at (sym (seen at) ∙ e), tt)
-  fresh-not w Product there ok e = tt
-  fresh-not w Feature there ok e = tt
+  fresh_not w Header there ok e = tt
+  fresh_not w Sender there ok e = tt
+  fresh_not w Shipment there ok e = tt
+  fresh_not w Parcel there ok e = (rw (code_here w s at fs rest there ok) at (sym (seen at) ∙ e), tt)
+  fresh_not w Product there ok e = tt
+  fresh_not w Feature there ok e = tt
 
-  pub not-fresh : {rules : Rules} → Sound rules → (kind : Record) → drop at s ≡ render kind fs ++ rest → LineOk rules kind fs → Fresh codes (codes_on kind fs) →
+  pub not_fresh : {rules : Rules} → Sound rules → (kind : Record) → drop at s ≡ render kind fs ++ rest → LineOk rules kind fs → Fresh codes (codes_on kind fs) →
       repeats kind s starts at ≡ false
   unfolding repeats
-  not-fresh w Header there ok f = refl
-  not-fresh w Sender there ok f = refl
-  not-fresh w Shipment there ok f = refl
-  not-fresh w Parcel there ok f = seen at ∙ rw (code_here w s at fs rest there ok) f.0
-  not-fresh w Product there ok f = refl
-  not-fresh w Feature there ok f = refl
+  not_fresh w Header there ok f = refl
+  not_fresh w Sender there ok f = refl
+  not_fresh w Shipment there ok f = refl
+  not_fresh w Parcel there ok f = seen at ∙ rw (code_here w s at fs rest there ok) f.0
+  not_fresh w Product there ok f = refl
+  not_fresh w Feature there ok f = refl

@@ -11,7 +11,7 @@ use Rattle.records.specs.Record.{row_of, type_of}
 use Rattle.records.specs.declared.record.Record.{Record}
 use Rattle.records.specs.declared.record.Record.TheVariants.{Header, Sender, Shipment, Parcel, Product, Feature}
 use Rattle.line.specs.Parts.{field_no}
-use Rattle.grammar.proofs.Needs.{all-filled, filled-all}
+use Rattle.grammar.proofs.Needs.{all_filled, filled_all}
 use Rattle.file.specs.Contact.{has_contacts, contacts_behind, lacks_contact}
 use Rattle.allowed.specs.Allowed.{FileLine, shipments_under, some_into, HasContacts, ContactsKept}
 
@@ -21,11 +21,11 @@ parts_of l = type_of l.kind ∷ l.fields
 
 pub contacts_told : (l : FileLine) → has_contacts (parts_of l) ≡ true → HasContacts l
 unfolding has_contacts
-contacts_told l e = all-filled (type_of l.kind) l.fields (12 ∷ 13 ∷ []) refl e
+contacts_told l e = all_filled (type_of l.kind) l.fields (12 ∷ 13 ∷ []) refl e
 
 pub told_contacts : (l : FileLine) → HasContacts l → has_contacts (parts_of l) ≡ true
 unfolding has_contacts
-told_contacts l g = filled-all (type_of l.kind) l.fields (12 ∷ 13 ∷ []) refl g
+told_contacts l g = filled_all (type_of l.kind) l.fields (12 ∷ 13 ∷ []) refl g
 
 -- what the judge keeps, behind lines
 abbrev pub contacts_after : Bool → List FileLine → Bool
@@ -62,77 +62,77 @@ module _ (countries : List ℕ) (ls : List FileLine) (b : Bool) (fs : List (List
   abbrev BySender : Record → Type 0
   BySender kind = Spared b (some_into countries (shipments_under (line kind ∷ ls))) × (kind ≡ Sender → into ≡ true → HasContacts (line kind))
 
-  into-here : (listed : Bool) → (not b && listed) ≡ false → Spared b into → Spared b (listed || into)
-  into-here listed e h z = let f : listed ≡ false = rw z at e in rw (f, h z)
+  into_here : (listed : Bool) → (not b && listed) ≡ false → Spared b into → Spared b (listed || into)
+  into_here listed e h z = let f : listed ≡ false = rw z at e in rw (f, h z)
 
-  here-into : (listed : Bool) → Spared b (listed || into) → ((not b && listed) ≡ false) × Spared b into
-  here-into listed h = (
+  here_into : (listed : Bool) → Spared b (listed || into) → ((not b && listed) ≡ false) × Spared b into
+  here_into listed h = (
     ⊎_elim (λ t. rw t) (λ f. rw (or_neither listed into (h f)).0 (and-false (not b))) (true_or_false b),
     λ z. (or_neither listed into (h z)).1,
   )
 
-  pub by-line : (kind : Record) → ByLine kind → BySender kind
+  pub by_line : (kind : Record) → ByLine kind → BySender kind
   unfolding lacks_contact contacts_behind
-  by-line Header g = (g.1, other Header (λ z. omega arith))
-  by-line Sender g = (
+  by_line Header g = (g.1, other Header (λ z. omega arith))
+  by_line Sender g = (
     λ z. refl,
     λ k e. ⊎_elim (λ t. contacts_told (line Sender) t) (λ f. clash e (g.1 f)) (true_or_false (has_contacts (type_of Sender ∷ fs))),
   )
-  by-line Shipment g = (into-here (is_listed countries (field_no fs 20)) g.0 g.1, other Shipment (λ z. omega arith))
-  by-line Parcel g = (g.1, other Parcel (λ z. omega arith))
-  by-line Product g = (g.1, other Product (λ z. omega arith))
-  by-line Feature g = (g.1, other Feature (λ z. omega arith))
+  by_line Shipment g = (into_here (is_listed countries (field_no fs 20)) g.0 g.1, other Shipment (λ z. omega arith))
+  by_line Parcel g = (g.1, other Parcel (λ z. omega arith))
+  by_line Product g = (g.1, other Product (λ z. omega arith))
+  by_line Feature g = (g.1, other Feature (λ z. omega arith))
 
-  pub by-sender : (kind : Record) → BySender kind → ByLine kind
+  pub by_sender : (kind : Record) → BySender kind → ByLine kind
   unfolding lacks_contact contacts_behind
-  by-sender Header g = (refl, g.0)
-  by-sender Sender g = (
+  by_sender Header g = (refl, g.0)
+  by_sender Sender g = (
     refl,
     λ z. ⊎_elim (λ t. clash (told_contacts (line Sender) (g.1 refl t)) z) (λ f. f) (true_or_false into),
   )
-  by-sender Shipment g = here-into (is_listed countries (field_no fs 20)) g.0
-  by-sender Parcel g = (refl, g.0)
-  by-sender Product g = (refl, g.0)
-  by-sender Feature g = (refl, g.0)
+  by_sender Shipment g = here_into (is_listed countries (field_no fs 20)) g.0
+  by_sender Parcel g = (refl, g.0)
+  by_sender Product g = (refl, g.0)
+  by_sender Feature g = (refl, g.0)
 
 module _ (countries : List ℕ) where
-  asked-kept : (ls : List FileLine) (b : Bool) → Asked countries b ls →
+  asked_kept : (ls : List FileLine) (b : Bool) → Asked countries b ls →
       (b ≡ false → some_into countries (shipments_under ls) ≡ false) × ContactsKept countries ls
-  asked-kept [] b a = (λ z. refl, tt)
-  asked-kept (l ∷ ls) b a =
-      let more = asked-kept ls (contacts_behind l.kind (parts_of l) b) a.1 in
-      let here = by-line countries ls b l.fields l.kind (a.0, more.0) in
+  asked_kept [] b a = (λ z. refl, tt)
+  asked_kept (l ∷ ls) b a =
+      let more = asked_kept ls (contacts_behind l.kind (parts_of l) b) a.1 in
+      let here = by_line countries ls b l.fields l.kind (a.0, more.0) in
       (here.0, (here.1, more.1))
 
-  kept-asked : (ls : List FileLine) (b : Bool) → (b ≡ false → some_into countries (shipments_under ls) ≡ false) → ContactsKept countries ls →
+  kept_asked : (ls : List FileLine) (b : Bool) → (b ≡ false → some_into countries (shipments_under ls) ≡ false) → ContactsKept countries ls →
       Asked countries b ls
-  kept-asked [] b h k = tt
-  kept-asked (l ∷ ls) b h k =
-      let here = by-sender countries ls b l.fields l.kind (h, k.0) in
-      (here.0, kept-asked ls (contacts_behind l.kind (parts_of l) b) here.1 k.1)
+  kept_asked [] b h k = tt
+  kept_asked (l ∷ ls) b h k =
+      let here = by_sender countries ls b l.fields l.kind (h, k.0) in
+      (here.0, kept_asked ls (contacts_behind l.kind (parts_of l) b) here.1 k.1)
 
   -- before the first sender no contact is missing
-  pub asked-all : (ls : List FileLine) → Asked countries true ls → ContactsKept countries ls
-  asked-all ls a = (asked-kept ls true a).1
+  pub asked_all : (ls : List FileLine) → Asked countries true ls → ContactsKept countries ls
+  asked_all ls a = (asked_kept ls true a).1
 
   pub all_asked : (ls : List FileLine) → ContactsKept countries ls → Asked countries true ls
-  all_asked ls k = kept-asked ls true (λ z. clash refl z) k
+  all_asked ls k = kept_asked ls true (λ z. clash refl z) k
 
 -- lines one after the other
 module _ (countries : List ℕ) where
-  pub asked-front : (ls ks : List FileLine) (b : Bool) → Asked countries b (ls ++ ks) → Asked countries b ls
-  asked-front [] ks b a = tt
-  asked-front (l ∷ ls) ks b a = (a.0, asked-front ls ks (contacts_behind l.kind (parts_of l) b) a.1)
+  pub asked_front : (ls ks : List FileLine) (b : Bool) → Asked countries b (ls ++ ks) → Asked countries b ls
+  asked_front [] ks b a = tt
+  asked_front (l ∷ ls) ks b a = (a.0, asked_front ls ks (contacts_behind l.kind (parts_of l) b) a.1)
 
-  pub asked-at : (ls : List FileLine) (l : FileLine) (ks : List FileLine) (b : Bool) → Asked countries b (ls ++ l ∷ ks) →
+  pub asked_at : (ls : List FileLine) (l : FileLine) (ks : List FileLine) (b : Bool) → Asked countries b (ls ++ l ∷ ks) →
       lacks_contact l.kind (parts_of l) countries (contacts_after b ls) ≡ false
-  asked-at [] l ks b a = a.0
-  asked-at (k ∷ ls) l ks b a = asked-at ls l ks (contacts_behind k.kind (parts_of k) b) a.1
+  asked_at [] l ks b a = a.0
+  asked_at (k ∷ ls) l ks b a = asked_at ls l ks (contacts_behind k.kind (parts_of k) b) a.1
 
-  pub asked-more : (ls : List FileLine) (l : FileLine) (b : Bool) → Asked countries b ls →
+  pub asked_more : (ls : List FileLine) (l : FileLine) (b : Bool) → Asked countries b ls →
       lacks_contact l.kind (parts_of l) countries (contacts_after b ls) ≡ false → Asked countries b (ls ++ (l ∷ []))
-  asked-more [] l b a e = (e, tt)
-  asked-more (k ∷ ls) l b a e = (a.0, asked-more ls l (contacts_behind k.kind (parts_of k) b) a.1 e)
+  asked_more [] l b a e = (e, tt)
+  asked_more (k ∷ ls) l b a e = (a.0, asked_more ls l (contacts_behind k.kind (parts_of k) b) a.1 e)
 
 pub after_more : (b : Bool) (ls : List FileLine) (l : FileLine) →
     contacts_after b (ls ++ (l ∷ [])) ≡ contacts_behind l.kind (parts_of l) (contacts_after b ls)

@@ -9,7 +9,7 @@ use lib.Dec.{ltb}
 use lib.ListN.{length, length-append}
 use borrow.Author.Tests.{ltb-false, le-ltb, not-false}
 use Rattle.text.specs.Choice.{if◌then◌else◌}
-use Rattle.text.proofs.Choices.{came-else}
+use Rattle.text.proofs.Choices.{came_else}
 use Rattle.refusal.specs.declared.Reason.TheVariants.{FileTooLong, CountriesOdd}
 use Rattle.refusal.specs.declared.Refusal.{Refusal}
 use Rattle.refusal.specs.Table.{because}
@@ -30,7 +30,7 @@ use Rattle.file.specs.declared.whole.Totals.{Totals}
 use Rattle.file.specs.declared.whole.FileAnswer.TheVariants.{Accepted, Refused}
 use Rattle.allowed.specs.Allowed.{FileLine, line_bytes, file_bytes, LinesOk, InOrder, codes_on, identcodes, NoneTwice}
 use Rattle.allowed.specs.Allowed.{AllowedFile, parcel_count, cash_total, totals_of, line_starts}
-use Rattle.allowed.proofs.Contacts.{parts_of, Asked, asked-all, all_asked}
+use Rattle.allowed.proofs.Contacts.{parts_of, Asked, asked_all, all_asked}
 use Rattle.allowed.proofs.Twice.{none_more, fresh_before}
 use Rattle.allowed.proofs.Versions.{version_on_lem, version_found}
 use Rattle.allowed.proofs.Runs.{AllowedFrom, judged_with, ran, runs}
@@ -114,20 +114,20 @@ module _ (s : List ℕ) (lent : Lent) (totals : Totals) (starts : List ℕ) wher
   result = record { answer = Accepted totals; starts = starts }
 
   -- neither 1 nor 20
-  came-on : judged s lent ≡ result →
+  came_on : judged s lent ≡ result →
       (length s ≤ file_limit) × (is_paired lent.countries ≡ true) × (file_from (length s + 1) s lent [] (begin (version_of s)) ≡ result)
   unfolding judged
-  came-on e =
+  came_on e =
       let on = file_from (length s + 1) s lent [] (begin (version_of s)) in
       let odd = not (is_paired lent.countries) in
-      let a = came-else (ltb file_limit (length s)) (refused (because FileTooLong file_limit))
+      let a = came_else (ltb file_limit (length s)) (refused (because FileTooLong file_limit))
       (if odd then refused (because CountriesOdd 0) else on) result not_refused e in
-      let b = came-else odd (refused (because CountriesOdd 0)) on result not_refused a.1 in
+      let b = came_else odd (refused (because CountriesOdd 0)) on result not_refused a.1 in
       (ltb-false file_limit (length s) a.0, not-false (is_paired lent.countries) b.0, b.1)
 
-  pub accepted-allowed : judged s lent ≡ result → AllowedWith s lent totals starts
-  accepted-allowed e =
-      let c = came-on e in
+  pub accepted_allowed : judged s lent ≡ result → AllowedWith s lent totals starts
+  accepted_allowed e =
+      let c = came_on e in
       let r = ran s lent c.0 totals starts (length s + 1) [] [] (begin (version_of s)) (omega arith) (omega arith) (omega arith) (λ at. refl) c.2 in
       let w = whole (version_of s) lent.countries r.lines s [] First true tt r.allowed in
       let same = r.same ∙ from_begin (version_of s) r.lines in
@@ -141,16 +141,16 @@ module _ (s : List ℕ) (lent : Lent) (totals : Totals) (starts : List ℕ) wher
           lines = subst (λ (v : Version). LinesOk (profile v) r.lines) (sym on) w.lines;
           order = w.order;
           codes = w.none;
-          contacts = asked-all lent.countries r.lines w.asked;
+          contacts = asked_all lent.countries r.lines w.asked;
         };
         room = omega (arith, r.room);
         counts = totals_told (ap (λ (j : Judged). j.answer) same);
         list = ap (λ (j : Judged). j.starts) same;
       }
 
-  pub allowed-accepted : AllowedWith s lent totals starts → judged s lent ≡ result
+  pub allowed_accepted : AllowedWith s lent totals starts → judged s lent ≡ result
   unfolding judged
-  allowed-accepted g =
+  allowed_accepted g =
       let ls = g.lines in
       let a = g.allowed in
       rw (le-ltb file_limit (length s) a.in_limit, a.paired)

@@ -22,7 +22,7 @@ use Rattle.file.specs.Lent.{Lent}
 use Rattle.file.specs.File.{Judged, judged, list_of}
 use Rattle.file.specs.declared.whole.FileAnswer.TheVariants.{Accepted}
 use Rattle.allowed.specs.Allowed.{FileLine, AllowedFile, line_starts, totals_of}
-use Rattle.allowed.proofs.Files.{allowed-accepted, starts_count}
+use Rattle.allowed.proofs.Files.{allowed_accepted, starts_count}
 use Rattle.purpose.specs.At.{is_typed}
 use Rattle.purpose.specs.Source.{shipment_above, first_parcel, from_shipment, in_shipment, for_feature, source_of}
 use Rattle.purpose.specs.Purpose.{purpose_long, cut, source_text, text_from, on_source, on_file, purpose_answer, purpose_of, list_after, output_after, Purposes}
@@ -33,8 +33,8 @@ use Rattle.purpose.specs.declared.source.Sourced.{Sourced}
 use Rattle.purpose.specs.declared.source.Sourced.TheVariants.{From}
 use Rattle.purpose.specs.declared.write.PurposeAnswer.{PurposeAnswer}
 use Rattle.purpose.specs.declared.write.PurposeAnswer.TheVariants.{Written}
-use Rattle.allowed.proofs.Placed.{line_there, line_counted, parts_at, is-typed, not-typed}
-use Rattle.allowed.proofs.Paying.{cash-source}
+use Rattle.allowed.proofs.Placed.{line_there, line_counted, parts_at, is_typed_lem, not_typed}
+use Rattle.allowed.proofs.Paying.{cash_source}
 
 -- the nearest above is the only one between itself and the line
 nearest_found :
@@ -73,7 +73,7 @@ or_next s at n next (b ∷ f) fs last e q =
 
 pub whole : (s : List ℕ) (lent : Lent) (ls : List FileLine) → AllowedFile lent.countries s ls → length ls ≤ lent.words →
     judged s lent ≡ record { answer = Accepted (totals_of ls); starts = line_starts 0 ls }
-whole s lent ls g room = allowed-accepted s lent (totals_of ls) (line_starts 0 ls)
+whole s lent ls g room = allowed_accepted s lent (totals_of ls) (line_starts 0 ls)
     (record { lines = ls; allowed = g; room = room; counts = refl; list = refl })
 
 module _ (s countries : List ℕ) (ls : List FileLine) (g : AllowedFile countries s ls) (n : ℕ) (l : FileLine) (el : LineNo ls n l) (cash : CashLine l)
@@ -85,36 +85,36 @@ module _ (s countries : List ℕ) (ls : List FileLine) (g : AllowedFile countrie
   part_of : (i k : ℕ) (x : FileLine) → LineNo ls i x → part_at (text_at s (get_or starts i 0)) k ≡ get_or (type_of x.kind ∷ x.fields) k []
   part_of i k x h = ap (λ (parts : List (List ℕ)). get_or parts k []) (parts_at s ls g i x h)
 
-  is-above : shipment_above s starts n ≡ b.ship
-  is-above =
-      nearest_found s starts n b.ship b.above (is-typed s ls g b.ship shipment b.there Shipment b.shipped)
+  is_above : shipment_above s starts n ≡ b.ship
+  is_above =
+      nearest_found s starts n b.ship b.above (is_typed_lem s ls g b.ship shipment b.there Shipment b.shipped)
       (λ i p q. let k = line_there ls i (omega (arith, line_counted ls n l el)) in
-      not-typed s ls g i k.0 k.1 Shipment (b.nearest i k.0 p q k.1))
+      not_typed s ls g i k.0 k.1 Shipment (b.nearest i k.0 p q k.1))
 
   -- the lines behind the shipment, counted from the first of them
-  behind-it : (i : ℕ) → get_or (drop (b.ship + 1) starts) i 0 ≡ get_or starts (b.ship + 1 + i) 0
-  behind-it i = get_or-drop (b.ship + 1) starts i 0
+  behind_it : (i : ℕ) → get_or (drop (b.ship + 1) starts) i 0 ≡ get_or starts (b.ship + 1 + i) 0
+  behind_it i = get_or-drop (b.ship + 1) starts i 0
 
-  is-there : get_or (drop (b.ship + 1) starts) (b.first - (b.ship + 1)) 0 ≡ get_or starts b.first 0
-  is-there = let k : b.ship + 1 + (b.first - (b.ship + 1)) ≡ b.first = omega (arith, b.behind) in
-      behind-it (b.first - (b.ship + 1)) ∙ ap (λ (j : ℕ). get_or starts j 0) k
+  is_there_lem : get_or (drop (b.ship + 1) starts) (b.first - (b.ship + 1)) 0 ≡ get_or starts b.first 0
+  is_there_lem = let k : b.ship + 1 + (b.first - (b.ship + 1)) ≡ b.first = omega (arith, b.behind) in
+      behind_it (b.first - (b.ship + 1)) ∙ ap (λ (j : ℕ). get_or starts j 0) k
 
-  is-first : first_parcel s (drop (b.ship + 1) starts) ≡ get_or starts b.first 0
-  is-first =
+  is_first : first_parcel s (drop (b.ship + 1) starts) ≡ get_or starts b.first 0
+  is_first =
       first_found s (drop (b.ship + 1) starts) (b.first - (b.ship + 1))
       (omega (arith, b.behind, length-drop (b.ship + 1) starts, starts_count 0 ls, line_counted ls b.first parcel b.here))
-      (ap (λ (o : ℕ). is_typed s o (bytes "040")) is-there ∙ is-typed s ls g b.first parcel b.here Parcel b.parcelled)
+      (ap (λ (o : ℕ). is_typed s o (bytes "040")) is_there_lem ∙ is_typed_lem s ls g b.first parcel b.here Parcel b.parcelled)
       (λ i h.
       let k = line_there ls (b.ship + 1 + i) (omega (arith, line_counted ls b.first parcel b.here)) in
-      ap (λ (o : ℕ). is_typed s o (bytes "040")) (behind-it i)
-      ∙ not-typed s ls g (b.ship + 1 + i) k.0 k.1 Parcel (b.foremost (b.ship + 1 + i) k.0 (omega arith) (omega arith) k.1))
-      ∙ is-there
+      ap (λ (o : ℕ). is_typed s o (bytes "040")) (behind_it i)
+      ∙ not_typed s ls g (b.ship + 1 + i) k.0 k.1 Parcel (b.foremost (b.ship + 1 + i) k.0 (omega arith) (omega arith) k.1))
+      ∙ is_there_lem
 
-  shipment-text : source_text s (from_shipment s (get_or starts b.ship 0) (get_or starts b.first 0)) ≡ first_filled
+  shipment_text : source_text s (from_shipment s (get_or starts b.ship 0) (get_or starts b.first 0)) ≡ first_filled
       (field_no shipment.fields 1 ∷ field_no shipment.fields 34 ∷ field_no shipment.fields 36 ∷ field_no parcel.fields 3 ∷
       []) (field_no parcel.fields 1 ++ bytes "/" ++ field_no shipment.fields 16)
   unfolding from_shipment
-  shipment-text =
+  shipment_text =
       let up = get_or starts b.ship 0 in
       let down = get_or starts b.first 0 in
       let filled : ℕ → ℕ → Bool = λ at k. is_filled (split (text_at s at)) k in
@@ -133,46 +133,46 @@ module _ (s countries : List ℕ) (ls : List FileLine) (g : AllowedFile countrie
       (or_next s up 36 d f36 (p3 ∷ []) last (part_of b.ship 36 shipment b.there)
       (or_next s down 3 (Joined down up) p3 [] last (part_of b.first 3 parcel b.here) join)))
 
-  text-is : source_text s (for_feature s starts n) ≡ named_text l shipment parcel
+  text_is : source_text s (for_feature s starts n) ≡ named_text l shipment parcel
   unfolding for_feature
-  text-is =
+  text_is =
       or_next s (get_or starts n 0) 8 (in_shipment s starts (shipment_above s starts n)) (field_no l.fields 8)
       (field_no shipment.fields 1 ∷ field_no shipment.fields 34 ∷ field_no shipment.fields 36 ∷ field_no parcel.fields 3 ∷ [])
       (field_no parcel.fields 1 ++ bytes "/" ++ field_no shipment.fields 16)
       (part_of n 8 l el)
-      (ap (λ (k : ℕ). source_text s (in_shipment s starts k)) is-above
-      ∙ ap (λ (p : ℕ). source_text s (from_shipment s (get_or starts b.ship 0) p)) is-first
-      ∙ shipment-text)
+      (ap (λ (k : ℕ). source_text s (in_shipment s starts k)) is_above
+      ∙ ap (λ (p : ℕ). source_text s (from_shipment s (get_or starts b.ship 0) p)) is_first
+      ∙ shipment_text)
 
   source_is : source_of s starts n ≡ From (for_feature s starts n)
-  source_is = cash-source s ls g n l el cash
+  source_is = cash_source s ls g n l el cash
 
   module _ (words : ℕ) (room : length ls ≤ words) where
     abbrev lent : Lent
     lent = record { countries = countries; words = words }
 
-    named-text : purpose_of s n lent ≡ cut (named_text l shipment parcel)
-    named-text =
+    named_text_lem : purpose_of s n lent ≡ cut (named_text l shipment parcel)
+    named_text_lem =
         ap (λ (j : Judged). text_from s (source_of s j.starts n)) (whole s lent ls g room)
         ∙ ap (text_from s) source_is
-        ∙ ap cut text-is
+        ∙ ap cut text_is
 
-    named-answer : (long : ℕ) → purpose_long ≤ long → purpose_answer s n lent long ≡ Written (length (cut (named_text l shipment parcel)))
+    named_answer : (long : ℕ) → purpose_long ≤ long → purpose_answer s n lent long ≡ Written (length (cut (named_text l shipment parcel)))
     unfolding on_file on_source
-    named-answer long h =
+    named_answer long h =
         ap (λ (j : Judged). on_file j.answer (source_of s j.starts n) s long) (whole s lent ls g room)
         ∙ ap (λ (x : Sourced). on_source x s long) source_is
-        ∙ rw (le-ltb long purpose_long h, text-is)
+        ∙ rw (le-ltb long purpose_long h, text_is)
 
     -- the line's text is written, the list is the file's, and every other byte of the output stays
-    pub purpose-named :
+    pub purpose_named :
         (out : List ℕ) → purpose_long ≤ length out → (answer : PurposeAnswer) (list after : List ℕ) → Purposes s n lent out answer list after →
         (answer ≡ Written (length (cut (named_text l shipment parcel)))) × (list ≡ list_of words (line_starts 0 ls)) ×
         (after ≡ written out 0 (cut (named_text l shipment parcel)))
-    purpose-named out h answer list after p =
-        let e : answer ≡ Written (length (cut (named_text l shipment parcel))) = p.0 ∙ named-answer (length out) h in (
+    purpose_named out h answer list after p =
+        let e : answer ≡ Written (length (cut (named_text l shipment parcel))) = p.0 ∙ named_answer (length out) h in (
           e,
           p.1 ∙ ap (λ (a : PurposeAnswer). list_after a words (judged s lent).starts) e
               ∙ ap (λ (j : Judged). list_of words j.starts) (whole s lent ls g room),
-          p.2 ∙ ap (λ (a : PurposeAnswer). output_after a (purpose_of s n lent) out) e ∙ ap (written out 0) named-text,
+          p.2 ∙ ap (λ (a : PurposeAnswer). output_after a (purpose_of s n lent) out) e ∙ ap (written out 0) named_text_lem,
         )

@@ -22,7 +22,7 @@ use Rattle.purpose.specs.Purpose.{purpose_long, cut, Purposes}
 use Rattle.allowed.specs.Sentence.{LineNo, CashLine, Belongs, named_text}
 use Rattle.purpose.specs.declared.write.PurposeAnswer.{PurposeAnswer}
 use Rattle.purpose.specs.declared.write.PurposeAnswer.TheVariants.{Written}
-use Rattle.allowed.proofs.Naming.{purpose-named}
+use Rattle.allowed.proofs.Naming.{purpose_named}
 
 -- a record that stands in a shipment, behind its 030 line
 abbrev inside : Record → Bool
@@ -88,8 +88,8 @@ Has ls n = (shipment : FileLine) × (parcel : FileLine) × Belongs ls n shipment
 
 -- the line behind a shipment line, and the line behind a line of that shipment
 module _ (ls : List FileLine) (i : ℕ) (k : FileLine) (hk : LineNo ls i k) where
-  has-next : k.kind ≡ Shipment → (l : FileLine) → LineNo ls (suc i) l → l.kind ≡ Parcel → Has ls (suc i)
-  has-next ek l hl el = (
+  has_next : k.kind ≡ Shipment → (l : FileLine) → LineNo ls (suc i) l → l.kind ≡ Parcel → Has ls (suc i)
+  has_next ek l hl el = (
     k,
     l,
     record {
@@ -117,7 +117,7 @@ module _ (ls : List FileLine) (i : ℕ) (k : FileLine) (hk : LineNo ls i k) wher
           shipped = b.shipped;
           above = omega (arith, b.above);
           nearest = λ j x p q h e.
-              ⊎_elim (λ z. not-ship x (rw z at h) e) (λ less. b.nearest j x p less h e)
+              ⊎_elim (λ z. not_ship x (rw z at h) e) (λ less. b.nearest j x p less h e)
               (eq-or-lt_of_le (le_of_suc-le-suc q));
           first = b.first;
           here = b.here;
@@ -127,14 +127,14 @@ module _ (ls : List FileLine) (i : ℕ) (k : FileLine) (hk : LineNo ls i k) wher
         },
       )
     where
-      not-ship : (x : FileLine) → LineNo ls i x → x.kind ≡ Shipment → ⊥
-      not-ship x h e = clash t (ap (λ (y : FileLine). inside y.kind) (one_line_no ls i k x hk h) ∙ ap inside e)
+      not_ship : (x : FileLine) → LineNo ls i x → x.kind ≡ Shipment → ⊥
+      not_ship x h e = clash t (ap (λ (y : FileLine). inside y.kind) (one_line_no ls i k x hk h) ∙ ap inside e)
 
 has : (ls : List FileLine) → InOrder First ls → (n : ℕ) (l : FileLine) → LineNo ls n l → inside l.kind ≡ true → Has ls n
 has ls o zero l h t = absurd (first_out l.kind (order_first ls o l h) t)
 has ls o (suc i) l h t =
     let a = order_at ls First o i l h in
-    ⊎_elim (λ u. has_on ls i a.0 a.1 u (has ls o i a.0 a.1 u)) (λ p. has-next ls i a.0 a.1 p.0 l h p.1)
+    ⊎_elim (λ u. has_on ls i a.0 a.1 u (has ls o i a.0 a.1 u)) (λ p. has_next ls i a.0 a.1 p.0 l h p.1)
     (step_in a.0.kind l.kind a.2 t)
 
 pub each_belongs : (countries s : List ℕ) (ls : List FileLine) → AllowedFile countries s ls → (n : ℕ) (l : FileLine) → LineNo ls n l → CashLine l →
@@ -154,6 +154,6 @@ purpose_of_lem lent s ls g n l h cash room out long answer list after p =
       b.0,
       b.1,
       b.2,
-      purpose-named s lent.countries ls g n l h cash
+      purpose_named s lent.countries ls g n l h cash
           b.0 b.1 b.2 lent.words room out long answer list after p,
     )

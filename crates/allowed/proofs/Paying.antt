@@ -17,7 +17,7 @@ use Rattle.purpose.specs.declared.source.Sourced.TheVariants.{From}
 use Rattle.allowed.specs.Allowed.{FileLine, AllowedFile, line_starts}
 use Rattle.allowed.specs.Sentence.{LineNo, CashLine}
 use Rattle.allowed.proofs.Files.{starts_count}
-use Rattle.allowed.proofs.Placed.{line_counted, parts_at, kind-told, is-typed}
+use Rattle.allowed.proofs.Placed.{line_counted, parts_at, kind_told_lem, is_typed_lem}
 
 module _ {countries : List ℕ} (s : List ℕ) (ls : List FileLine) (g : AllowedFile countries s ls) (n : ℕ) (l : FileLine) (h : LineNo ls n l) where
   abbrev at : ℕ
@@ -32,16 +32,16 @@ module _ {countries : List ℕ} (s : List ℕ) (ls : List FileLine) (g : Allowed
       let typed = and_left (is_typed s at (bytes "060")) (same (field_at s at 1) (bytes "006")) e in
       let coded = and_right (is_typed s at (bytes "060")) (same (field_at s at 1) (bytes "006")) e in
       record {
-        feature = kind-told s ls g n l h Feature typed;
+        feature = kind_told_lem s ls g n l h Feature typed;
         code = sym code_there ∙ same_eq (field_at s at 1) (bytes "006") coded;
       }
 
-  is-cash : CashLine l → is_cash_line s at ≡ true
+  is_cash_lem : CashLine l → is_cash_line s at ≡ true
   unfolding is_cash_line
-  is-cash c =
-      and_both (is_typed s at (bytes "060")) (same (field_at s at 1) (bytes "006")) (is-typed s ls g n l h Feature c.feature)
+  is_cash_lem c =
+      and_both (is_typed s at (bytes "060")) (same (field_at s at 1) (bytes "006")) (is_typed_lem s ls g n l h Feature c.feature)
       (ap (λ (f : List ℕ). same f (bytes "006")) (code_there ∙ c.code) ∙ same_refl (bytes "006"))
 
-  pub cash-source : CashLine l → source_of s (line_starts 0 ls) n ≡ From (for_feature s (line_starts 0 ls) n)
+  pub cash_source : CashLine l → source_of s (line_starts 0 ls) n ≡ From (for_feature s (line_starts 0 ls) n)
   unfolding source_of
-  cash-source c = rw (lt-leb (length (line_starts 0 ls)) n (omega (arith, starts_count 0 ls, line_counted ls n l h)), is-cash c)
+  cash_source c = rw (lt-leb (length (line_starts 0 ls)) n (omega (arith, starts_count 0 ls, line_counted ls n l h)), is_cash_lem c)

@@ -10,7 +10,7 @@ use lib.Dec.{ltb}
 use lib.ListN.{length, drop, length-drop, drop_of_length-le}
 use lib.Seq.{append_snoc}
 use borrow.Author.Tests.{ltb-false, lt-ltb, le-ltb}
-use Rattle.text.proofs.Choices.{came-then, true_or_false}
+use Rattle.text.proofs.Choices.{came_then, true_or_false}
 use Rattle.refusal.specs.declared.Reason.TheVariants.{FileEnds}
 use Rattle.refusal.specs.Table.{because}
 use Rattle.refusal.proofs.Verdicts.{no_pass}
@@ -24,7 +24,7 @@ use Rattle.line.specs.Parts.{fields_of}
 use Rattle.line.specs.Line.{text_at, file_limit}
 use Rattle.line.specs.declared.read.Line.{Line}
 use Rattle.grammar.specs.Grammar.{LineOk, Reads}
-use Rattle.grammar.proofs.Lines.{accepted_reads, reads-accepted, next-inside, next-far, rest-is, read-parts}
+use Rattle.grammar.proofs.Lines.{accepted_reads, reads_accepted, next_inside, next_far, rest_is, read_parts}
 use Rattle.file.specs.Lent.{Lent}
 use Rattle.file.specs.Contact.{contacts_behind, lacks_contact}
 use Rattle.file.specs.Cash.{cash_of}
@@ -40,7 +40,7 @@ use Rattle.file.proofs.Stepping.{went}
 use Rattle.allowed.specs.Allowed.{FileLine, line_bytes, codes_on, parcel_count, cash_total, line_starts}
 use Rattle.allowed.proofs.Contacts.{parts_of}
 use Rattle.allowed.proofs.Cash.{line_cash}
-use Rattle.allowed.proofs.Codes.{Seen, seen_more, Fresh, fresh-not, not-fresh}
+use Rattle.allowed.proofs.Codes.{Seen, seen_more, Fresh, fresh_not, not_fresh}
 
 -- the lines that are left, behind lines with these codes, where this record is due, under a sender that has both contacts or has not
 abbrev pub AllowedFrom : Version → List ℕ → List ℕ → List (List ℕ) → Due → Bool → List FileLine → Type 0
@@ -83,12 +83,12 @@ said_same {a} {b} {p} {q} {c} {d} {x} {y} e f g h =
 -- one line more
 module _ (s starts : List ℕ) (state : State) (line : Line) (fs : List (List ℕ)) (g : Reads (told_by state) s state.at line fs)
     (ls : List FileLine) where
-  judged-more : judged_with (starts ++ (state.at ∷ [])) (behind s state line) ls ≡ judged_with starts state
+  judged_more : judged_with (starts ++ (state.at ∷ [])) (behind s state line) ls ≡ judged_with starts state
       (record { kind = line.kind; fields = fs } ∷ ls)
   unfolding said
-  judged-more =
+  judged_more =
       said_same (omega arith) (omega arith)
-      (omega (arith, ap (cash_of line.kind) (read-parts g), line_cash (sound state.version) line.kind fs g.allowed))
+      (omega (arith, ap (cash_of line.kind) (read_parts g), line_cash (sound state.version) line.kind fs g.allowed))
       (append_snoc starts state.at (line_starts line.next ls) ∙ ap (λ (n : ℕ). starts ++ (state.at ∷ line_starts n ls)) g.next)
 
 -- what is accepted is allowed
@@ -102,10 +102,10 @@ module _ (s : List ℕ) (lent : Lent) (in_limit : length s ≤ file_limit) (tota
   abbrev pub result : Judged
   result = record { answer = Accepted totals; starts = list }
 
-  ran-none : (starts : List ℕ) (codes : List (List ℕ)) (state : State) → length s ≤ state.at → state.lines ≤ lent.words →
+  ran_none : (starts : List ℕ) (codes : List (List ℕ)) (state : State) → length s ≤ state.at → state.lines ≤ lent.words →
       ended s starts state ≡ result → Ran s lent starts codes state result
-  ran-none starts codes state h room e =
-      let a = came-then (may_end state.due) (record {
+  ran_none starts codes state h room e =
+      let a = came_then (may_end state.due) (record {
         answer =
             Accepted (record { lines = state.lines; parcels = state.parcels; cents = state.cents });
         starts = starts;
@@ -124,20 +124,20 @@ module _ (s : List ℕ) (lent : Lent) (in_limit : length s ≤ file_limit) (tota
       (starts : List ℕ) (codes : List (List ℕ)) (state : State) → length s < turns + state.at → state.at ≤ length s → state.lines ≤ lent.words →
       Seen s starts codes → file_from turns s lent starts state ≡ result → Ran s lent starts codes state result
 
-  ran-step :
+  ran_step :
       (turns : ℕ) → Rans turns → (starts : List ℕ) (codes : List (List ℕ)) (state : State) → length s < suc turns + state.at →
       Seen s starts codes →
       (step : Step) → step_answer s lent starts state ≡ step → on_step step
       (λ next. file_from turns s lent (starts ++ (state.at ∷ [])) next) ≡ result → Ran s lent starts codes state result
-  ran-step turns more starts codes state h seen (Stopped refusal) es e = absurd (no_pass file_verdict refl refl (ap (λ (j : Judged). j.answer) e))
-  ran-step turns more starts codes state h seen (Next next) es e =
+  ran_step turns more starts codes state h seen (Stopped refusal) es e = absurd (no_pass file_verdict refl refl (ap (λ (j : Judged). j.answer) e))
+  ran_step turns more starts codes state h seen (Next next) es e =
       let w = went s lent starts state next es in
       let line = w.line in
       let fs = fields_of (text_at s state.at) in
       let g = accepted_reads (told_by state) s state.at line w.accepted in
       let codes' = codes ++ codes_on line.kind fs in
       let kept = contacts_behind line.kind (type_of line.kind ∷ fs) state.contacts in
-      let r = more (starts ++ (state.at ∷ [])) codes' (behind s state line) (omega (arith, next-far g)) (next-inside g)
+      let r = more (starts ++ (state.at ∷ [])) codes' (behind s state line) (omega (arith, next_far g)) (next_inside g)
       (omega (arith, word_left lent.words state.lines w.room))
       (seen_more (sound state.version) s starts codes state.at line.kind fs g.rest seen g.stands g.allowed) (rw
       (← w.there) at e) in
@@ -148,45 +148,45 @@ module _ (s : List ℕ) (lent : Lent) (in_limit : length s ≤ file_limit) (tota
           g.stands,
           g.allowed,
           g.comes,
-          ap (λ (parts : List (List ℕ)). lacks_contact line.kind parts lent.countries state.contacts) (sym (read-parts g)) ∙ w.reached,
-          fresh-not s starts codes state.at fs g.rest seen (sound state.version)
+          ap (λ (parts : List (List ℕ)). lacks_contact line.kind parts lent.countries state.contacts) (sym (read_parts g)) ∙ w.reached,
+          fresh_not s starts codes state.at fs g.rest seen (sound state.version)
               line.kind g.stands g.allowed w.fresh,
-          subst (λ (left : List ℕ). AllowedFrom state.version lent.countries left codes' (After line.kind) kept r.lines) (sym (rest-is g))
+          subst (λ (left : List ℕ). AllowedFrom state.version lent.countries left codes' (After line.kind) kept r.lines) (sym (rest_is g))
               (subst (λ (parts : List (List ℕ)). AllowedFrom state.version lent.countries (drop line.next s) codes' (After line.kind)
-              (contacts_behind line.kind parts state.contacts) r.lines) (read-parts g) r.allowed),
+              (contacts_behind line.kind parts state.contacts) r.lines) (read_parts g) r.allowed),
         );
         room = omega (arith, r.room);
-        same = r.same ∙ judged-more s starts state line fs g r.lines;
+        same = r.same ∙ judged_more s starts state line fs g r.lines;
       }
 
   pub ran : (turns : ℕ) → Rans turns
   ran zero starts codes state h inside room seen e = absurd (omega arith)
   ran (suc turns) starts codes state h inside room seen e =
       ⊎_elim
-      (λ (t : ltb state.at (length s) ≡ true). ran-step turns (ran turns) starts codes state h seen (step_answer s lent starts state) refl
+      (λ (t : ltb state.at (length s) ≡ true). ran_step turns (ran turns) starts codes state h seen (step_answer s lent starts state) refl
       (rw t at e))
-      (λ (f : ltb state.at (length s) ≡ false). ran-none starts codes state (ltb-false state.at (length s) f) room (rw f at e))
+      (λ (f : ltb state.at (length s) ≡ false). ran_none starts codes state (ltb-false state.at (length s) f) room (rw f at e))
       (true_or_false (ltb state.at (length s)))
 
 -- what is allowed is accepted
 module _ (s : List ℕ) (lent : Lent) (in_limit : length s ≤ file_limit) where
-  end-there : (turns : ℕ) (starts : List ℕ) (state : State) → length s ≤ state.at → may_end state.due ≡ true →
+  end_there : (turns : ℕ) (starts : List ℕ) (state : State) → length s ≤ state.at → may_end state.due ≡ true →
       file_from turns s lent starts state ≡ judged_with starts state []
-  end-there zero starts state h e = rw e (judged_none starts state)
-  end-there (suc turns) starts state h e = rw (le-ltb state.at (length s) h, e) (judged_none starts state)
+  end_there zero starts state h e = rw e (judged_none starts state)
+  end_there (suc turns) starts state h e = rw (le-ltb state.at (length s) h, e) (judged_none starts state)
 
-  step-there :
+  step_there :
       (starts : List ℕ) (codes : List (List ℕ)) (state : State) (line : Line) (fs : List (List ℕ))
       (g : Reads (told_by state) s state.at line fs) →
       lacks_contact line.kind (type_of line.kind ∷ fs) lent.countries state.contacts ≡ false →
       Seen s starts codes → Fresh codes (codes_on line.kind fs) → state.lines < lent.words →
       step_answer s lent starts state ≡ Next (behind s state line)
   unfolding step_answer on_line listing
-  step-there starts codes state line fs g reached seen fresh room =
+  step_there starts codes state line fs g reached seen fresh room =
       rw (
-        reads-accepted g,
-        ap (λ (parts : List (List ℕ)). lacks_contact line.kind parts lent.countries state.contacts) (read-parts g) ∙ reached,
-        not-fresh s starts codes state.at fs g.rest seen (sound state.version) line.kind g.stands g.allowed fresh,
+        reads_accepted g,
+        ap (λ (parts : List (List ℕ)). lacks_contact line.kind parts lent.countries state.contacts) (read_parts g) ∙ reached,
+        not_fresh s starts codes state.at fs g.rest seen (sound state.version) line.kind g.stands g.allowed fresh,
         left_word lent.words state.lines room,
       )
 
@@ -194,7 +194,7 @@ module _ (s : List ℕ) (lent : Lent) (in_limit : length s ≤ file_limit) where
       state.at ≤ length s → state.lines + length ls ≤ lent.words → Seen s starts codes →
       AllowedFrom state.version lent.countries (drop state.at s) codes state.due state.contacts ls →
       file_from turns s lent starts state ≡ judged_with starts state ls
-  runs [] turns starts codes state few inside room seen a = end-there turns starts state
+  runs [] turns starts codes state few inside room seen a = end_there turns starts state
       (omega (arith, length-drop state.at s, ap length a.0)) a.1
   runs (l ∷ ls) zero starts codes state few inside room seen a = absurd (omega arith)
   runs (l ∷ ls) (suc turns) starts codes state few inside room seen a =
@@ -206,13 +206,13 @@ module _ (s : List ℕ) (lent : Lent) (in_limit : length s ≤ file_limit) where
             state.at + length (line_bytes l);
       }) l.fields =
       record { in_limit = in_limit; comes = a.3; allowed = a.2; rest = a.0; stands = a.1; count = refl; next = refl } in
-      let far = next-far g in
-      let in-file = next-inside g in
+      let far = next_far g in
+      let in-file = next_inside g in
       let on = runs ls turns (starts ++ (state.at ∷ [])) (codes ++ codes_on l.kind l.fields) (behind s state line)
       (omega arith) in-file (omega arith) (seen_more (sound state.version) s starts codes state.at l.kind l.fields a.0 seen a.1 a.2)
-      (rw (← rest-is g, read-parts g) a.6) in
+      (rw (← rest_is g, read_parts g) a.6) in
       rw (
         lt-ltb state.at (length s) (omega (arith, far, in-file)),
-        step-there starts codes state line l.fields g a.4 seen a.5 (omega arith),
+        step_there starts codes state line l.fields g a.4 seen a.5 (omega arith),
       ) (on
-      ∙ judged-more s starts state line l.fields g ls)
+      ∙ judged_more s starts state line l.fields g ls)

@@ -10,7 +10,7 @@ use lib.Seq.{take-append_seam}
 use Rattle.text.specs.Byte.{text_byte}
 use Rattle.text.specs.Quoted.{bytes}
 use Rattle.text.specs.Scan.{all, first_failing, same}
-use Rattle.text.proofs.Choices.{and_left, and_right, came-then}
+use Rattle.text.proofs.Choices.{and_left, and_right, came_then}
 use Rattle.text.proofs.Scans.{same_eq}
 use Rattle.text.proofs.Runs.{Fails, front, run_to}
 use Rattle.records.specs.Record.{type_of, may_come, may_end}
@@ -26,9 +26,9 @@ use Rattle.line.specs.Line.{text_at, alone, line_answer, read_answer}
 use Rattle.line.specs.declared.read.Line.{Line}
 use Rattle.line.specs.declared.read.LineAnswer.TheVariants.{Accepted}
 use Rattle.line.proofs.Splits.{split_some, join_split}
-use Rattle.line.proofs.Plain.{split_plain, parts-split, parts-bytes}
+use Rattle.line.proofs.Plain.{split_plain, parts_split, parts_bytes}
 use Rattle.grammar.specs.Grammar.{LineOk, Reads}
-use Rattle.grammar.proofs.Lines.{accepted_reads, reads-accepted, one_reading}
+use Rattle.grammar.proofs.Lines.{accepted_reads, reads_accepted, one_reading}
 use Rattle.file.specs.Version.{version_in, version_of}
 use Rattle.allowed.specs.Allowed.{FileLine, line_bytes, file_bytes, version_on, AllowedUnder, AllowedFile}
 use Rattle.allowed.specs.Version.{EndsText, SaysSeven}
@@ -50,24 +50,24 @@ module _ (s : List ℕ) where
   text = text_at s 0
 
   -- the text of a first line whose version is 7
-  header-text : version_in text ≡ Seven → (name_of text ≡ type_of Header) × (field_no (fields_of text) 6 ≡ bytes "7")
+  header_text : version_in text ≡ Seven → (name_of text ≡ type_of Header) × (field_no (fields_of text) 6 ≡ bytes "7")
   unfolding version_in is_version
-  header-text e =
+  header_text e =
       let named = same (name_of text) (type_of Header) in
       let says = same (part_at text 6) (bytes "7") in
-      let both = (came-then (named && says) Seven Five Seven unlike e).0 in (
+      let both = (came_then (named && says) Seven Five Seven unlike e).0 in (
         same_eq (name_of text) (type_of Header) (and_left named says both),
         ap (λ (parts : List (List ℕ)). get_or parts 6 []) (sym (split_some text)) ∙ same_eq (part_at text 6) (bytes "7") (and_right named says both),
       )
 
-  pub version-says : version_of s ≡ Seven → SaysSeven s
+  pub version_says : version_of s ≡ Seven → SaysSeven s
   unfolding version_of
-  version-says e =
+  version_says e =
       let r = front text_byte 0 s in
       let long : first_failing (λ _ b. text_byte b) 0 s - 0 ≡ length r.run = omega (arith, r.ends) in
       let run : text ≡ r.run =
       ap (λ (n : ℕ). take n s) long ∙ ap (take (length r.run)) r.whole ∙ take-append_seam r.run r.behind in
-      let h = header-text e in
+      let h = header_text e in
       let whole : text_of Header (fields_of text) ≡ r.run =
       ap (λ (n : List ℕ). n ++ joined (fields_of text)) (sym h.0) ∙ join_split text ∙ run in
       record {
@@ -80,16 +80,16 @@ module _ (s : List ℕ) where
         says = h.1;
       }
 
-  pub says-version : SaysSeven s → version_of s ≡ Seven
+  pub says_version : SaysSeven s → version_of s ≡ Seven
   unfolding version_of version_in is_version
-  says-version g =
+  says_version g =
       let line = text_of Header g.fields in
-      let run = run_to text_byte 0 line g.behind (parts-bytes (type_of Header) g.fields g.clean) (ends_fails g.behind g.ends) in
+      let run = run_to text_byte 0 line g.behind (parts_bytes (type_of Header) g.fields g.clean) (ends_fails g.behind g.ends) in
       let long : first_failing (λ _ b. text_byte b) 0 s - 0 ≡ length line =
       omega (arith, ap (λ (l : List ℕ). first_failing (λ _ b. text_byte b) 0 l) g.there, run) in
       let there : text ≡ line =
       ap (λ (n : ℕ). take n s) long ∙ ap (take (length line)) g.there ∙ take-append_seam line g.behind in
-      let parts : split text ≡ type_of Header ∷ g.fields = ap split there ∙ parts-split (type_of Header) g.fields g.clean in
+      let parts : split text ≡ type_of Header ∷ g.fields = ap split there ∙ parts_split (type_of Header) g.fields g.clean in
       rw (parts, g.says)
 
 -- an allowed file is of version 7 exactly when the call that is told 7 accepts its first line
@@ -116,7 +116,7 @@ pub first_reads_seven : (countries s : List ℕ) (ls : List FileLine) → Allowe
 unfolding may_end
 first_reads_seven countries s [] a = absurd (false≢true a.order)
 first_reads_seven countries s (l ∷ ls) a = (
-  λ e. (_, read_seven s ∙ reads-accepted (own l ls (subst (λ (v : Version). AllowedUnder v countries s (l ∷ ls)) e a))),
+  λ e. (_, read_seven s ∙ reads_accepted (own l ls (subst (λ (v : Version). AllowedUnder v countries s (l ∷ ls)) e a))),
   λ r.
       let g = accepted_reads (alone (profile Seven)) s 0 r.0 (sym (read_seven s) ∙ r.1) in
       let o = one_reading g (own l ls a) in

@@ -19,7 +19,7 @@ use Rattle.line.specs.Line.{file_limit}
 use Rattle.grammar.specs.Grammar.{LineOk}
 use Rattle.file.specs.Version.{version_in, version_of}
 use Rattle.allowed.specs.Allowed.{FileLine, line_bytes, file_bytes, LinesOk, InOrder, version_on, AllowedUnder}
-use Rattle.allowed.proofs.Placed.{first-parts}
+use Rattle.allowed.proofs.Placed.{first_parts}
 
 pub first_header : (kind : Record) → may_come First kind ≡ true → kind ≡ Header
 unfolding may_come
@@ -62,7 +62,7 @@ unfolding version_of version_in
 version_in_lem version s l rest in_limit g o e =
     let kind = first_header l.kind o in
     let says = header_says version l.fields (subst (λ (k : Record). LineOk (profile version) k l.fields) kind g) in
-    rw (first-parts (profile version) s in_limit 0 l rest g e, kind, says) (chosen version)
+    rw (first_parts (profile version) s in_limit 0 l rest g e, kind, says) (chosen version)
 
 -- an allowed file is of one version
 pub under_one : {version : Version} {countries s : List ℕ} (ls : List FileLine) → AllowedUnder version countries s ls → version_of s ≡ version

@@ -68,11 +68,11 @@ carry_next s i h = rw add-one (ap carry (take-suc s i 0 h) ∙ carry_append 36 (
 
 -- a loop at the place i, whose carry is that of what lies in front: each premise is a fact that the loop has
 module _ (s : List ℕ) (i c : ℕ) (ec : c ≡ carry (take i s)) where
-  pub carry-on : (d v : ℕ) → i < length s → v ≡ value_of (get_or s i 0) → d ≡ step c v → d ≡ carry (take (i + 1) s)
-  carry-on d v h ev ed = ed ∙ rw (ec, ev) (sym (carry_next s i h))
+  pub carry_on : (d v : ℕ) → i < length s → v ≡ value_of (get_or s i 0) → d ≡ step c v → d ≡ carry (take (i + 1) s)
+  carry_on d v h ev ed = ed ∙ rw (ec, ev) (sym (carry_next s i h))
 
-  pub carry-ends : length s ≤ i → c ≡ carry s
-  carry-ends h = ec ∙ ap carry (take_all i s h)
+  pub carry_ends : length s ≤ i → c ≡ carry s
+  carry_ends h = ec ∙ ap carry (take_all i s h)
 
 -- a number passes exactly when the carry of the whole is 2: the check is a symbol like the others
 module _ (s : List ℕ) (h : 1 ≤ length s) where
@@ -81,21 +81,21 @@ module _ (s : List ℕ) (h : 1 ≤ length s) where
       let e : length s - 1 + 1 ≡ length s = omega arith in
       ap carry (sym (take_all (length s - 1 + 1) s (omega arith))) ∙ carry_next s (length s - 1) (omega arith)
 
-  pub passes-two : passes s ≡ true → carry s ≡ 2
+  pub passes_two : passes s ≡ true → carry s ≡ 2
   unfolding passes
-  passes-two e = last_step ∙ two_of_one (carry (take (length s - 1) s)) (value_of (get_or s (length s - 1) 0)) (eqb-true _ _ e)
+  passes_two e = last_step ∙ two_of_one (carry (take (length s - 1) s)) (value_of (get_or s (length s - 1) 0)) (eqb-true _ _ e)
 
-  pub two-passes : carry s ≡ 2 → passes s ≡ true
+  pub two_passes : carry s ≡ 2 → passes s ≡ true
   unfolding passes
-  two-passes e = eq-eqb _ _ (one_of_two (carry (take (length s - 1) s)) (value_of (get_or s (length s - 1) 0)) (sym last_step ∙ e))
+  two_passes e = eq-eqb _ _ (one_of_two (carry (take (length s - 1) s)) (value_of (get_or s (length s - 1) 0)) (sym last_step ∙ e))
 
 -- what the callers of the walk know of a carry
 module _ (c : ℕ) (s : List ℕ) (ec : c ≡ carry s) where
-  pub carry-low : 1 ≤ c
-  carry-low = omega (arith, (carry_of s).low)
+  pub carry_low : 1 ≤ c
+  carry_low = omega (arith, (carry_of s).low)
 
-  pub carry-high : c ≤ 36
-  carry-high = omega (arith, (carry_of s).high)
+  pub carry_high : c ≤ 36
+  carry_high = omega (arith, (carry_of s).high)
 
 -- the check character's value, the first that closes a carry, is what the code works out
 abbrev check_value : ℕ → ℕ
@@ -113,4 +113,4 @@ closing_symbol r c low high er = er ∙ ap symbol_of (sym (check_value_lem c (re
 -- behind a walk over all of it
 pub check_behind : (r c i : ℕ) (s : List ℕ) → c ≡ carry (take i s) → length s ≤ i → r ≡ symbol_of (first_value (closes c) 0 36) → r ≡ check_of s
 unfolding check_of
-check_behind r c i s ec h er = er ∙ ap (λ x. symbol_of (first_value (closes x) 0 36)) (carry-ends s i c ec h)
+check_behind r c i s ec h er = er ∙ ap (λ x. symbol_of (first_value (closes x) 0 36)) (carry_ends s i c ec h)

@@ -14,39 +14,39 @@ use Rattle.check_characters.specs.Number.{length_of, wrong_in_number, checked_as
 use Rattle.check_characters.specs.declared.number.Kind.{Kind}
 use Rattle.check_characters.specs.declared.number.Kind.TheVariants.{Tracking, Label}
 use Rattle.check_characters.specs.declared.number.NumberAnswer.TheVariants.{Accepted, Refused}
-use Rattle.check_characters.proofs.Carries.{carry-ends, passes-two, two-passes}
+use Rattle.check_characters.proofs.Carries.{carry_ends, passes_two, two_passes}
 use Rattle.check_characters.proofs.Shapes.{has_last}
 
 module _ (k : Kind) (s : List ℕ) (wrong : ℕ) (ew : wrong ≡ wrong_in_number k s) where
-  pub checked-wrong : wrong < length s → Refused (because WrongSymbol wrong) ≡ checked_as k s
+  pub checked_wrong : wrong < length s → Refused (because WrongSymbol wrong) ≡ checked_as k s
   unfolding checked_as
-  checked-wrong h = simp (← ew, lt-ltb wrong (length s))
+  checked_wrong h = simp (← ew, lt-ltb wrong (length s))
 
   -- behind a walk over all of it
   module _ (c : ℕ) (ec : c ≡ carry (take wrong s)) (long : length s ≡ length_of k) (h : length s ≤ wrong) where
-    pub checked-passes : c ≡ 2 → Accepted k ≡ checked_as k s
+    pub checked_passes : c ≡ 2 → Accepted k ≡ checked_as k s
     unfolding checked_as
-    checked-passes e =
-        let p : passes s ≡ true = two-passes s (has_last k (length s) long) (sym (carry-ends s wrong c ec h) ∙ e) in
+    checked_passes e =
+        let p : passes s ≡ true = two_passes s (has_last k (length s) long) (sym (carry_ends s wrong c ec h) ∙ e) in
         simp (← ew, le-ltb wrong (length s), p)
 
-    pub checked-fails : (c ≡ 2 → ⊥) → Refused (because WrongCheck (length s - 1)) ≡ checked_as k s
+    pub checked_fails : (c ≡ 2 → ⊥) → Refused (because WrongCheck (length s - 1)) ≡ checked_as k s
     unfolding checked_as
-    checked-fails n =
+    checked_fails n =
         let p : passes s ≡ false =
-        ⊎_elim (λ (t : passes s ≡ true). absurd (n (carry-ends s wrong c ec h ∙ passes-two s (has_last k (length s) long) t))) (λ f. f)
+        ⊎_elim (λ (t : passes s ≡ true). absurd (n (carry_ends s wrong c ec h ∙ passes_two s (has_last k (length s) long) t))) (λ f. f)
         (true_or_false (passes s)) in
         simp (← ew, le-ltb wrong (length s), p)
 
 module _ (s : List ℕ) where
-  pub checked-tracking : length s ≡ 15 → checked_number s ≡ checked_as Tracking s
+  pub checked_tracking : length s ≡ 15 → checked_number s ≡ checked_as Tracking s
   unfolding checked_number
-  checked-tracking e = simp (eq-eqb (length s) 15)
+  checked_tracking e = simp (eq-eqb (length s) 15)
 
-  pub checked-label : (length s ≡ 15 → ⊥) → length s ≡ 28 → checked_number s ≡ checked_as Label s
+  pub checked_label : (length s ≡ 15 → ⊥) → length s ≡ 28 → checked_number s ≡ checked_as Label s
   unfolding checked_number
-  checked-label n e = simp (ne_eqb (length s) 15, eq-eqb (length s) 28)
+  checked_label n e = simp (ne_eqb (length s) 15, eq-eqb (length s) 28)
 
-  pub checked-length : (length s ≡ 15 → ⊥) → (length s ≡ 28 → ⊥) → checked_number s ≡ Refused (because WrongLength 0)
+  pub checked_length : (length s ≡ 15 → ⊥) → (length s ≡ 28 → ⊥) → checked_number s ≡ Refused (because WrongLength 0)
   unfolding checked_number
-  checked-length n m = simp (ne_eqb (length s) 15, ne_eqb (length s) 28)
+  checked_length n m = simp (ne_eqb (length s) 15, ne_eqb (length s) 28)

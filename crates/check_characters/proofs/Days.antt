@@ -15,14 +15,14 @@ use Rattle.refusal.specs.declared.Reason.TheVariants.{OutputTooShort, WrongLengt
 use Rattle.refusal.specs.Table.{because, number_of, number_told}
 use Rattle.refusal.proofs.Verdicts.{number_small}
 use Rattle.text.specs.Placed.{written}
-use Rattle.text.proofs.Placing.{copy_done, clip-whole}
+use Rattle.text.proofs.Placing.{copy_done, clip_whole}
 use Rattle.text.proofs.Tables.{tabled_at, tabled_long}
 use Rattle.check_characters.specs.Number.{length_of, checked_as, checked_number, number_verdict}
 use Rattle.check_characters.specs.Day.{number_at, how_many, day_answers, zeros, day_answer}
 use Rattle.check_characters.specs.declared.day.DayAnswer.TheVariants.{Answered, Refused}
 use Rattle.check_characters.specs.declared.number.Kind.TheVariants.{Tracking}
 use Rattle.check_characters.specs.declared.number.NumberAnswer.{NumberAnswer}
-use Rattle.check_characters.proofs.Checking.{checked-tracking}
+use Rattle.check_characters.proofs.Checking.{checked_tracking}
 
 -- a refusal's number fits into the byte of an answer
 pub number_fits : (n : ℕ) (why : Reason) → n ≡ number_of why → Fits w8 n
@@ -35,9 +35,9 @@ number_front numbers behind i h =
     ∙ take-append-le 15 (drop (15 * i) numbers) behind (simp length-drop (omega arith))
 
 module _ (numbers : List ℕ) where
-  pub answers-long : length (day_answers numbers) ≡ how_many numbers
+  pub answers_long : length (day_answers numbers) ≡ how_many numbers
   unfolding day_answers
-  answers-long = tabled_long (λ i. number_told (number_verdict (checked_number (number_at numbers i)))) 0 (how_many numbers)
+  answers_long = tabled_long (λ i. number_told (number_verdict (checked_number (number_at numbers i)))) 0 (how_many numbers)
 
   module _ (i : ℕ) (h : i < how_many numbers) where
     pub answer_at : get_or (day_answers numbers) i 0 ≡ number_told (number_verdict (checked_number (number_at numbers i)))
@@ -45,58 +45,58 @@ module _ (numbers : List ℕ) where
     answer_at = tabled_at (λ j. number_told (number_verdict (checked_number (number_at numbers j)))) (how_many numbers) i 0 h
 
     -- where it stands
-    pub number-inside : 15 * i + 15 ≤ length numbers
-    number-inside = omega arith
+    pub number_inside : 15 * i + 15 ≤ length numbers
+    number_inside = omega arith
 
     pub number_long : length (take (15 * i + 15 - 15 * i) (drop (15 * i) numbers)) ≡ length_of Tracking
     number_long = let e : 15 * i + 15 - 15 * i ≡ 15 = omega arith in
-        rw e (length-take-le 15 (drop (15 * i) numbers) (simp length-drop (omega (arith, number-inside))))
+        rw e (length-take-le 15 (drop (15 * i) numbers) (simp length-drop (omega (arith, number_inside))))
 
     -- and what it is answered
-    pub answer-of : (a : NumberAnswer) (v : ℕ) → a ≡ checked_as Tracking (take (15 * i + 15 - 15 * i) (drop (15 * i) numbers)) →
+    pub answer_of : (a : NumberAnswer) (v : ℕ) → a ≡ checked_as Tracking (take (15 * i + 15 - 15 * i) (drop (15 * i) numbers)) →
         v ≡ number_told (number_verdict a) → v ≡ get_or (day_answers numbers) i 0
-    answer-of a v ea ev =
+    answer_of a v ea ev =
         let alone : a ≡ checked_number (number_at numbers i) =
-        ea ∙ sym (checked-tracking (take (15 * i + 15 - 15 * i) (drop (15 * i) numbers)) number_long) ∙ ap checked_number (clip-whole numbers (15 * i) 15) in
+        ea ∙ sym (checked_tracking (take (15 * i + 15 - 15 * i) (drop (15 * i) numbers)) number_long) ∙ ap checked_number (clip_whole numbers (15 * i) 15) in
         ev ∙ ap (λ (b : NumberAnswer). number_told (number_verdict b)) alone ∙ sym answer_at
 
   -- the first i answers are in: each premise is a fact that the loop has
   module _ (out₀ out : List ℕ) (i : ℕ) (room : how_many numbers ≤ length out₀) (e : out ≡ paste out₀ 0 (day_answers numbers) i) where
-    pub day-again : (a : NumberAnswer) (v : ℕ) → i < how_many numbers →
+    pub day_again : (a : NumberAnswer) (v : ℕ) → i < how_many numbers →
         a ≡ checked_as Tracking (take (15 * i + 15 - 15 * i) (drop (15 * i) numbers)) → v ≡ number_told (number_verdict a) →
         set out i v ≡ paste out₀ 0 (day_answers numbers) (i + 1)
-    day-again a v h ea ev =
+    day_again a v h ea ev =
         let there : 0 + i ≡ i = zero-add i in
         let said : set (paste out₀ 0 (day_answers numbers) i) (0 + i) (get_or (day_answers numbers) i 0) ≡ paste out₀ 0 (day_answers numbers) (i + 1) =
-        rw add-one (paste-suc out₀ 0 (day_answers numbers) i 0 (omega arith) (omega (arith, answers-long))) in
-        rw (answer-of i h a v ea ev, e) (ap (λ k. set (paste out₀ 0 (day_answers numbers) i) k (get_or (day_answers numbers) i 0)) (sym there) ∙ said)
+        rw add-one (paste-suc out₀ 0 (day_answers numbers) i 0 (omega arith) (omega (arith, answers_long))) in
+        rw (answer_of i h a v ea ev, e) (ap (λ k. set (paste out₀ 0 (day_answers numbers) i) k (get_or (day_answers numbers) i 0)) (sym there) ∙ said)
 
-    pub day-done : i ≤ how_many numbers → how_many numbers ≤ i → out ≡ written out₀ 0 (day_answers numbers)
-    day-done l h = copy_done out₀ 0 (day_answers numbers) out i (omega (arith, answers-long)) (omega (arith, answers-long)) e
+    pub day_done : i ≤ how_many numbers → how_many numbers ≤ i → out ≡ written out₀ 0 (day_answers numbers)
+    day_done l h = copy_done out₀ 0 (day_answers numbers) out i (omega (arith, answers_long)) (omega (arith, answers_long)) e
 
   -- the answer, by cases
   module _ (room : ℕ) where
-    pub day-length : (length numbers % 15 ≡ 0 → ⊥) → Refused (because WrongLength 0) ≡ day_answer numbers room
+    pub day_length : (length numbers % 15 ≡ 0 → ⊥) → Refused (because WrongLength 0) ≡ day_answer numbers room
     unfolding day_answer
-    day-length n = simp (ne_eqb (length numbers % 15) 0)
+    day_length n = simp (ne_eqb (length numbers % 15) 0)
 
-    pub day-short : length numbers % 15 ≡ 0 → room < how_many numbers → Refused (because OutputTooShort 0) ≡ day_answer numbers room
+    pub day_short : length numbers % 15 ≡ 0 → room < how_many numbers → Refused (because OutputTooShort 0) ≡ day_answer numbers room
     unfolding day_answer
-    day-short e h = simp (eq-eqb (length numbers % 15) 0, lt-ltb room (how_many numbers))
+    day_short e h = simp (eq-eqb (length numbers % 15) 0, lt-ltb room (how_many numbers))
 
-    pub day-answered : (passed : ℕ) → length numbers % 15 ≡ 0 → how_many numbers ≤ room → passed ≡ zeros (day_answers numbers) →
+    pub day_answered : (passed : ℕ) → length numbers % 15 ≡ 0 → how_many numbers ≤ room → passed ≡ zeros (day_answers numbers) →
         Answered passed ≡ day_answer numbers room
     unfolding day_answer
-    day-answered passed e h p = simp (eq-eqb (length numbers % 15) 0, le-ltb room (how_many numbers), p)
+    day_answered passed e h p = simp (eq-eqb (length numbers % 15) 0, le-ltb room (how_many numbers), p)
 
   -- the answers stand in front
   module _ (answers after : List ℕ) (e : after ≡ written answers 0 (day_answers numbers)) where
     pub front : take (how_many numbers) after ≡ day_answers numbers
-    front = rw e (take_at (day_answers numbers) (drop (0 + length (day_answers numbers)) answers) (how_many numbers) answers-long)
+    front = rw e (take_at (day_answers numbers) (drop (0 + length (day_answers numbers)) answers) (how_many numbers) answers_long)
 
     pub front_long : how_many numbers ≡ length (take (how_many numbers) after)
-    front_long = sym (ap length front ∙ answers-long)
+    front_long = sym (ap length front ∙ answers_long)
 
-    pub day-counted : (passed : ℕ) → length numbers % 15 ≡ 0 → how_many numbers ≤ length answers → passed ≡ zeros (take (how_many numbers) after) →
+    pub day_counted : (passed : ℕ) → length numbers % 15 ≡ 0 → how_many numbers ≤ length answers → passed ≡ zeros (take (how_many numbers) after) →
         Answered passed ≡ day_answer numbers (length answers)
-    day-counted passed m h p = day-answered (length answers) passed m h (p ∙ ap zeros front)
+    day_counted passed m h p = day_answered (length answers) passed m h (p ∙ ap zeros front)

@@ -41,21 +41,21 @@ weighed r b = go (capital b)
 
 -- one symbol more, whose value is v
 module _ (n b v : ℕ) (ev : v ≡ value_of b) where
-  pub behind-letter-below : 100 * n + v < 100 * n + 36
-  behind-letter-below = omega (arith, value_le b)
+  pub behind_letter_below : 100 * n + v < 100 * n + 36
+  behind_letter_below = omega (arith, value_le b)
 
-  pub behind-digit-below : 10 * n + v < 100 * n + 36
-  behind-digit-below = omega (arith, value_le b)
+  pub behind_digit_below : 10 * n + v < 100 * n + 36
+  behind_digit_below = omega (arith, value_le b)
 
   alone : decimal_from n (spread (b ∷ [])) ≡ weight b * n + v
   alone = decimal_append n (digits_of b) [] ∙ weighed n b ∙ ap (λ (x : ℕ). weight b * n + x) (sym ev)
 
   module _ (t : Bool) (et : t ≡ capital b) where
-    pub behind-letter : t ≡ true → 100 * n + v ≡ decimal_from n (spread (b ∷ []))
-    behind-letter e = simp (alone, ← et, e)
+    pub behind_letter : t ≡ true → 100 * n + v ≡ decimal_from n (spread (b ∷ []))
+    behind_letter e = simp (alone, ← et, e)
 
-    pub behind-digit : t ≡ false → 10 * n + v ≡ decimal_from n (spread (b ∷ []))
-    behind-digit e = simp (alone, ← et, e)
+    pub behind_digit : t ≡ false → 10 * n + v ≡ decimal_from n (spread (b ∷ []))
+    behind_digit e = simp (alone, ← et, e)
 
 -- four symbols, one after the other
 pub behind_each : (n a b c d k l m r : ℕ) → k ≡ decimal_from n (spread (a ∷ [])) → l ≡ decimal_from k (spread (b ∷ [])) →
@@ -94,10 +94,10 @@ module _ (s : List ℕ) (i n z : ℕ) (f : decimal_from n (spread (drop i s)) % 
   pub one_on : (a : ℕ) → i < length s → a ≡ decimal_from n (spread (get_or s i 0 ∷ [])) → decimal_from (a % 97) (spread (drop (i + 1) s)) % 97 ≡ z
   one_on a h ea = run_on (i + 1) a (get_or s i 0 ∷ []) (rw add-one (drop-cons s i 0 h)) ea
 
-  pub four-on : (a : ℕ) → i + 3 < length s →
+  pub four_on : (a : ℕ) → i + 3 < length s →
       a ≡ decimal_from n (spread (get_or s i 0 ∷ get_or s (i + 1) 0 ∷ get_or s (i + 2) 0 ∷ get_or s (i + 3) 0 ∷ [])) →
       decimal_from (a % 97) (spread (drop (i + 4) s)) % 97 ≡ z
-  four-on a h ea =
+  four_on a h ea =
       run_on (i + 4) a (get_or s i 0 ∷ get_or s (i + 1) 0 ∷ get_or s (i + 2) 0 ∷ get_or s (i + 3) 0 ∷ [])
       (left i (i + 1) refl (omega arith) (left (i + 1) (i + 2) (omega arith) (omega arith) (left (i + 2) (i + 3) (omega arith) (omega arith)
       (left (i + 3) (i + 4) (omega arith) h refl)))) ea
@@ -108,8 +108,8 @@ module _ (s : List ℕ) (i n z : ℕ) (f : decimal_from n (spread (drop i s)) % 
   pub walk_ends : n < 97 → length s ≤ i → n ≡ z
   walk_ends l h = sym (rw (drop_of_length-le s) (mod-eq_of_lt l)) ∙ f
 
-  pub walk-rests : (r : ℕ) → r ≡ decimal_from n (spread (take (length s - i) (drop i s))) % 97 → r ≡ z
-  walk-rests r e =
+  pub walk_rests : (r : ℕ) → r ≡ decimal_from n (spread (take (length s - i) (drop i s))) % 97 → r ≡ z
+  walk_rests r e =
       e ∙ ap (λ (w : List ℕ). decimal_from n (spread w) % 97) (take_all (length s - i) (drop i s) (simp length-drop (omega arith))) ∙ f
 
 -- the account part, and from there the first four
@@ -117,6 +117,6 @@ pub of_whole : (s : List ℕ) (account r : ℕ) → account ≡ decimal_from 0 (
     r ≡ decimal_from account (spread (take 4 s)) % 97 → r ≡ iban_number s % 97
 of_whole s account r ea er =
     er
-    ∙ ap (λ (n : ℕ). decimal_from n (spread (take 4 s)) % 97) (walk-rests s 4 0 (decimal_from 0 (spread (drop 4 s)) % 97) refl account ea)
+    ∙ ap (λ (n : ℕ). decimal_from n (spread (take 4 s)) % 97) (walk_rests s 4 0 (decimal_from 0 (spread (drop 4 s)) % 97) refl account ea)
     ∙ lessened (decimal_from 0 (spread (drop 4 s))) (spread (take 4 s))
     ∙ ap (λ (n : ℕ). n % 97) (sym (run_append 0 (drop 4 s) (take 4 s)))

@@ -9,16 +9,16 @@ use Rattle.check_characters.specs.Mod37.{step}
 use Rattle.check_characters.specs.Steps.{steps, entry_for}
 
 module _ (c v : ℕ) (low : 1 ≤ c) (high : c ≤ 36) (small : v < 36) where
-  pub entry-inside : entry_for c v < 1296
-  entry-inside = omega arith
+  pub entry_inside : entry_for c v < 1296
+  entry_inside = omega arith
 
-  pub entry-step : get_or steps (entry_for c v) 0 ≡ step c v
+  pub entry_step : get_or steps (entry_for c v) 0 ≡ step c v
   unfolding steps
-  entry-step =
+  entry_step =
       let row : entry_for c v / 36 + 1 ≡ c = omega arith in
       let column : entry_for c v % 36 ≡ v = omega arith in
-      tabled_at (λ entry. step (entry / 36 + 1) (entry % 36)) 1296 (entry_for c v) 0 entry-inside ∙ rw (row, column)
+      tabled_at (λ entry. step (entry / 36 + 1) (entry % 36)) 1296 (entry_for c v) 0 entry_inside ∙ rw (row, column)
 
   -- read from a table that was lent
   pub entry_read : (table : List ℕ) → table ≡ steps → get_or table (entry_for c v) 0 ≡ step c v
-  entry_read table e = ap (λ (t : List ℕ). get_or t (entry_for c v) 0) e ∙ entry-step
+  entry_read table e = ap (λ (t : List ℕ). get_or t (entry_for c v) 0) e ∙ entry_step

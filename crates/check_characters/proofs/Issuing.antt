@@ -13,7 +13,7 @@ use Rattle.refusal.specs.declared.Reason.TheVariants.{OutputTooShort, WrongLengt
 use Rattle.refusal.specs.Table.{because}
 use Rattle.refusal.proofs.Verdicts.{no_pass}
 use Rattle.text.specs.Placed.{placed}
-use Rattle.text.proofs.Choices.{came-else}
+use Rattle.text.proofs.Choices.{came_else}
 use Rattle.check_characters.specs.Answer.{room_for, issued_to, issue_verdict}
 use Rattle.check_characters.specs.Number.{length_of, wrong_in_number, issue_as, issue_answer}
 use Rattle.check_characters.specs.declared.number.Kind.{Kind}
@@ -22,9 +22,9 @@ use Rattle.check_characters.specs.declared.answer.IssueAnswer.{IssueAnswer}
 use Rattle.check_characters.specs.declared.answer.IssueAnswer.TheVariants.{Issued, Refused}
 
 module _ (n room : ℕ) where
-  pub room-short : room ≤ n → Refused (because OutputTooShort 0) ≡ room_for (n + 1) room
+  pub room_short : room ≤ n → Refused (because OutputTooShort 0) ≡ room_for (n + 1) room
   unfolding room_for
-  room-short l = simp (lt-ltb room (n + 1) (omega arith))
+  room_short l = simp (lt-ltb room (n + 1) (omega arith))
 
   pub room_there : n < room → Issued (n + 1) ≡ room_for (n + 1) room
   unfolding room_for
@@ -33,7 +33,7 @@ module _ (n room : ℕ) where
 module _ (whole room : ℕ) where
   pub room_whole : (n : ℕ) → room_for whole room ≡ Issued n → n ≡ whole
   unfolding room_for
-  room_whole n e = let w = came-else (ltb room whole) (Refused (because OutputTooShort 0)) (Issued whole) (Issued n) (no_pass issue_verdict refl refl) e in cc
+  room_whole n e = let w = came_else (ltb room whole) (Refused (because OutputTooShort 0)) (Issued whole) (Issued n) (no_pass issue_verdict refl refl) e in cc
 
 -- the body placed at the start, and the check behind it
 pub issue_written : (body out placedOut : List ℕ) (check : ℕ) → length body < length out → placedOut ≡ placed out 0 body →
@@ -49,24 +49,24 @@ pub issued_with : (r : IssueAnswer) (body out after : List ℕ) (check known : �
 issued_with r body out after check known e f = f ∙ ap (λ (c : ℕ). issued_to r body c out) e
 
 module _ (k : Kind) (body : List ℕ) (room wrong : ℕ) (ew : wrong ≡ wrong_in_number k body) where
-  pub issue-wrong : wrong < length body → Refused (because WrongSymbol wrong) ≡ issue_as k body room
+  pub issue_wrong : wrong < length body → Refused (because WrongSymbol wrong) ≡ issue_as k body room
   unfolding issue_as
-  issue-wrong h = simp (← ew, lt-ltb wrong (length body))
+  issue_wrong h = simp (← ew, lt-ltb wrong (length body))
 
-  pub issue-right : (r : IssueAnswer) → length body ≤ wrong → length body + 1 ≡ length_of k → r ≡ room_for (length body + 1) room →
+  pub issue_right : (r : IssueAnswer) → length body ≤ wrong → length body + 1 ≡ length_of k → r ≡ room_for (length body + 1) room →
       r ≡ issue_as k body room
   unfolding issue_as
-  issue-right r h whole e = simp (← ew, le-ltb wrong (length body), ← whole) e
+  issue_right r h whole e = simp (← ew, le-ltb wrong (length body), ← whole) e
 
 module _ (body : List ℕ) (room : ℕ) where
-  pub issue-tracking : length body ≡ 14 → issue_answer body room ≡ issue_as Tracking body room
+  pub issue_tracking : length body ≡ 14 → issue_answer body room ≡ issue_as Tracking body room
   unfolding issue_answer
-  issue-tracking e = simp (eq-eqb (length body) 14)
+  issue_tracking e = simp (eq-eqb (length body) 14)
 
-  pub issue-label : (length body ≡ 14 → ⊥) → length body ≡ 27 → issue_answer body room ≡ issue_as Label body room
+  pub issue_label : (length body ≡ 14 → ⊥) → length body ≡ 27 → issue_answer body room ≡ issue_as Label body room
   unfolding issue_answer
-  issue-label n e = simp (ne_eqb (length body) 14, eq-eqb (length body) 27)
+  issue_label n e = simp (ne_eqb (length body) 14, eq-eqb (length body) 27)
 
-  pub issue-length : (length body ≡ 14 → ⊥) → (length body ≡ 27 → ⊥) → issue_answer body room ≡ Refused (because WrongLength 0)
+  pub issue_length : (length body ≡ 14 → ⊥) → (length body ≡ 27 → ⊥) → issue_answer body room ≡ Refused (because WrongLength 0)
   unfolding issue_answer
-  issue-length n m = simp (ne_eqb (length body) 14, ne_eqb (length body) 27)
+  issue_length n m = simp (ne_eqb (length body) 14, ne_eqb (length body) 27)

@@ -28,30 +28,30 @@ module _ (k : Kind) (i b : ℕ) (t : Bool) where
   unfolding allowed_in_number
   stands p e et = et ∙ sym (ap (λ (f : Test). f b) e)
 
-  pub tracking-digit : k ≡ Tracking → i < 14 → t ≡ digit b → t ≡ allowed_in_number k i b
+  pub tracking_digit : k ≡ Tracking → i < 14 → t ≡ digit b → t ≡ allowed_in_number k i b
   unfolding shape_of
-  tracking-digit ek h et = stands digit (rw ek (run_at 14 i digit (symbol ∷ []) (λ _. false) h)) et
+  tracking_digit ek h et = stands digit (rw ek (run_at 14 i digit (symbol ∷ []) (λ _. false) h)) et
 
-  pub tracking-check : k ≡ Tracking → 14 ≤ i → i < length_of k → t ≡ symbol b → t ≡ allowed_in_number k i b
+  pub tracking_check : k ≡ Tracking → 14 ≤ i → i < length_of k → t ≡ symbol b → t ≡ allowed_in_number k i b
   unfolding shape_of
-  tracking-check ek l h et = let h' = rw ek at h in let e : i ≡ 14 = omega arith in stands symbol (rw (ek, e)) et
+  tracking_check ek l h et = let h' = rw ek at h in let e : i ≡ 14 = omega arith in stands symbol (rw (ek, e)) et
 
-  pub label-symbol : k ≡ Label → i < 7 → t ≡ symbol b → t ≡ allowed_in_number k i b
+  pub label_symbol : k ≡ Label → i < 7 → t ≡ symbol b → t ≡ allowed_in_number k i b
   unfolding shape_of
-  label-symbol ek h et = stands symbol (rw ek (run_at 7 i symbol (replicate 20 digit ++ (symbol ∷ [])) (λ _. false) h)) et
+  label_symbol ek h et = stands symbol (rw ek (run_at 7 i symbol (replicate 20 digit ++ (symbol ∷ [])) (λ _. false) h)) et
 
-  pub label-digit : k ≡ Label → 7 ≤ i → i < 27 → t ≡ digit b → t ≡ allowed_in_number k i b
+  pub label_digit : k ≡ Label → 7 ≤ i → i < 27 → t ≡ digit b → t ≡ allowed_in_number k i b
   unfolding shape_of
-  label-digit ek l h et =
+  label_digit ek l h et =
       let e : i ≡ i - 7 + 7 = omega arith in
       let there : get_or (replicate 7 symbol ++ (replicate 20 digit ++ (symbol ∷ []))) (i - 7 + 7) (λ _. false) ≡ digit =
       run_past 7 (i - 7) symbol (replicate 20 digit ++ (symbol ∷ [])) (λ _. false)
       ∙ run_at 20 (i - 7) digit (symbol ∷ []) (λ _. false) (omega arith) in
       stands digit (rw ek (ap (λ j. get_or (shape_of Label) j (λ _. false)) e ∙ there)) et
 
-  pub label-check : k ≡ Label → 27 ≤ i → i < length_of k → t ≡ symbol b → t ≡ allowed_in_number k i b
+  pub label_check : k ≡ Label → 27 ≤ i → i < length_of k → t ≡ symbol b → t ≡ allowed_in_number k i b
   unfolding shape_of
-  label-check ek l h et = let h' = rw ek at h in let e : i ≡ 27 = omega arith in stands symbol (rw (ek, e)) et
+  label_check ek l h et = let h' = rw ek at h in let e : i ≡ 27 = omega arith in stands symbol (rw (ek, e)) et
 
 -- a number of a kind has a last symbol
 pub has_last : (k : Kind) (n : ℕ) → n ≡ length_of k → 1 ≤ n

@@ -7,34 +7,34 @@ use native.Mathlib.Omega.{arith}
 use borrow.Author.Tests.{lt-ltb, le-ltb}
 use Rattle.text.specs.Byte.{digit, capital}
 use Rattle.text.proofs.Choices.{true_or_false}
-use Rattle.text.proofs.Bytes.{digit-range, capital-range}
+use Rattle.text.proofs.Bytes.{digit_range, capital_range}
 use Rattle.check_characters.specs.Symbol.{value_of, symbol_of}
 
 module _ (b : ℕ) (t : Bool) (et : t ≡ digit b) where
-  pub digit-floor : t ≡ true → 48 ≤ b
-  digit-floor e = (digit-range b (sym et ∙ e)).0
+  pub digit_floor : t ≡ true → 48 ≤ b
+  digit_floor e = (digit_range b (sym et ∙ e)).0
 
-  pub value-digit : t ≡ true → b - 48 ≡ value_of b
+  pub value_digit : t ≡ true → b - 48 ≡ value_of b
   unfolding value_of
-  value-digit e = simp (← et, e)
+  value_digit e = simp (← et, e)
 
   module _ (u : Bool) (eu : u ≡ capital b) (other : t ≡ false) where
-    pub capital-floor : u ≡ true → 65 ≤ b
-    capital-floor e = (capital-range b (sym eu ∙ e)).0
+    pub capital_floor : u ≡ true → 65 ≤ b
+    capital_floor e = (capital_range b (sym eu ∙ e)).0
 
-    pub value-capital : u ≡ true → b - 65 + 10 ≡ value_of b
+    pub value_capital : u ≡ true → b - 65 + 10 ≡ value_of b
     unfolding value_of
-    value-capital e = simp (← et, other, ← eu, e)
+    value_capital e = simp (← et, other, ← eu, e)
 
-    pub value-other : u ≡ false → 0 ≡ value_of b
+    pub value_other : u ≡ false → 0 ≡ value_of b
     unfolding value_of
-    value-other e = simp (← et, other, ← eu, e)
+    value_other e = simp (← et, other, ← eu, e)
 
 pub value_le : (b : ℕ) → value_of b ≤ 35
 value_le b =
-    ⊎_elim (λ d. omega (arith, digit-range b d, value-digit b (digit b) refl d))
-    (λ n. ⊎_elim (λ c. omega (arith, capital-range b c, value-capital b (digit b) refl (capital b) refl n c))
-    (λ c. omega (arith, value-other b (digit b) refl (capital b) refl n c)) (true_or_false (capital b)))
+    ⊎_elim (λ d. omega (arith, digit_range b d, value_digit b (digit b) refl d))
+    (λ n. ⊎_elim (λ c. omega (arith, capital_range b c, value_capital b (digit b) refl (capital b) refl n c))
+    (λ c. omega (arith, value_other b (digit b) refl (capital b) refl n c)) (true_or_false (capital b)))
     (true_or_false (digit b))
 
 pub value_below : (v b : ℕ) → v ≡ value_of b → v < 36

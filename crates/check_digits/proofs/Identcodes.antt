@@ -19,10 +19,10 @@ use Rattle.refusal.specs.Table.{because}
 use Rattle.refusal.proofs.Verdicts.{no_pass}
 use Rattle.text.specs.Choice.{if◌then◌else◌}
 use Rattle.text.specs.Byte.{digit}
-use Rattle.text.proofs.Choices.{came-then, came-else}
-use Rattle.text.proofs.Bytes.{digit-range}
+use Rattle.text.proofs.Choices.{came_then, came_else}
+use Rattle.text.proofs.Bytes.{digit_range}
 use Rattle.text.proofs.Numbers.{eq_or_ne}
-use Rattle.text.proofs.Scans.{none-fails}
+use Rattle.text.proofs.Scans.{none_fails}
 use Rattle.check_characters.specs.Symbol.{value_of, symbol_of}
 use Rattle.check_characters.specs.Answer.{room_for, check_verdict}
 use Rattle.check_digits.specs.Identcode.{allowed_in_identcode, position, parts, wrong_in_identcode, weight_at}
@@ -35,16 +35,16 @@ use Rattle.check_characters.specs.declared.answer.IssueAnswer.TheVariants as iss
 use Rattle.check_digits.specs.declared.identcode.Part.{Part}
 use Rattle.check_digits.specs.declared.identcode.Parts.{Parts}
 use Rattle.check_digits.specs.declared.identcode.PartsAnswer.TheVariants as read
-use Rattle.check_characters.proofs.Symbols.{value-digit, low_symbol}
+use Rattle.check_characters.proofs.Symbols.{value_digit, low_symbol}
 
 module _ (i : ℕ) where
-  pub weight-three : i % 2 ≡ 0 → 3 ≡ weight_at i
+  pub weight_three : i % 2 ≡ 0 → 3 ≡ weight_at i
   unfolding weight_at
-  weight-three e = simp (eq-eqb (i % 2) 0)
+  weight_three e = simp (eq-eqb (i % 2) 0)
 
-  pub weight-one : (i % 2 ≡ 0 → ⊥) → 1 ≡ weight_at i
+  pub weight_one : (i % 2 ≡ 0 → ⊥) → 1 ≡ weight_at i
   unfolding weight_at
-  weight-one n = simp (ne_eqb (i % 2) 0)
+  weight_one n = simp (ne_eqb (i % 2) 0)
 
 pub weighed_append : (i : ℕ) (p q : List ℕ) → weighed_from i (p ++ q) ≡ weighed_from i p + weighed_from (i + length p) q
 weighed_append i [] q = rw (add-zero, zero-add)
@@ -64,82 +64,82 @@ module _ (b : ℕ) (t : Bool) (et : t ≡ digit b) (q : not t ≡ false) where
   is_digit : digit b ≡ true
   is_digit = sym et ∙ not-false t q
 
-  pub digit-least : 48 ≤ b
-  digit-least = (digit-range b is_digit).0
+  pub digit_least : 48 ≤ b
+  digit_least = (digit_range b is_digit).0
 
-  pub digit-fits : Fits w32 (b - 48)
-  digit-fits = omega (arith, digit-range b is_digit)
+  pub digit_fits : Fits w32 (b - 48)
+  digit_fits = omega (arith, digit_range b is_digit)
 
   module _ (w i : ℕ) (ew : w ≡ weight_at i) where
-    weighs-little : w * (b - 48) ≤ 27
-    weighs-little =
-        let r = digit-range b is_digit in
-        ⊎_elim (λ z. rw (ew ∙ sym (weight-three i z)) (omega arith)) (λ z. rw (ew ∙ sym (weight-one i z)) (omega arith)) (eq_or_ne (i % 2) 0)
+    weighs_little : w * (b - 48) ≤ 27
+    weighs_little =
+        let r = digit_range b is_digit in
+        ⊎_elim (λ z. rw (ew ∙ sym (weight_three i z)) (omega arith)) (λ z. rw (ew ∙ sym (weight_one i z)) (omega arith)) (eq_or_ne (i % 2) 0)
 
-    pub weighs-fits : Fits w32 (w * (b - 48))
-    weighs-fits = omega (arith, weighs-little)
+    pub weighs_fits : Fits w32 (w * (b - 48))
+    weighs_fits = omega (arith, weighs_little)
 
     module _ (s : List ℕ) (sum : ℕ) (h : i < length s) where
-      pub sum-stays : length s ≤ 22 → sum ≤ 27 * i → Fits w32 (sum + w * (b - 48))
-      sum-stays short l = omega (arith, weighs-little)
+      pub sum_stays : length s ≤ 22 → sum ≤ 27 * i → Fits w32 (sum + w * (b - 48))
+      sum_stays short l = omega (arith, weighs_little)
 
-      pub sum-little : sum ≤ 27 * i → sum + w * (b - 48) ≤ 27 * (i + 1)
-      sum-little l = omega (arith, weighs-little)
+      pub sum_little : sum ≤ 27 * i → sum + w * (b - 48) ≤ 27 * (i + 1)
+      sum_little l = omega (arith, weighs_little)
 
-      pub sum-on : b ≡ get_or s i 0 → sum ≡ weighed (take i s) → sum + w * (b - 48) ≡ weighed (take (i + 1) s)
-      sum-on eb e =
-          let v : b - 48 ≡ value_of (get_or s i 0) = value-digit b (digit b) refl is_digit ∙ ap value_of eb in
+      pub sum_on : b ≡ get_or s i 0 → sum ≡ weighed (take i s) → sum + w * (b - 48) ≡ weighed (take (i + 1) s)
+      sum_on eb e =
+          let v : b - 48 ≡ value_of (get_or s i 0) = value_digit b (digit b) refl is_digit ∙ ap value_of eb in
           sym (weighed_more s i h ∙ rw (← e, ← ew, ← v))
 
 -- the check digit of a sum
 module _ (left sum : ℕ) (e : left ≡ sum % 10) where
-  pub digit-none : left ≡ 0 → 48 ≡ check_digit sum
+  pub digit_none : left ≡ 0 → 48 ≡ check_digit sum
   unfolding check_digit symbol_of
-  digit-none z = rw (eq-eqb (sum % 10) 0 (sym e ∙ z))
+  digit_none z = rw (eq-eqb (sum % 10) 0 (sym e ∙ z))
 
-  pub digit-some : (left ≡ 0 → ⊥) → 48 + (10 - left) ≡ check_digit sum
+  pub digit_some : (left ≡ 0 → ⊥) → 48 + (10 - left) ≡ check_digit sum
   unfolding check_digit
-  digit-some n = rw (ne_eqb (sum % 10) 0 (λ z. n (e ∙ z)), low_symbol (10 - sum % 10) (omega arith), e)
+  digit_some n = rw (ne_eqb (sum % 10) 0 (λ z. n (e ∙ z)), low_symbol (10 - sum % 10) (omega arith), e)
 
 pub digit_is : (sum : ℕ) → check_digit sum ≡ 48 + (10 - sum % 10) % 10
 digit_is sum =
-    ⊎_elim (λ z. sym (digit-none (sum % 10) sum refl z) ∙ rw z) (λ n. sym (digit-some (sum % 10) sum refl n)
+    ⊎_elim (λ z. sym (digit_none (sum % 10) sum refl z) ∙ rw z) (λ n. sym (digit_some (sum % 10) sum refl n)
     ∙ omega arith) (eq_or_ne (sum % 10) 0)
 
 -- a check digit weighs 1, so that a code passes where all its digits, weighed, leave 0
 module _ (s : List ℕ) (long : length s ≡ 22) (fine : length s ≤ wrong_in_identcode s) where
   pub code_digit : (i : ℕ) → i < length s → digit (get_or s i 0) ≡ true
-  code_digit i l = none-fails allowed_in_identcode 0 s (omega arith) i l
+  code_digit i l = none_fails allowed_in_identcode 0 s (omega arith) i l
 
-  pub code-weighs : weighed s ≡ weighed (take 21 s) + (get_or s 21 0 - 48)
-  code-weighs =
+  pub code_weighs : weighed s ≡ weighed (take 21 s) + (get_or s 21 0 - 48)
+  code_weighs =
       ap weighed (sym (take_all 22 s (omega arith)))
       ∙ weighed_more s 21 (omega arith)
-      ∙ ap (λ (v : ℕ). weighed (take 21 s) + v) (ap (λ (w : ℕ). w * value_of (get_or s 21 0)) (sym (weight-one 21 (λ z. omega arith)))
-      ∙ omega (arith, value-digit (get_or s 21 0) (digit (get_or s 21 0)) refl (code_digit 21 (omega arith))))
+      ∙ ap (λ (v : ℕ). weighed (take 21 s) + v) (ap (λ (w : ℕ). w * value_of (get_or s 21 0)) (sym (weight_one 21 (λ z. omega arith)))
+      ∙ omega (arith, value_digit (get_or s 21 0) (digit (get_or s 21 0)) refl (code_digit 21 (omega arith))))
 
-  pub passes-leaves : weighed s % 10 ≡ 0 → passes s ≡ true
+  pub passes_leaves : weighed s % 10 ≡ 0 → passes s ≡ true
   unfolding passes
-  passes-leaves e =
+  passes_leaves e =
       rw long (eq-eqb (get_or s 21 0) (check_digit_of (take 21 s))
-      (omega (arith, code-weighs, digit_is (weighed (take 21 s)), digit-range (get_or s 21 0) (code_digit 21 (omega arith)))))
+      (omega (arith, code_weighs, digit_is (weighed (take 21 s)), digit_range (get_or s 21 0) (code_digit 21 (omega arith)))))
 
-  pub leaves-passes : (weighed s % 10 ≡ 0 → ⊥) → passes s ≡ false
+  pub leaves_passes : (weighed s % 10 ≡ 0 → ⊥) → passes s ≡ false
   unfolding passes
-  leaves-passes n =
+  leaves_passes n =
       rw long (ne_eqb (get_or s 21 0) (check_digit_of (take 21 s))
-      (λ e. n (omega (arith, code-weighs, digit_is (weighed (take 21 s)), digit-range (get_or s 21 0) (code_digit 21 (omega arith))))))
+      (λ e. n (omega (arith, code_weighs, digit_is (weighed (take 21 s)), digit_range (get_or s 21 0) (code_digit 21 (omega arith))))))
 
 -- what checking a code answers
 module _ (s : List ℕ) where
-  pub checked-length : (length s ≡ 22 → ⊥) → Refused (because WrongLength 0) ≡ checked_identcode s
+  pub checked_length : (length s ≡ 22 → ⊥) → Refused (because WrongLength 0) ≡ checked_identcode s
   unfolding checked_identcode
-  checked-length n = simp (ne_eqb (length s) 22)
+  checked_length n = simp (ne_eqb (length s) 22)
 
   module _ (long : length s ≡ 22) (wrong sum : ℕ) (ew : wrong ≡ wrong_in_identcode s) (es : sum ≡ weighed (take wrong s)) where
-    pub checked-wrong : wrong < 22 → Refused (because WrongSymbol wrong) ≡ checked_identcode s
+    pub checked_wrong : wrong < 22 → Refused (because WrongSymbol wrong) ≡ checked_identcode s
     unfolding checked_identcode
-    checked-wrong h = simp (eq-eqb (length s) 22, ← ew, lt-ltb wrong (length s) (omega arith))
+    checked_wrong h = simp (eq-eqb (length s) 22, ← ew, lt-ltb wrong (length s) (omega arith))
 
     module _ (h : 22 ≤ wrong) where
       fine : length s ≤ wrong_in_identcode s
@@ -148,15 +148,15 @@ module _ (s : List ℕ) where
       whole : sum ≡ weighed s
       whole = es ∙ ap weighed (take_all wrong s (omega arith))
 
-      pub checked-passes : sum % 10 ≡ 0 → Accepted ≡ checked_identcode s
+      pub checked_passes : sum % 10 ≡ 0 → Accepted ≡ checked_identcode s
       unfolding checked_identcode
-      checked-passes e =
-          simp (eq-eqb (length s) 22, ← ew, le-ltb wrong (length s) (omega arith), passes-leaves s long fine (rw (← whole) e))
+      checked_passes e =
+          simp (eq-eqb (length s) 22, ← ew, le-ltb wrong (length s) (omega arith), passes_leaves s long fine (rw (← whole) e))
 
-      pub checked-fails : (sum % 10 ≡ 0 → ⊥) → Refused (because WrongCheck 21) ≡ checked_identcode s
+      pub checked_fails : (sum % 10 ≡ 0 → ⊥) → Refused (because WrongCheck 21) ≡ checked_identcode s
       unfolding checked_identcode
-      checked-fails n =
-          simp (← ew, long, le-ltb wrong 22, leaves-passes s long fine (λ e. n (rw whole e)))
+      checked_fails n =
+          simp (← ew, long, le-ltb wrong 22, leaves_passes s long fine (λ e. n (rw whole e)))
 
 -- what an accepted code is
 pub record Whole (s : List ℕ) : Type 0 where
@@ -169,10 +169,10 @@ unfolding checked_identcode
 accepted_whole s e =
     let wrong = ltb (wrong_in_identcode s) (length s) in
     let tail = if passes s then Accepted else Refused (because WrongCheck (length s - 1)) in
-    let a = came-else (not (eqb (length s) 22)) (Refused (because WrongLength 0))
+    let a = came_else (not (eqb (length s) 22)) (Refused (because WrongLength 0))
     (if wrong then Refused (because WrongSymbol (wrong_in_identcode s)) else tail) Accepted (no_pass check_verdict refl refl) e in
-    let b = came-else wrong (Refused (because WrongSymbol (wrong_in_identcode s))) tail Accepted (no_pass check_verdict refl refl) a.1 in
-    let c = came-then (passes s) Accepted (Refused (because WrongCheck (length s - 1))) Accepted (no_pass check_verdict refl refl) b.1 in
+    let b = came_else wrong (Refused (because WrongSymbol (wrong_in_identcode s))) tail Accepted (no_pass check_verdict refl refl) a.1 in
+    let c = came_then (passes s) Accepted (Refused (because WrongCheck (length s - 1))) Accepted (no_pass check_verdict refl refl) b.1 in
     record {
       long = eqb-true (length s) 22 (not-false (eqb (length s) 22) a.0);
       fine = ltb-false (wrong_in_identcode s) (length s) b.0;
@@ -185,9 +185,9 @@ pub all_six : (a b c d e f : Part) → a ≡ position 1 2 → b ≡ position 3 7
 all_six a b c d e f ea eb ec ed ee ef = rw (ea, eb, ec, ed, ee, ef)
 
 module _ (s : List ℕ) (a : CheckAnswer) (ea : a ≡ checked_identcode s) where
-  pub parts-read : (found : Parts) → found ≡ parts → a ≡ Accepted → read.Read found ≡ parts_answer s
+  pub parts_read : (found : Parts) → found ≡ parts → a ≡ Accepted → read.Read found ≡ parts_answer s
   unfolding parts_answer
-  parts-read found f e = ap read.Read f ∙ ap parts_where (sym e ∙ ea)
+  parts_read found f e = ap read.Read f ∙ ap parts_where (sym e ∙ ea)
 
   pub parts_refused : (refusal : Refusal) → a ≡ Refused refusal → read.Refused refusal ≡ parts_answer s
   unfolding parts_answer
@@ -195,18 +195,18 @@ module _ (s : List ℕ) (a : CheckAnswer) (ea : a ≡ checked_identcode s) where
 
 -- and issuing one
 module _ (body : List ℕ) (room : ℕ) where
-  pub identcode-length : (length body ≡ 21 → ⊥) → issue.Refused (because WrongLength 0) ≡ issue_identcode_answer body room
+  pub identcode_length : (length body ≡ 21 → ⊥) → issue.Refused (because WrongLength 0) ≡ issue_identcode_answer body room
   unfolding issue_identcode_answer
-  identcode-length n = simp (ne_eqb (length body) 21)
+  identcode_length n = simp (ne_eqb (length body) 21)
 
   module _ (long : length body ≡ 21) (wrong : ℕ) (ew : wrong ≡ wrong_in_identcode body) where
-    pub identcode-wrong : wrong < 21 → issue.Refused (because WrongSymbol wrong) ≡ issue_identcode_answer body room
+    pub identcode_wrong : wrong < 21 → issue.Refused (because WrongSymbol wrong) ≡ issue_identcode_answer body room
     unfolding issue_identcode_answer
-    identcode-wrong h = simp (eq-eqb (length body) 21, ← ew, lt-ltb wrong (length body) (omega arith))
+    identcode_wrong h = simp (eq-eqb (length body) 21, ← ew, lt-ltb wrong (length body) (omega arith))
 
-    pub identcode-right : (r : IssueAnswer) → 21 ≤ wrong → r ≡ room_for (length body + 1) room → r ≡ issue_identcode_answer body room
+    pub identcode_right : (r : IssueAnswer) → 21 ≤ wrong → r ≡ room_for (length body + 1) room → r ≡ issue_identcode_answer body room
     unfolding issue_identcode_answer
-    identcode-right r h e = simp (eq-eqb (length body) 21, ← ew, le-ltb wrong (length body) (omega arith)) (rw long at e)
+    identcode_right r h e = simp (eq-eqb (length body) 21, ← ew, le-ltb wrong (length body) (omega arith)) (rw long at e)
 
-    pub identcode-check : (sum check : ℕ) → 21 ≤ wrong → sum ≡ weighed (take wrong body) → check ≡ check_digit sum → check ≡ check_digit_of body
-    identcode-check sum check h es ec = ec ∙ ap check_digit (es ∙ ap weighed (take_all wrong body (omega arith)))
+    pub identcode_check : (sum check : ℕ) → 21 ≤ wrong → sum ≡ weighed (take wrong body) → check ≡ check_digit sum → check ≡ check_digit_of body
+    identcode_check sum check h es ec = ec ∙ ap check_digit (es ∙ ap weighed (take_all wrong body (omega arith)))

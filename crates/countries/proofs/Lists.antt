@@ -22,17 +22,17 @@ no_pair (a ∷ b ∷ s) country h = absurd (omega arith)
 -- a loop at the place i, and what the pairs from there on settle
 module _ (s country : List ℕ) (i : ℕ) (z : Bool) (f : is_listed (drop i s) country ≡ z) where
   module _ (h : 2 ≤ length s - i) (t : Bool) (e : t ≡ same (take (i + 2 - i) (drop i s)) country) where
-    pair-here : z ≡ (t || is_listed (drop (i + 2) s) country)
-    pair-here =
+    pair_here : z ≡ (t || is_listed (drop (i + 2) s) country)
+    pair_here =
         let two : i + 2 - i ≡ 2 = omega arith in
         let pair : t ≡ same (take 2 (drop i s)) country = e ∙ ap (λ (n : ℕ). same (take n (drop i s)) country) two in
         sym f ∙ first_pair (drop i s) country (omega (arith, length-drop i s)) ∙ rw (← pair, drop-drop 2 i s)
 
     pub listed_here : t ≡ true → true ≡ z
-    listed_here q = sym (rw q at pair-here)
+    listed_here q = sym (rw q at pair_here)
 
-    pub listed-on : t ≡ false → is_listed (drop (i + 2) s) country ≡ z
-    listed-on q = sym (rw q at pair-here)
+    pub listed_on : t ≡ false → is_listed (drop (i + 2) s) country ≡ z
+    listed_on q = sym (rw q at pair_here)
 
   pub listed_none : length s - i < 2 → false ≡ z
   listed_none h = sym (no_pair (drop i s) country (omega (arith, length-drop i s))) ∙ f

@@ -14,7 +14,7 @@ use Rattle.scans.specs.Pieces.{rest_of, last_answer}
 use Rattle.scans.specs.Tallying.{how_often}
 use Rattle.scans.proofs.Tallying as tallying
 use Rattle.refused.specs.Day.{AnswerByte}
-use Rattle.refused.proofs.Days.{byte-means}
+use Rattle.refused.proofs.Days.{byte_means}
 use Rattle.scans.proofs.Pieces as pieces
 use Rattle.demands.specs.Bench.{
   AnyPieces,
@@ -58,7 +58,7 @@ last_line = pieces.last_line
 pub line_means : LineMeans
 unfolding line_answer
 line_means line =
-    (λ e. rw (eq-eqb (length (number_on line)) 15 e) (byte-means (number_on line) e), λ n. rw (ne_eqb (length (number_on line)) 15 n))
+    (λ e. rw (eq-eqb (length (number_on line)) 15 e) (byte_means (number_on line) e), λ n. rw (ne_eqb (length (number_on line)) 15 n))
 
 pub counts_told : CountsTold
 counts_told = tallying.counts_told

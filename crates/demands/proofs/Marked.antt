@@ -30,7 +30,7 @@ use Rattle.file.specs.Step.{has_word, listing, on_line, step_answer}
 use Rattle.file.specs.File.{judged}
 use Rattle.purpose.specs.Source.{is_cash_line, from_shipment, for_feature, source_of}
 use Rattle.allowed.specs.Allowed.{AllowedUnder}
-use Rattle.allowed.proofs.Files.{accepted-allowed}
+use Rattle.allowed.proofs.Files.{accepted_allowed}
 use Rattle.allowed.proofs.Versions.{version_found}
 use Rattle.demands.specs.Marked.{example, versioned, seven, lent_with, MarkedHold, AFileIsAllowed, AFileOfSevenIsAllowed}
 
@@ -46,7 +46,7 @@ marked_hold = (refl, (refl, (refl, (refl, (refl, (refl, (refl, (refl, (refl, (re
 
 pub a_file_is_allowed : AFileIsAllowed
 a_file_is_allowed =
-    let g = accepted-allowed example (lent_with "") (record { lines = 6; parcels = 1; cents = 1250 }) (0 ∷ 74 ∷ 116 ∷ 178 ∷ 208 ∷ 216 ∷ [])
+    let g = accepted_allowed example (lent_with "") (record { lines = 6; parcels = 1; cents = 1250 }) (0 ∷ 74 ∷ 116 ∷ 178 ∷ 208 ∷ 216 ∷ [])
     marked_hold.1.1.1.1.1.1.1.1.1.1.1.1.1.1.1.1.0 in
     (g.lines, g.allowed)
 
@@ -54,7 +54,7 @@ pub a_file_of_seven_is_allowed : AFileOfSevenIsAllowed
 unfolding is_version version_in version_of
 a_file_of_seven_is_allowed =
     let file = versioned seven "040;1000000000000000000007;;;C" in
-    let g = accepted-allowed file (lent_with "") (record { lines = 6; parcels = 1; cents = 1250 }) (0 ∷ 64 ∷ 106 ∷ 168 ∷ 200 ∷ 208 ∷ [])
+    let g = accepted_allowed file (lent_with "") (record { lines = 6; parcels = 1; cents = 1250 }) (0 ∷ 64 ∷ 106 ∷ 168 ∷ 200 ∷ 208 ∷ [])
     marked_hold.1.1.1.1.1.1.1.1.1.1.1.1.1.1.1.1.1.1.1.1.1.1.1.1.1.1.1.1.1.1.1.1.1.1.1.0 in
     let version : version_of (versioned seven "040;1000000000000000000007;;;C") ≡ Seven = refl in
     (g.lines, subst (λ (v : Version). AllowedUnder v [] file g.lines) (sym (version_found g.allowed) ∙ version) g.allowed)

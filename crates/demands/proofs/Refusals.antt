@@ -11,7 +11,7 @@ use Rattle.grammar.specs.Grammar.{Reads, StandsInLine}
 use Rattle.grammar.specs.Written.{Writable}
 use Rattle.refused.specs.Line.{RefusedAt, RefusedFind}
 use Rattle.refused.specs.Write.{RefusedWrite}
-use Rattle.refused.proofs.Told.{told-refused-exactly, told-always-one, told-never-both}
+use Rattle.refused.proofs.Told.{told_refused_exactly, told_always_one, told_never_both}
 use Rattle.fields.specs.Profile.{profile}
 use Rattle.line.specs.Line.{alone, line_answer, read_answer}
 use Rattle.refused.proofs.Lines as lines
@@ -86,16 +86,16 @@ allowed_begins = deciding.allowed_begins
 pub line_refused_exactly : LineRefusedExactly
 unfolding read_answer
 line_refused_exactly told s at refusal =
-    told-refused-exactly told (λ version. RefusedAt (alone (profile version)) s at) NotRead (λ version. line_answer (alone (profile version)) s at)
-    (λ a b e. line-told e) (λ version. lines.line_refused_exactly (alone (profile version)) s at) refusal
+    told_refused_exactly told (λ version. RefusedAt (alone (profile version)) s at) NotRead (λ version. line_answer (alone (profile version)) s at)
+    (λ a b e. line_told e) (λ version. lines.line_refused_exactly (alone (profile version)) s at) refusal
   where
-    line-told : {a b : Refusal} → NotRead a ≡ NotRead b → a ≡ b
-    line-told e = cc
+    line_told : {a b : Refusal} → NotRead a ≡ NotRead b → a ≡ b
+    line_told e = cc
 
 pub field_refused_exactly : FieldRefusedExactly
 unfolding find_answer
 field_refused_exactly told s at n refusal =
-    told-refused-exactly told (λ version. RefusedFind (profile version) s at n) NotFound (λ version. field_answer (profile version) s at n)
+    told_refused_exactly told (λ version. RefusedFind (profile version) s at n) NotFound (λ version. field_answer (profile version) s at n)
     (λ a b e. field_told e) (λ version. seeking.field_refused_exactly (profile version) s at n) refusal
   where
     field_told : {a b : Refusal} → NotFound a ≡ NotFound b → a ≡ b
@@ -140,37 +140,37 @@ failing_code_refuses_file s lent ls left code more begins room counted filled na
 
 pub line_always_one : LineAlwaysOne
 line_always_one told s at =
-    told-always-one told (λ version. RefusedAt (alone (profile version)) s at)
+    told_always_one told (λ version. RefusedAt (alone (profile version)) s at)
     (λ version. (line : Line) × ((fs : List (List ℕ)) × Reads (alone (profile version)) s at line fs))
     (λ version. either.line_always_one (alone (profile version)) s at)
 
 pub line_never_both : LineNeverBoth
 line_never_both told s at refusal =
-    told-never-both told (λ version. RefusedAt (alone (profile version)) s at)
+    told_never_both told (λ version. RefusedAt (alone (profile version)) s at)
     (λ version. (line : Line) × ((fs : List (List ℕ)) × Reads (alone (profile version)) s at line fs))
     (λ version why. either.line_never_both (alone (profile version)) s at why) refusal
 
 pub field_always_one : FieldAlwaysOne
 field_always_one told s at n =
-    told-always-one told (λ version. RefusedFind (profile version) s at n)
+    told_always_one told (λ version. RefusedFind (profile version) s at n)
     (λ version. (start : ℕ) × ((long : ℕ) × StandsInLine (profile version) s at n start long))
     (λ version. either.field_always_one (profile version) s at n)
 
 pub field_never_both : FieldNeverBoth
 field_never_both told s at n refusal =
-    told-never-both told (λ version. RefusedFind (profile version) s at n)
+    told_never_both told (λ version. RefusedFind (profile version) s at n)
     (λ version. (start : ℕ) × ((long : ℕ) × StandsInLine (profile version) s at n start long))
     (λ version why g. either.field_never_both (profile version) s at n g.0 g.1.0 why g.1.1) refusal
 
 pub write_always_one : WriteAlwaysOne
 write_always_one told number text ends size fill =
-    told-always-one told (λ version. RefusedWrite (profile version) number text ends size fill)
+    told_always_one told (λ version. RefusedWrite (profile version) number text ends size fill)
     (λ version. (n : ℕ) × Writable (profile version) number text ends size fill n)
     (λ version. either.write_always_one (profile version) number text ends size fill)
 
 pub write_never_both : WriteNeverBoth
 write_never_both told number text ends size fill refusal =
-    told-never-both told (λ version. RefusedWrite (profile version) number text ends size fill)
+    told_never_both told (λ version. RefusedWrite (profile version) number text ends size fill)
     (λ version. (n : ℕ) × Writable (profile version) number text ends size fill n)
     (λ version why g. either.write_never_both (profile version) number text ends size fill g.0 why g.1) refusal
 

@@ -31,7 +31,7 @@ use Rattle.demands.specs.Versions.{
 }
 
 pub version_exactly : VersionExactly
-version_exactly s = (saying.version-says s, saying.says-version s)
+version_exactly s = (saying.version_says s, saying.says_version s)
 
 pub file_exactly_under : FileExactlyUnder
 file_exactly_under version s lent totals list = (

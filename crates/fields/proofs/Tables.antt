@@ -40,11 +40,11 @@ table_at rule d row n l h =
 
 -- from a row to its record
 module _ (version : Version) (kind : Record) (row n : ℕ) (er : row ≡ row_of kind) where
-  to-record : record_at row ≡ kind
-  to-record = ap record_at er ∙ at_row kind
+  to_record : record_at row ≡ kind
+  to_record = ap record_at er ∙ at_row kind
 
-  pub width-there : (w byte : ℕ) → w ≡ byte → byte ≡ width_in_table (profile version (record_at row)) n → w ≡ width_in_table (profile version kind) n
-  width-there w byte ew e = ew ∙ e ∙ ap (λ (k : Record). width_in_table (profile version k) n) to-record
+  pub width_there : (w byte : ℕ) → w ≡ byte → byte ≡ width_in_table (profile version (record_at row)) n → w ≡ width_in_table (profile version kind) n
+  width_there w byte ew e = ew ∙ e ∙ ap (λ (k : Record). width_in_table (profile version k) n) to_record
 
 -- an arm of a match is a case of the rule
 pub width_in : (version case : Version) (kind : Record) (n w : ℕ) → version ≡ case → w ≡ width_in_table (profile case kind) n →
@@ -234,23 +234,23 @@ width_always version w beside = ap (λ (b : But). narrowed b w beside) (alike ve
 
 -- the width of field 2 of a 060 line, by the cases that the code meets
 module _ (version : Version) (s : Bool) (es : s ≡ is_seven version) (w : ℕ) (beside : List ℕ) where
-  pub reference-seven : s ≡ true → w ≡ narrowed (by version (instead 35 is_cash) always) w beside
-  reference-seven e = go version (sym es ∙ e)
+  pub reference_seven : s ≡ true → w ≡ narrowed (by version (instead 35 is_cash) always) w beside
+  reference_seven e = go version (sym es ∙ e)
     where
       go : (v : Version) → is_seven v ≡ true → w ≡ narrowed (by v (instead 35 is_cash) always) w beside
       go Five q = absurd (false≢true q)
       go Seven q = refl
 
   module _ (five : s ≡ false) (t : Bool) (et : t ≡ is_cash beside) where
-    in-five : (m : ℕ) → m ≡ (if is_cash beside then 35 else w) → m ≡ narrowed (by version (instead 35 is_cash) always) w beside
-    in-five m e = go version (sym es ∙ five)
+    in_five : (m : ℕ) → m ≡ (if is_cash beside then 35 else w) → m ≡ narrowed (by version (instead 35 is_cash) always) w beside
+    in_five m e = go version (sym es ∙ five)
       where
         go : (v : Version) → is_seven v ≡ false → m ≡ narrowed (by v (instead 35 is_cash) always) w beside
         go Five q = e
         go Seven q = absurd (false≢true (sym q))
 
-    pub reference-cash : t ≡ true → 35 ≡ narrowed (by version (instead 35 is_cash) always) w beside
-    reference-cash e = in-five 35 (simp (← et, e))
+    pub reference_cash : t ≡ true → 35 ≡ narrowed (by version (instead 35 is_cash) always) w beside
+    reference_cash e = in_five 35 (simp (← et, e))
 
-    pub reference-free : t ≡ false → w ≡ narrowed (by version (instead 35 is_cash) always) w beside
-    reference-free e = in-five w (simp (← et, e))
+    pub reference_free : t ≡ false → w ≡ narrowed (by version (instead 35 is_cash) always) w beside
+    reference_free e = in_five w (simp (← et, e))

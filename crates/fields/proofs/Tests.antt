@@ -8,7 +8,7 @@ use lib.Dec.{ltb, eqb}
 use lib.ListN.{length}
 use borrow.Author.Tests.{ltb-false, lt-ltb, le-ltb, eq-eqb, ne_eqb}
 use Rattle.text.specs.Choice.{if◌then◌else◌}
-use Rattle.text.proofs.Choices.{came-then, came-else}
+use Rattle.text.proofs.Choices.{came_then, came_else}
 use Rattle.refusal.specs.declared.Reason.{Reason}
 use Rattle.refusal.specs.declared.Reason.TheVariants.{FieldTooLong, FieldEmpty, FieldForm}
 use Rattle.fields.specs.Profile.{Row, width_of, is_required, has_form}
@@ -17,16 +17,16 @@ use Rattle.fields.specs.declared.field.Tested.TheVariants.{Good, Bad}
 
 module _ (rows : List Row) (n : ℕ) (beside f : List ℕ) where
   module _ (empty : length f ≡ 0) (t : Bool) (et : t ≡ is_required rows n) where
-    never-long : ltb (width_of rows n beside) (length f) ≡ false
-    never-long = le-ltb (width_of rows n beside) (length f) (omega arith)
+    never_long : ltb (width_of rows n beside) (length f) ≡ false
+    never_long = le-ltb (width_of rows n beside) (length f) (omega arith)
 
-    pub empty-bad : t ≡ true → Bad FieldEmpty ≡ tested rows n beside f
+    pub empty_bad : t ≡ true → Bad FieldEmpty ≡ tested rows n beside f
     unfolding tested
-    empty-bad e = simp (never-long, eq-eqb (length f) 0, ← et, e)
+    empty_bad e = simp (never_long, eq-eqb (length f) 0, ← et, e)
 
-    pub empty-good : t ≡ false → Good ≡ tested rows n beside f
+    pub empty_good : t ≡ false → Good ≡ tested rows n beside f
     unfolding tested
-    empty-good e = simp (never-long, eq-eqb (length f) 0, ← et, e)
+    empty_good e = simp (never_long, eq-eqb (length f) 0, ← et, e)
 
   module _ (w : ℕ) (ew : w ≡ width_of rows n beside) where
     pub too_long : w < length f → Bad FieldTooLong ≡ tested rows n beside f
@@ -34,13 +34,13 @@ module _ (rows : List Row) (n : ℕ) (beside f : List ℕ) where
     too_long h = simp (← ew, lt-ltb w (length f))
 
     module _ (h : length f ≤ w) (filled : length f ≡ 0 → ⊥) (t : Bool) (et : t ≡ has_form rows n beside f) where
-      pub form-good : t ≡ true → Good ≡ tested rows n beside f
+      pub form_good : t ≡ true → Good ≡ tested rows n beside f
       unfolding tested
-      form-good e = simp (← ew, le-ltb w (length f), ne_eqb (length f) 0, ← et, e)
+      form_good e = simp (← ew, le-ltb w (length f), ne_eqb (length f) 0, ← et, e)
 
-      pub form-bad : t ≡ false → Bad FieldForm ≡ tested rows n beside f
+      pub form_bad : t ≡ false → Bad FieldForm ≡ tested rows n beside f
       unfolding tested
-      form-bad e = simp (← ew, le-ltb w (length f), ne_eqb (length f) 0, ← et, e)
+      form_bad e = simp (← ew, le-ltb w (length f), ne_eqb (length f) 0, ← et, e)
 
 -- what a field that passes tells
 pub bad : {why : Reason} → Bad why ≡ Good → ⊥
@@ -56,9 +56,9 @@ unfolding tested
 good_passed rows n beside f e =
     let empty = if is_required rows n then Bad FieldEmpty else Good in
     let form = if has_form rows n beside f then Good else Bad FieldForm in
-    let a = came-else (ltb (width_of rows n beside) (length f)) (Bad FieldTooLong) (if eqb (length f) 0 then empty else form) Good bad e in
+    let a = came_else (ltb (width_of rows n beside) (length f)) (Bad FieldTooLong) (if eqb (length f) 0 then empty else form) Good bad e in
     record {
       fits = ltb-false (width_of rows n beside) (length f) a.0;
       filled = λ r z. bad (simp (eq-eqb (length f) 0 z, r) at a.1);
-      formed = λ z. (came-then (has_form rows n beside f) Good (Bad FieldForm) Good bad (simp (ne_eqb (length f) 0 z) at a.1)).0;
+      formed = λ z. (came_then (has_form rows n beside f) Good (Bad FieldForm) Good bad (simp (ne_eqb (length f) 0 z) at a.1)).0;
     }

@@ -10,31 +10,31 @@ use Rattle.text.specs.Choice.{if◌then◌else◌}
 use Rattle.text.specs.Quoted.{bytes}
 use Rattle.text.specs.Scan.{same}
 use Rattle.forms.specs.Amount.{cents, amount}
-use Rattle.forms.proofs.Amounts.{cents-most}
+use Rattle.forms.proofs.Amounts.{cents_most}
 use Rattle.fields.specs.Form.{is_cash}
 use Rattle.records.specs.declared.record.Record.{Record}
 use Rattle.records.specs.declared.record.Record.TheVariants.{Header, Sender, Shipment, Parcel, Product, Feature}
 use Rattle.file.specs.Cash.{cents_of, cash_in, cash_of}
 
 module _ (parts : List (List ℕ)) (a : List ℕ) (ea : a ≡ get_or parts 1 []) (t : Bool) (et : t ≡ is_cash a) where
-  is-cash : t ≡ is_cash (get_or parts 1 [])
-  is-cash = et ∙ ap is_cash ea
+  is_cash_lem : t ≡ is_cash (get_or parts 1 [])
+  is_cash_lem = et ∙ ap is_cash ea
 
-  pub no-cash : not t ≡ true → 0 ≡ cash_in parts
+  pub no_cash : not t ≡ true → 0 ≡ cash_in parts
   unfolding cash_in
-  no-cash e = rw (← is-cash, not-true t e)
+  no_cash e = rw (← is_cash_lem, not-true t e)
 
   module _ (c : not t ≡ false) (b : List ℕ) (eb : b ≡ get_or parts 4 []) (u : Bool) (eu : u ≡ same b (bytes "EUR")) where
-    is-euro : u ≡ same (get_or parts 4 []) (bytes "EUR")
-    is-euro = eu ∙ ap (λ (x : List ℕ). same x (bytes "EUR")) eb
+    is_euro : u ≡ same (get_or parts 4 []) (bytes "EUR")
+    is_euro = eu ∙ ap (λ (x : List ℕ). same x (bytes "EUR")) eb
 
-    pub no-euro : not u ≡ true → 0 ≡ cash_in parts
+    pub no_euro : not u ≡ true → 0 ≡ cash_in parts
     unfolding cash_in
-    no-euro e = rw (← is-cash, not-false t c, ← is-euro, not-true u e)
+    no_euro e = rw (← is_cash_lem, not-false t c, ← is_euro, not-true u e)
 
-    pub in-euro : not u ≡ false → (f : List ℕ) → f ≡ get_or parts 3 [] → (r : ℕ) → r ≡ (if amount f then cents f else 0) → r ≡ cash_in parts
+    pub in_euro : not u ≡ false → (f : List ℕ) → f ≡ get_or parts 3 [] → (r : ℕ) → r ≡ (if amount f then cents f else 0) → r ≡ cash_in parts
     unfolding cash_in
-    in-euro e f ef r er = rw (← is-cash, not-false t c, ← is-euro, not-false u e, ← ef) er
+    in_euro e f ef r er = rw (← is_cash_lem, not-false t c, ← is_euro, not-false u e, ← ef) er
 
 pub cash_as : (kind case : Record) (parts : List (List ℕ)) (r : ℕ) → kind ≡ case → r ≡ cash_of case parts → r ≡ cash_of kind parts
 cash_as kind case parts r e f = rw e f
@@ -43,7 +43,7 @@ cents_below : (f : List ℕ) → cents_of f ≤ 99999999
 cents_below f = go (amount f) refl
   where
     go : (t : Bool) → amount f ≡ t → (if t then cents f else 0) ≤ 99999999
-    go true e = cents-most f e
+    go true e = cents_most f e
     go false e = omega arith
 
 cash_in_below : (parts : List (List ℕ)) → cash_in parts ≤ 99999999

@@ -26,7 +26,7 @@ use Rattle.line.specs.declared.walk.Walk.TheVariants.{Fine}
 use Rattle.line.specs.declared.read.Line.{Line}
 use Rattle.line.specs.declared.read.LineAnswer.{LineAnswer}
 use Rattle.line.specs.declared.read.LineAnswer.TheVariants.{Accepted}
-use Rattle.line.proofs.Passing.{fine-each}
+use Rattle.line.proofs.Passing.{fine_each}
 use Rattle.line.proofs.Ends.{ended}
 use Rattle.line.proofs.Accepting.{TextOk, LineAt, lies, text_written, line_stands}
 use Rattle.file.specs.Step.{parcels_in}
@@ -65,7 +65,7 @@ parcel_coded told at text line w g k =
         walk (told.rules Parcel) 1 (at + length (name_of text) + 1) (name_of text) fs ≡ Fine → Coded (fields_of text)
     go [] e c f = absurd (false≢true c)
     go (code ∷ more) e c f =
-        let good = (fine-each (tested (told.rules Parcel)) behind 1 (at + length (name_of text) + 1) (name_of text) (code ∷ more) f).0 in
+        let good = (fine_each (tested (told.rules Parcel)) behind 1 (at + length (name_of text) + 1) (name_of text) (code ∷ more) f).0 in
         let passed = good_passed (told.rules Parcel) 1 (name_of text) code good in
         record { code = code; more = more; are = e; holds = w.digital (name_of text) code (passed.formed (passed.filled w.coded)) }
 
@@ -77,15 +77,15 @@ module _ (told : Told) (s : List ℕ) (at : ℕ) (a : LineAnswer) (ea : a ≡ li
   abbrev rest : List ℕ
   rest = (ended s at here.well).rest
 
-  pub accepted-type : take 3 (drop at s) ≡ type_of line.kind
-  accepted-type = type_there s at line.kind (fields_of (text_at s at)) rest (line_stands told s at line here)
+  pub accepted_type : take 3 (drop at s) ≡ type_of line.kind
+  accepted_type = type_there s at line.kind (fields_of (text_at s at)) rest (line_stands told s at line here)
 
   module _ (w : Sound told.rules) where
     coded : line.kind ≡ Parcel → Coded (fields_of (text_at s at))
     coded k = parcel_coded told at (text_at s at) line w here.text k
 
-    pub accepted-code : line.kind ≡ Parcel → digits 22 (identcode_at s at) ≡ true
-    accepted-code k =
+    pub accepted_code : line.kind ≡ Parcel → digits 22 (identcode_at s at) ≡ true
+    accepted_code k =
         let c = coded k in
         let there : drop at s ≡ render Parcel (c.code ∷ c.more) ++ rest =
         line_stands told s at line here ∙ ap (λ (r : Record). render r (fields_of (text_at s at)) ++ rest) k
@@ -94,8 +94,8 @@ module _ (told : Told) (s : List ℕ) (at : ℕ) (a : LineAnswer) (ea : a ≡ li
         ap (digits 22) (code_there s at c.code c.more rest there c.holds) ∙ c.holds
 
     -- a parcel line has at least 28 bytes: its type, a semicolon, 22 digits and its end
-    parcel-far : line.kind ≡ Parcel → at + 28 ≤ line.next
-    parcel-far k =
+    parcel_far : line.kind ≡ Parcel → at + 28 ≤ line.next
+    parcel_far k =
         let c = coded k in
         let text : text_at s at ≡ text_of Parcel (c.code ∷ c.more) =
         text_written told at (text_at s at) line here.text ∙ ap (λ (r : Record). text_of r (fields_of (text_at s at))) k
@@ -110,8 +110,8 @@ module _ (told : Told) (s : List ℕ) (at : ℕ) (a : LineAnswer) (ea : a ≡ li
           digits_parts 22 c.code c.holds,
         )
 
-    pub accepted-far : at + 28 * parcels_in line.kind ≤ line.next
-    accepted-far = go line.kind refl
+    pub accepted_far : at + 28 * parcels_in line.kind ≤ line.next
+    accepted_far = go line.kind refl
       where
         far : at ≤ line.next
         far = omega (arith, here.text.ends)
@@ -120,6 +120,6 @@ module _ (told : Told) (s : List ℕ) (at : ℕ) (a : LineAnswer) (ea : a ≡ li
         go Header k = omega (arith, far)
         go Sender k = omega (arith, far)
         go Shipment k = omega (arith, far)
-        go Parcel k = omega (arith, parcel-far k)
+        go Parcel k = omega (arith, parcel_far k)
         go Product k = omega (arith, far)
         go Feature k = omega (arith, far)

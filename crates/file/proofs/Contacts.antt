@@ -14,13 +14,13 @@ use Rattle.line.specs.Need.{is_filled}
 use Rattle.file.specs.Contact.{has_contacts, contacts_behind, lacks_contact}
 
 module _ (parts : List (List ℕ)) (t : Bool) (et : t ≡ is_filled parts 12) where
-  pub no-phone : not t ≡ true → false ≡ has_contacts parts
+  pub no_phone : not t ≡ true → false ≡ has_contacts parts
   unfolding has_contacts
-  no-phone e = rw (← et, not-true t e)
+  no_phone e = rw (← et, not-true t e)
 
-  pub by-mail : not t ≡ false → (u : Bool) → u ≡ is_filled parts 13 → u ≡ has_contacts parts
+  pub by_mail : not t ≡ false → (u : Bool) → u ≡ is_filled parts 13 → u ≡ has_contacts parts
   unfolding has_contacts
-  by-mail e u eu = rw (← et, not-false t e, and-true (is_filled parts 13)) eu
+  by_mail e u eu = rw (← et, not-false t e, and-true (is_filled parts 13)) eu
 
 -- an arm of a match is a case of the rule
 pub contacts_as : (kind case : Record) (parts : List (List ℕ)) (before t : Bool) → kind ≡ case → t ≡ contacts_behind case parts before →
@@ -42,7 +42,7 @@ module _ (parts : List (List ℕ)) (countries : List ℕ) (contacts : Bool) wher
       let empty : countries ≡ [] = no_bytes countries e in
       rw (empty, and-false (not contacts), and-false (kind is_a Shipment))
 
-  pub lacks-listed : (kind : Record) → kind ≡ Shipment → contacts ≡ false → (country : List ℕ) → country ≡ get_or parts 20 [] → (t : Bool) →
+  pub lacks_listed : (kind : Record) → kind ≡ Shipment → contacts ≡ false → (country : List ℕ) → country ≡ get_or parts 20 [] → (t : Bool) →
       t ≡ is_listed countries country → t ≡ lacks_contact kind parts countries contacts
   unfolding lacks_contact
-  lacks-listed kind k e country ec t et = rw (k, e, ← ec) et
+  lacks_listed kind k e country ec t et = rw (k, e, ← ec) et

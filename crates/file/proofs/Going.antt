@@ -15,7 +15,7 @@ use Rattle.records.specs.declared.record.Record.{Record}
 use Rattle.records.specs.declared.record.Record.TheVariants.{Header, Sender, Shipment, Parcel, Product, Feature}
 use Rattle.line.specs.Line.{line_answer, text_at, file_limit}
 use Rattle.line.specs.Parts.{split}
-use Rattle.line.proofs.Accepting.{next-after}
+use Rattle.line.proofs.Accepting.{next_after}
 use Rattle.fields.proofs.Rules.{sound}
 use Rattle.file.specs.Lent.{Lent}
 use Rattle.file.specs.Version.{version_of}
@@ -29,10 +29,10 @@ use Rattle.file.specs.declared.whole.FileAnswer.{FileAnswer}
 use Rattle.file.specs.declared.whole.FileAnswer.TheVariants.{Accepted, Refused}
 use Rattle.file.specs.Identcode.{parcels_most, tree_words, Sown}
 use Rattle.file.proofs.Cashing.{cash_below}
-use Rattle.file.proofs.Codes.{accepted-far}
+use Rattle.file.proofs.Codes.{accepted_far}
 use Rattle.file.proofs.Sowing.{sown_none}
 use Rattle.file.proofs.Stepping.{Went, went}
-use Rattle.file.proofs.Lists.{word_left, listed_none, listed_more, unlisted-more, list_whole}
+use Rattle.file.proofs.Lists.{word_left, listed_none, listed_more, unlisted_more, list_whole}
 
 pub record Going (s : List ℕ) (lent : Lent) (words codes : List ℕ) (state : State) : Type 0 where
   pub in_limit : length s ≤ file_limit
@@ -107,8 +107,8 @@ even_told countries t et e = sym et ∙ not-false t e
 
 module _ (s : List ℕ) (lent : Lent) (words codes : List ℕ) (state : State) (g : Going s lent words codes state) where
   -- so few parcels have room in a file
-  pub few-parcels : state.at < length s → state.parcels ≤ parcels_most
-  few-parcels h = omega (arith, g.in_limit, g.far)
+  pub few_parcels : state.at < length s → state.parcels ≤ parcels_most
+  few_parcels h = omega (arith, g.in_limit, g.far)
 
   -- the turn that is due
   turn : state.at < length s → on_step (step_answer s lent (listed_so_far state.lines words) state)
@@ -126,10 +126,10 @@ module _ (s : List ℕ) (lent : Lent) (words codes : List ℕ) (state : State) (
     over : (next : State) → step ≡ Next next → Went s lent (listed_so_far state.lines words) state next
     over next e = went s lent (listed_so_far state.lines words) state next (sym es ∙ e)
 
-    pub less-left : (next : State) → step ≡ Next next → length s - next.at < length s - state.at
-    less-left next e =
+    pub less_left : (next : State) → step ≡ Next next → length s - next.at < length s - state.at
+    less_left next e =
         let w = over next e in
-        let after = next-after (told_by state) s state.at (line_answer (told_by state) s state.at) refl w.line w.accepted in
+        let after = next_after (told_by state) s state.at (line_answer (told_by state) s state.at) refl w.line w.accepted in
         omega (arith, after, ap (λ (n : State). n.at) w.there)
 
     pub going_more : (next : State) → step ≡ Next next → (list after : List ℕ) →
@@ -139,8 +139,8 @@ module _ (s : List ℕ) (lent : Lent) (words codes : List ℕ) (state : State) (
         let w = over next e in
         let line = w.line in
         let now = behind s state line in
-        let behind-it = next-after (told_by state) s state.at (line_answer (told_by state) s state.at) refl line w.accepted in
-        let far = accepted-far (told_by state) s state.at (line_answer (told_by state) s state.at) refl line w.accepted (sound state.version) in
+        let behind_it = next_after (told_by state) s state.at (line_answer (told_by state) s state.at) refl line w.accepted in
+        let far = accepted_far (told_by state) s state.at (line_answer (told_by state) s state.at) refl line w.accepted (sound state.version) in
         let fewer : length s + 1 - (state.lines + 1) ≡ length s - state.lines = omega arith in
         let on : file_from (length s - state.lines) s lent (listed_so_far state.lines words ++ (state.at ∷ [])) now ≡ judged s lent =
         rw (sym es ∙ e, ← w.there) at (turn h) in
@@ -149,11 +149,11 @@ module _ (s : List ℕ) (lent : Lent) (words codes : List ℕ) (state : State) (
         record {
           in_limit = g.in_limit;
           long = length-set words state.lines state.at ∙ g.long;
-          lines = omega (arith, g.lines, behind-it);
+          lines = omega (arith, g.lines, behind_it);
           room = omega (arith, word_left lent.words state.lines w.room);
           parcels = omega (arith, g.parcels, parcels_le line.kind);
           cents = omega (arith, g.cents, cash_below line.kind (split (text_at s state.at)));
-          cleared = unlisted-more words state.lines lent.words state.at g.long w.room g.cleared;
+          cleared = unlisted_more words state.lines lent.words state.at g.long w.room g.cleared;
           far = omega (arith, g.far, far);
           sown = rw more-listed (sown now (e ∙ ap Next (sym w.there)));
           going = ap (λ (n : ℕ). file_from n s lent (listed_so_far (state.lines + 1) (set words state.lines state.at)) now) fewer
@@ -164,26 +164,26 @@ module _ (s : List ℕ) (lent : Lent) (words codes : List ℕ) (state : State) (
         rw (listed next e) (rw w.there at more)
 
     -- what the code answers and leaves where a line stops it
-    pub stop-judged : (refusal : Refusal) → step ≡ Stopped refusal → (left list : List ℕ) → length left ≡ length words →
+    pub stop_judged : (refusal : Refusal) → step ≡ Stopped refusal → (left list : List ℕ) → length left ≡ length words →
         list ≡ replicate (length left) 0 → Judges s lent (Refused refusal) list
-    stop-judged refusal e left list kept el = all_clear s lent (Refused refusal) (sym (rw (sym es ∙ e) at (turn h))) left list (kept ∙ g.long) el
+    stop_judged refusal e left list kept el = all_clear s lent (Refused refusal) (sym (rw (sym es ∙ e) at (turn h))) left list (kept ∙ g.long) el
 
   module _ (h : length s ≤ state.at) where
     file_ends : (turns : ℕ) → file_from turns s lent (listed_so_far state.lines words) state ≡ ended s (listed_so_far state.lines words) state
     file_ends zero = refl
     file_ends (suc turns) = rw (le-ltb state.at (length s) h)
 
-    at-end : judged s lent ≡ ended s (listed_so_far state.lines words) state
-    at-end = sym g.going ∙ file_ends (length s + 1 - state.lines)
+    at_end : judged s lent ≡ ended s (listed_so_far state.lines words) state
+    at_end = sym g.going ∙ file_ends (length s + 1 - state.lines)
 
     module _ (t : Bool) (et : t ≡ may_end state.due) where
-      pub due-judged : not t ≡ true → (list : List ℕ) → list ≡ replicate (length words) 0 → Judges s lent (Refused (because FileEnds (length s))) list
-      due-judged e list el = all_clear s lent (Refused (because FileEnds (length s))) (at-end ∙ rw (← et, not-true t e)) words list g.long el
+      pub due_judged : not t ≡ true → (list : List ℕ) → list ≡ replicate (length words) 0 → Judges s lent (Refused (because FileEnds (length s))) list
+      due_judged e list el = all_clear s lent (Refused (because FileEnds (length s))) (at_end ∙ rw (← et, not-true t e)) words list g.long el
 
-      pub end-judged : not t ≡ false →
+      pub end_judged : not t ≡ false →
           Judges s lent (Accepted (record { lines = state.lines; parcels = state.parcels; cents = state.cents })) words
-      end-judged e =
-          let all_read : judged s lent ≡ passed (listed_so_far state.lines words) state = at-end ∙ rw (← et, not-false t e) in (
+      end_judged e =
+          let all_read : judged s lent ≡ passed (listed_so_far state.lines words) state = at_end ∙ rw (← et, not-false t e) in (
             sym (ap (λ (j : Judged). j.answer) all_read),
             list_whole words state.lines lent.words g.long g.room g.cleared
                 ∙ sym (ap (λ (j : Judged). list_of lent.words j.starts) all_read),

@@ -51,18 +51,18 @@ module _ (lent : Lent) where
   either true a b p q = p
   either false a b p q = q
 
-  at-end : (s starts : List ℕ) (state : State) → length starts ≡ state.lines → state.lines ≤ lent.words → Listed lent (ended s starts state)
-  at-end s starts state long room =
+  at_end : (s starts : List ℕ) (state : State) → length starts ≡ state.lines → state.lines ≤ lent.words → Listed lent (ended s starts state)
+  at_end s starts state long room =
       either (may_end state.due) (passed starts state) (record { answer = Refused (because FileEnds (length s)); starts = [] })
       (accepted starts state long room) (refused (because FileEnds (length s)))
 
   from : (turns : ℕ) (s starts : List ℕ) (state : State) → length starts ≡ state.lines → state.lines ≤ lent.words →
       Listed lent (file_from turns s lent starts state)
-  from zero s starts state long room = at-end s starts state long room
+  from zero s starts state long room = at_end s starts state long room
   from (suc turns) s starts state long room =
       either (ltb state.at (length s))
       (on_step (step_answer s lent starts state) (λ next. file_from turns s lent (starts ++ (state.at ∷ [])) next)) (ended s starts state)
-      (go (step_answer s lent starts state) refl (λ next. from turns s (starts ++ (state.at ∷ [])) next)) (at-end s starts state long room)
+      (go (step_answer s lent starts state) refl (λ next. from turns s (starts ++ (state.at ∷ [])) next)) (at_end s starts state long room)
     where
       go :
           (step : Step) → step_answer s lent starts state ≡ step →
@@ -88,12 +88,12 @@ module _ (lent : Lent) where
       odd = record { answer = Refused (because CountriesOdd 0); starts = [] }
 
 module _ (s : List ℕ) (lent : Lent) where
-  pub none-listed : {refusal : Refusal} → (judged s lent).answer ≡ Refused refusal → (judged s lent).starts ≡ []
-  none-listed {refusal = refusal} e = (whole lent s).none refusal e
+  pub none_listed : {refusal : Refusal} → (judged s lent).answer ≡ Refused refusal → (judged s lent).starts ≡ []
+  none_listed {refusal = refusal} e = (whole lent s).none refusal e
 
   module _ (totals : Totals) (e : (judged s lent).answer ≡ Accepted totals) where
-    pub lines-listed : length (judged s lent).starts ≡ totals.lines
-    lines-listed = (whole lent s).counted totals e
+    pub lines_listed : length (judged s lent).starts ≡ totals.lines
+    lines_listed = (whole lent s).counted totals e
 
     pub lines_fit : totals.lines ≤ lent.words
     lines_fit = (whole lent s).fits totals e

@@ -13,16 +13,16 @@ use Rattle.file.specs.Step.{listed_so_far, has_word}
 
 -- the words passed are 0, the others as they were
 module _ (words₀ words : List ℕ) (i : ℕ) (e : words ≡ replicate i 0 ++ drop i words₀) (long : length words ≡ length words₀) where
-  pub clear-on : i < length words → set words i 0 ≡ replicate (i + 1) 0 ++ drop (i + 1) words₀
-  clear-on h =
+  pub clear_on : i < length words → set words i 0 ≡ replicate (i + 1) 0 ++ drop (i + 1) words₀
+  clear_on h =
       ap (λ (w : List ℕ). set w i 0) (e ∙ ap (λ (w : List ℕ). replicate i 0 ++ w) (drop-cons words₀ i 0 (omega arith)))
       ∙ set_at (replicate i 0) (get_or words₀ i 0) (drop (suc i) words₀) 0 i (length-replicate i 0)
       ∙ sym (append_snoc (replicate i 0) 0 (drop (suc i) words₀))
       ∙ ap (λ (w : List ℕ). w ++ drop (suc i) words₀) (replicate-append-replicate i 1 0)
       ∙ ap (λ (k : ℕ). replicate (i + 1) 0 ++ drop k words₀) (sym (add-one i))
 
-  pub clear-done : i ≤ length words₀ → length words ≤ i → words ≡ replicate (length words₀) 0
-  clear-done l h =
+  pub clear_done : i ≤ length words₀ → length words ≤ i → words ≡ replicate (length words₀) 0
+  clear_done l h =
       let n : i ≡ length words₀ = omega arith in
       e ∙ ap (λ (w : List ℕ). replicate i 0 ++ w) (drop_of_length-le words₀ {i = i} (omega arith)) ∙ append-nil (replicate i 0)
       ∙ ap (λ (k : ℕ). replicate k 0) n
@@ -58,8 +58,8 @@ module _ (words : List ℕ) (n m v : ℕ) (long : length words ≡ m) (room : ha
   unfolding listed_so_far
   listed_more = rw add-one (take-suc-set words n v (omega (arith, less)))
 
-  pub unlisted-more : drop (n + 1) (set words n v) ≡ replicate (m - (n + 1)) 0
-  unlisted-more =
+  pub unlisted_more : drop (n + 1) (set words n v) ≡ replicate (m - (n + 1)) 0
+  unlisted_more =
       let k : m - n ≡ suc (m - (n + 1)) = omega (arith, less) in
       let both : get_or words n 0 ∷ drop (suc n) words ≡ replicate (suc (m - (n + 1))) 0 = sym (drop-cons words n 0 (omega (arith, less))) ∙ zeros
       ∙ ap (λ (j : ℕ). replicate j 0) k in

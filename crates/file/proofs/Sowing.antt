@@ -30,30 +30,30 @@ module _ (s : List ℕ) (earlier at : ℕ) (kind : Record) (e : take 3 (drop ear
   unfolding same_parcel
   parcel_code k = rw (e, k)
 
-  pub other-line : same (type_of kind) (bytes "040") ≡ false → same_parcel s earlier at ≡ false
+  pub other_line : same (type_of kind) (bytes "040") ≡ false → same_parcel s earlier at ≡ false
   unfolding same_parcel
-  other-line k = rw (e, k)
+  other_line k = rw (e, k)
 
 pub sown_none : (s tree : List ℕ) → Sown s [] 0 tree
 sown_none s tree = record { whole = tree_none s tree; tells = λ at d. sym (none_there s tree at) }
 
 -- one line more, of any record
 module _ (s starts : List ℕ) (parcels : ℕ) (tree : List ℕ) (g : Sown s starts parcels tree) (at : ℕ) where
-  other-sown : (kind : Record) → take 3 (drop at s) ≡ type_of kind → same (type_of kind) (bytes "040") ≡ false →
+  other_sown : (kind : Record) → take 3 (drop at s) ≡ type_of kind → same (type_of kind) (bytes "040") ≡ false →
       Sown s (starts ++ (at ∷ [])) (parcels + 0) tree
-  other-sown kind type e =
+  other_sown kind type e =
       let k : parcels + 0 ≡ parcels = omega arith in
       rw k (record {
         whole = g.whole;
-        tells = λ z dz. earlier_more s starts at z ∙ ap (λ (t : Bool). on_earlier s starts z || t) (other-line s at z kind type e)
+        tells = λ z dz. earlier_more s starts at z ∙ ap (λ (t : Bool). on_earlier s starts z || t) (other_line s at z kind type e)
             ∙ or-false (on_earlier s starts z) ∙ g.tells z dz;
       })
 
-  parcel-sown : tree_words ≤ length tree → parcels ≤ parcels_most → at ≤ file_limit → digits 22 (identcode_at s at) ≡ true →
+  parcel_sown : tree_words ≤ length tree → parcels ≤ parcels_most → at ≤ file_limit → digits 22 (identcode_at s at) ≡ true →
       take 3 (drop at s) ≡ type_of Parcel →
       is_there s tree parcels at ≡ false →
       Sown s (starts ++ (at ∷ [])) (parcels + 1) (grown s tree parcels at)
-  parcel-sown long few in_limit d type e =
+  parcel_sown long few in_limit d type e =
       let room = room_there tree parcels at (omega arith) (omega arith) (omega arith) in
       let more = one_more s parcels tree at g.whole room d e in
       record {
@@ -62,24 +62,24 @@ module _ (s starts : List ℕ) (parcels : ℕ) (tree : List ℕ) (g : Sown s sta
             ∙ ap (λ (t : Bool). is_there s tree parcels z || t) (parcel_code s at z Parcel type refl) ∙ sym (more.tells z dz);
       }
 
-  pub sown-line : (kind : Record) → tree_words ≤ length tree → parcels ≤ parcels_most → at ≤ file_limit →
+  pub sown_line : (kind : Record) → tree_words ≤ length tree → parcels ≤ parcels_most → at ≤ file_limit →
       (kind ≡ Parcel → digits 22 (identcode_at s at) ≡ true) →
       take 3 (drop at s) ≡ type_of kind →
       is_there_for kind s tree parcels at ≡ false → Sown s (starts ++ (at ∷ [])) (parcels + parcels_in kind) (grown_for kind s tree parcels at)
   unfolding is_there_for grown_for
-  sown-line Header long few in_limit d type e = other-sown Header type refl
-  sown-line Sender long few in_limit d type e = other-sown Sender type refl
-  sown-line Shipment long few in_limit d type e = other-sown Shipment type refl
-  sown-line Parcel long few in_limit d type e = parcel-sown long few in_limit (d refl) type e
-  sown-line Product long few in_limit d type e = other-sown Product type refl
-  sown-line Feature long few in_limit d type e = other-sown Feature type refl
+  sown_line Header long few in_limit d type e = other_sown Header type refl
+  sown_line Sender long few in_limit d type e = other_sown Sender type refl
+  sown_line Shipment long few in_limit d type e = other_sown Shipment type refl
+  sown_line Parcel long few in_limit d type e = parcel_sown long few in_limit (d refl) type e
+  sown_line Product long few in_limit d type e = other_sown Product type refl
+  sown_line Feature long few in_limit d type e = other_sown Feature type refl
 
-  pub sown-tells : (kind : Record) → (kind ≡ Parcel → digits 22 (identcode_at s at) ≡ true) →
+  pub sown_tells : (kind : Record) → (kind ≡ Parcel → digits 22 (identcode_at s at) ≡ true) →
       is_there_for kind s tree parcels at ≡ repeats kind s starts at
   unfolding is_there_for repeats
-  sown-tells Header d = refl
-  sown-tells Sender d = refl
-  sown-tells Shipment d = refl
-  sown-tells Parcel d = sym (g.tells at (d refl))
-  sown-tells Product d = refl
-  sown-tells Feature d = refl
+  sown_tells Header d = refl
+  sown_tells Sender d = refl
+  sown_tells Shipment d = refl
+  sown_tells Parcel d = sym (g.tells at (d refl))
+  sown_tells Product d = refl
+  sown_tells Feature d = refl

@@ -7,7 +7,7 @@ use native.Mathlib.Omega.{arith}
 use lib.ListN.{length, take, drop}
 use borrow.Author.Tests.{not-false}
 use Rattle.text.specs.Choice.{if◌then◌else◌}
-use Rattle.text.proofs.Choices.{came-else}
+use Rattle.text.proofs.Choices.{came_else}
 use Rattle.refusal.specs.declared.Reason.TheVariants.{ContactMissing, IdentcodeRepeated, ListFull}
 use Rattle.refusal.specs.Table.{because}
 use Rattle.refusal.specs.declared.Refusal.{Refusal}
@@ -22,10 +22,10 @@ use Rattle.line.specs.Told.{Told}
 use Rattle.line.specs.declared.read.Line.{Line}
 use Rattle.line.specs.declared.read.LineAnswer.{LineAnswer}
 use Rattle.line.specs.declared.read.LineAnswer.TheVariants.{Accepted, Refused}
-use Rattle.line.proofs.Accepting.{text-starts, text-inside, next-least, text-is}
-use Rattle.file.proofs.Codes.{accepted-type, accepted-code}
+use Rattle.line.proofs.Accepting.{text_starts, text_inside, next_least, text_is}
+use Rattle.file.proofs.Codes.{accepted_type, accepted_code}
 use Rattle.file.proofs.Lists.{word_left}
-use Rattle.file.proofs.Sowing.{sown-line, sown-tells}
+use Rattle.file.proofs.Sowing.{sown_line, sown_tells}
 use Rattle.file.specs.Identcode.{repeats, is_there_for, grown_for, Sown, parcels_most, tree_words}
 use Rattle.file.specs.Lent.{Lent}
 use Rattle.file.specs.Contact.{contacts_behind, lacks_contact}
@@ -41,9 +41,9 @@ module _ (s : List ℕ) (lent : Lent) (starts : List ℕ) (state : State) (a : L
   unfolding step_answer
   stepped r e = e ∙ ap (λ (x : LineAnswer). on_line x s lent starts state) ea
 
-  pub line-stops : (refusal : Refusal) → a ≡ Refused refusal → Stopped refusal ≡ step_answer s lent starts state
+  pub line_stops : (refusal : Refusal) → a ≡ Refused refusal → Stopped refusal ≡ step_answer s lent starts state
   unfolding on_line
-  line-stops refusal e = stepped (Stopped refusal) (rw e)
+  line_stops refusal e = stepped (Stopped refusal) (rw e)
 
   -- the text of the line, as the code cuts it out, is the line's own
   module _ (line : Line) (el : a ≡ Accepted line) (v : Bool)
@@ -51,49 +51,49 @@ module _ (s : List ℕ) (lent : Lent) (starts : List ℕ) (state : State) (a : L
     lacks : v ≡ lacks_contact line.kind (split (text_at s state.at)) lent.countries state.contacts
     lacks =
         ev ∙ ap (λ (x : List ℕ). lacks_contact line.kind (split x) lent.countries state.contacts)
-        (text-is (told_by state) s state.at a ea line el)
+        (text_is (told_by state) s state.at a ea line el)
 
-    pub contact-stops : v ≡ true → Stopped (because ContactMissing state.at) ≡ step_answer s lent starts state
+    pub contact_stops : v ≡ true → Stopped (because ContactMissing state.at) ≡ step_answer s lent starts state
     unfolding on_line
-    contact-stops e = stepped (Stopped (because ContactMissing state.at)) (rw (el, ← lacks, e))
+    contact_stops e = stepped (Stopped (because ContactMissing state.at)) (rw (el, ← lacks, e))
 
-    pub line-listed : v ≡ false → (r : Step) → r ≡ listing s lent.words starts state line → r ≡ step_answer s lent starts state
+    pub line_listed : v ≡ false → (r : Step) → r ≡ listing s lent.words starts state line → r ≡ step_answer s lent starts state
     unfolding on_line
-    line-listed e r er = stepped r (er ∙ rw (el, ← lacks, e))
+    line_listed e r er = stepped r (er ∙ rw (el, ← lacks, e))
 
 -- an accepted line on its way into the list
 module _ (s : List ℕ) (words : ℕ) (starts : List ℕ) (state : State) (line : Line) (el : line_answer (told_by state) s state.at ≡ Accepted line)
     (codes : List ℕ) (g : Sown s starts state.parcels codes) (t : Bool)
     (et : t ≡ is_there_for line.kind s codes state.parcels state.at) where
   code_holds : line.kind ≡ Parcel → digits 22 (identcode_at s state.at) ≡ true
-  code_holds k = accepted-code (told_by state) s state.at (line_answer (told_by state) s state.at) refl line el (sound state.version) k
+  code_holds k = accepted_code (told_by state) s state.at (line_answer (told_by state) s state.at) refl line el (sound state.version) k
 
   repeated : t ≡ repeats line.kind s starts state.at
-  repeated = et ∙ sown-tells s starts state.parcels codes g state.at line.kind code_holds
+  repeated = et ∙ sown_tells s starts state.parcels codes g state.at line.kind code_holds
 
-  pub code-stops : t ≡ true → Stopped (because IdentcodeRepeated (state.at + 4)) ≡ listing s words starts state line
+  pub code_stops : t ≡ true → Stopped (because IdentcodeRepeated (state.at + 4)) ≡ listing s words starts state line
   unfolding listing
-  code-stops e = rw (← repeated, e)
+  code_stops e = rw (← repeated, e)
 
   module _ (fresh : t ≡ false) where
     module _ (u : Bool) (eu : u ≡ has_word words state.lines) where
-      pub list-stops : not u ≡ true → Stopped (because ListFull state.at) ≡ listing s words starts state line
+      pub list_stops : not u ≡ true → Stopped (because ListFull state.at) ≡ listing s words starts state line
       unfolding listing
-      list-stops h = rw (← repeated, fresh, ← eu, h)
+      list_stops h = rw (← repeated, fresh, ← eu, h)
 
-      pub line-next : not u ≡ false → (next : State) → next ≡ behind s state line → Next next ≡ listing s words starts state line
+      pub line_next : not u ≡ false → (next : State) → next ≡ behind s state line → Next next ≡ listing s words starts state line
       unfolding listing
-      line-next h next en = rw (← repeated, fresh, ← eu, h, en)
+      line_next h next en = rw (← repeated, fresh, ← eu, h, en)
 
     -- the tree behind the line
-    pub line-sown : tree_words ≤ length codes → state.parcels ≤ parcels_most → state.at ≤ file_limit → (after : List ℕ) →
+    pub line_sown : tree_words ≤ length codes → state.parcels ≤ parcels_most → state.at ≤ file_limit → (after : List ℕ) →
         after ≡ grown_for line.kind s codes state.parcels state.at →
         (now : State) → now ≡ behind s state line → (next : State) → Next now ≡ Next next →
         Sown s (starts ++ (state.at ∷ [])) next.parcels after
-    line-sown long few in_limit after ef now en next e =
+    line_sown long few in_limit after ef now en next e =
         let q : now ≡ next = cc in
-        rw (ef, ← q, en) (sown-line s starts state.parcels codes g state.at line.kind long few in_limit code_holds
-        (accepted-type (told_by state) s state.at (line_answer (told_by state) s state.at) refl line el) (sym et ∙ fresh))
+        rw (ef, ← q, en) (sown_line s starts state.parcels codes g state.at line.kind long few in_limit code_holds
+        (accepted_type (told_by state) s state.at (line_answer (told_by state) s state.at) refl line el) (sym et ∙ fresh))
 
 pub word_there : (words lines : ℕ) (u : Bool) → u ≡ has_word words lines → not u ≡ false → lines < words
 word_there words lines u eu h = word_left words lines (sym eu ∙ not-false u h)
@@ -103,16 +103,16 @@ module _ (s : List ℕ) (state : State) (line : Line) (el : line_answer (told_by
   abbrev answer : LineAnswer
   answer = line_answer (told_by state) s state.at
 
-  pub behind-starts : state.at ≤ line.next - 2
-  behind-starts = text-starts (told_by state) s state.at answer refl line el
+  pub behind_starts : state.at ≤ line.next - 2
+  behind_starts = text_starts (told_by state) s state.at answer refl line el
 
-  pub behind-inside : line.next - 2 ≤ length s
-  behind-inside = text-inside (told_by state) s state.at answer refl line el
+  pub behind_inside : line.next - 2 ≤ length s
+  behind_inside = text_inside (told_by state) s state.at answer refl line el
 
-  pub behind-least : 2 ≤ line.next
-  behind-least = next-least (told_by state) s state.at answer refl line el
+  pub behind_least : 2 ≤ line.next
+  behind_least = next_least (told_by state) s state.at answer refl line el
 
-  pub behind-is : (p c : ℕ) (b : Bool) → p ≡ parcels_in line.kind →
+  pub behind_is : (p c : ℕ) (b : Bool) → p ≡ parcels_in line.kind →
       c ≡ cash_of line.kind (split (take (line.next - 2 - state.at) (drop state.at s))) →
       b ≡ contacts_behind line.kind (split (take (line.next - 2 - state.at) (drop state.at s))) state.contacts →
       record {
@@ -124,8 +124,8 @@ module _ (s : List ℕ) (state : State) (line : Line) (el : line_answer (told_by
         due = After line.kind;
         contacts = b;
       } ≡ behind s state line
-  behind-is p c b ep ec eb =
-      let text = text-is (told_by state) s state.at answer refl line el in
+  behind_is p c b ep ec eb =
+      let text = text_is (told_by state) s state.at answer refl line el in
       let cash : c ≡ cash_of line.kind (split (text_at s state.at)) = ec ∙ ap (λ (x : List ℕ). cash_of line.kind (split x)) text in
       let both : b ≡ contacts_behind line.kind (split (text_at s state.at)) state.contacts =
       eb ∙ ap (λ (x : List ℕ). contacts_behind line.kind (split x) state.contacts) text in
@@ -155,11 +155,11 @@ went s lent starts state next e = go (line_answer (told_by state) s state.at) re
         let full = not (has_word lent.words state.lines) in
         let twice = repeats line.kind s starts state.at in
         let last : Step = if full then Stopped (because ListFull state.at) else Next (behind s state line) in
-        let v = came-else (lacks_contact line.kind (split (text_at s state.at)) lent.countries state.contacts)
+        let v = came_else (lacks_contact line.kind (split (text_at s state.at)) lent.countries state.contacts)
         (Stopped (because ContactMissing state.at)) (if twice then Stopped (because IdentcodeRepeated (state.at + 4)) else last)
         (Next next) stopped e in
-        let a = came-else twice (Stopped (because IdentcodeRepeated (state.at + 4))) last (Next next) stopped v.1 in
-        let b = came-else full (Stopped (because ListFull state.at)) (Next (behind s state line)) (Next next) stopped a.1 in
+        let a = came_else twice (Stopped (because IdentcodeRepeated (state.at + 4))) last (Next next) stopped v.1 in
+        let b = came_else full (Stopped (because ListFull state.at)) (Next (behind s state line)) (Next next) stopped a.1 in
         record {
           line = line;
           accepted = ea;

@@ -20,13 +20,13 @@ module _ (line name : List ℕ) (en : name ≡ part_at line 0) (t : Bool) (et : 
   no_header e = rw (← en, ← et, not-true t e)
 
   module _ (header : not t ≡ false) (f : List ℕ) (ef : f ≡ part_at line 6) (u : Bool) (eu : u ≡ is_version Seven f) where
-    pub header-seven : u ≡ true → Seven ≡ version_in line
+    pub header_seven : u ≡ true → Seven ≡ version_in line
     unfolding version_in
-    header-seven e = rw (← en, ← et, not-false t header, ← ef, ← eu, e)
+    header_seven e = rw (← en, ← et, not-false t header, ← ef, ← eu, e)
 
-    pub header-other : u ≡ false → Five ≡ version_in line
+    pub header_other : u ≡ false → Five ≡ version_in line
     unfolding version_in
-    header-other e = rw (← en, ← et, not-false t header, ← ef, ← eu, e)
+    header_other e = rw (← en, ← et, not-false t header, ← ef, ← eu, e)
 
 pub version_there : (file line : List ℕ) (version : Version) → line ≡ text_at file 0 → version ≡ version_in line → version ≡ version_of file
 unfolding version_of

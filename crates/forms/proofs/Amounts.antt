@@ -41,19 +41,19 @@ module _ (s : List ℕ) where
     e : t ≡ all_digits (whole s)
     e = e₀ ∙ ap all_digits front
 
-    pub whole-bad : not t ≡ true → false ≡ pointed s
+    pub whole_bad : not t ≡ true → false ≡ pointed s
     unfolding pointed
-    whole-bad q = simp (whole_long, ← e, not-true t q, and-false)
+    whole_bad q = simp (whole_long, ← e, not-true t q, and-false)
 
-    pub point-bad : not t ≡ false → (get_or s (length s - 3) 0 ≡ 46 → ⊥) → false ≡ pointed s
+    pub point_bad : not t ≡ false → (get_or s (length s - 3) 0 ≡ 46 → ⊥) → false ≡ pointed s
     unfolding pointed
-    point-bad q n = simp (whole_long, ← e, not-false t q, ne_eqb (get_or s (length s - 3) 0) 46 n, and-false)
+    point_bad q n = simp (whole_long, ← e, not-false t q, ne_eqb (get_or s (length s - 3) 0) 46 n, and-false)
 
-    pub behind-decides :
+    pub behind_decides :
         (u : Bool) → not t ≡ false → get_or s (length s - 3) 0 ≡ 46 →
         u ≡ digits 2 (take (length s - (length s - 3 + 1)) (drop (length s - 3 + 1) s)) → u ≡ pointed s
     unfolding pointed
-    behind-decides u q p f =
+    behind_decides u q p f =
         let g : u ≡ digits 2 (hundredths s) = f ∙ ap (digits 2) (behind l) in
         let least = le-leb 1 (length s - 3) (omega arith) in
         let most = le-leb (length s - 3) 6 (omega arith) in
@@ -63,21 +63,21 @@ module _ (s : List ℕ) where
   unfolding leading_zero
   single h = simp (whole_long, lt-leb 2 (length s - 3) (omega arith))
 
-  pub first-decides : 5 ≤ length s → eqb (get_or s 0 0) 48 ≡ leading_zero s
+  pub first_decides : 5 ≤ length s → eqb (get_or s 0 0) 48 ≡ leading_zero s
   unfolding leading_zero
-  first-decides h = simp (whole_long, le-leb 2 (length s - 3) (omega arith))
+  first_decides h = simp (whole_long, le-leb 2 (length s - 3) (omega arith))
 
   -- w and d are the numbers before and behind the point, as the code has them
-  pub cents-sum :
+  pub cents_sum :
       (w d : ℕ) → 4 ≤ length s → w ≡ number (take (length s - 3 - 0) (drop 0 s)) →
       d ≡ number (take (length s - (length s - 3 + 1)) (drop (length s - 3 + 1) s)) → 100 * w + d ≡ cents s
   unfolding cents
-  cents-sum w d l ew ed = rw (ew, ed, front, behind l)
+  cents_sum w d l ew ed = rw (ew, ed, front, behind l)
 
   -- what a pointed number is, taken apart
-  pub pointed-parts : pointed s ≡ true → (4 ≤ length s) × (length s ≤ 9) × (all_digits (whole s) ≡ true) × (digits 2 (hundredths s) ≡ true)
+  pub pointed_parts : pointed s ≡ true → (4 ≤ length s) × (length s ≤ 9) × (all_digits (whole s) ≡ true) × (digits 2 (hundredths s) ≡ true)
   unfolding pointed
-  pointed-parts e =
+  pointed_parts e =
       let n = length (whole s) in
       let p = eqb (get_or s (length s - 3) 0) 46 && digits 2 (hundredths s) in
       let d = all_digits (whole s) && p in
@@ -92,20 +92,20 @@ module _ (s : List ℕ) where
         and_right (eqb (get_or s (length s - 3) 0) 46) (digits 2 (hundredths s)) e₃,
       )
 
-  pub pointed-least : pointed s ≡ true → 4 ≤ length s
-  pointed-least e = (pointed-parts e).0
+  pub pointed_least : pointed s ≡ true → 4 ≤ length s
+  pointed_least e = (pointed_parts e).0
 
-  pub pointed-most : pointed s ≡ true → length s ≤ 9
-  pointed-most e = (pointed-parts e).1
+  pub pointed_most : pointed s ≡ true → length s ≤ 9
+  pointed_most e = (pointed_parts e).1
 
-  pub amount-pointed : amount s ≡ true → pointed s ≡ true
+  pub amount_pointed : amount s ≡ true → pointed s ≡ true
   unfolding amount
-  amount-pointed e = and_left (pointed s) (not (leading_zero s) && leb 1 (cents s)) e
+  amount_pointed e = and_left (pointed s) (not (leading_zero s) && leb 1 (cents s)) e
 
-  pub cents-most : amount s ≡ true → cents s ≤ 99999999
+  pub cents_most : amount s ≡ true → cents s ≤ 99999999
   unfolding cents all_digits
-  cents-most e =
-      let p = pointed-parts (amount-pointed e) in
+  cents_most e =
+      let p = pointed_parts (amount_pointed e) in
       let q = digits_parts 2 (hundredths s) p.3 in
       let w = number_few (whole s) 6 p.2 (omega (arith, whole_long, p.1)) in
       let d = number_few (hundredths s) 2 q.1 (omega (arith, q.0)) in

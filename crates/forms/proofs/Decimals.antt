@@ -15,14 +15,14 @@ pub bounded_none : Bounded 0 0
 bounded_none = omega arith
 
 module _ (n i : ℕ) (h : Bounded n i) where
-  pub bounded-on : (d : ℕ) → d ≤ 207 → Bounded (10 * n + d) (i + 1)
-  bounded-on d k = let q : 10 ^ (i + 1) ≡ 10 ^ i * 10 = rw add-one (pow-suc 10 i) in omega (arith, h, q)
+  pub bounded_on : (d : ℕ) → d ≤ 207 → Bounded (10 * n + d) (i + 1)
+  bounded_on d k = let q : 10 ^ (i + 1) ≡ 10 ^ i * 10 = rw add-one (pow-suc 10 i) in omega (arith, h, q)
 
   pub few : (m : ℕ) → i < m → m ≤ 6 → n ≤ 2300000
   few m l k = let j : i ≤ 5 = omega arith in let q : 10 ^ i ≤ 10 ^ 5 = pow-le-pow_right (omega arith) j in omega (arith, h, q)
 
-  pub tens-fit : (m : ℕ) → i < m → m ≤ 6 → Fits w32 (10 * n)
-  tens-fit m l k = omega (arith, few m l k)
+  pub tens_fit : (m : ℕ) → i < m → m ≤ 6 → Fits w32 (10 * n)
+  tens_fit m l k = omega (arith, few m l k)
 
   pub next_fits : (m d : ℕ) → i < m → m ≤ 6 → d ≤ 207 → Fits w32 (10 * n + d)
   next_fits m d l k r = omega (arith, few m l k)

@@ -20,38 +20,38 @@ pub ten_digits : (s : List ℕ) → digits 10 s ≡ true → 2 ≤ length s
 ten_digits s e = omega (arith, (digits_parts 10 s e).0)
 
 module _ (s : List ℕ) where
-  pub bic-short : (t : Bool) → length s ≡ 8 → t ≡ all symbol s → t ≡ bic s
+  pub bic_short : (t : Bool) → length s ≡ 8 → t ≡ all symbol s → t ≡ bic s
   unfolding bic
-  bic-short t e f = simp (eq-eqb (length s) 8 e) f
+  bic_short t e f = simp (eq-eqb (length s) 8 e) f
 
-  pub bic-long : (t : Bool) → (length s ≡ 8 → ⊥) → length s ≡ 11 → t ≡ all symbol s → t ≡ bic s
+  pub bic_long : (t : Bool) → (length s ≡ 8 → ⊥) → length s ≡ 11 → t ≡ all symbol s → t ≡ bic s
   unfolding bic
-  bic-long t n e f = simp (ne_eqb (length s) 8 n, eq-eqb (length s) 11 e) f
+  bic_long t n e f = simp (ne_eqb (length s) 8 n, eq-eqb (length s) 11 e) f
 
-  pub bic-other : (length s ≡ 8 → ⊥) → (length s ≡ 11 → ⊥) → false ≡ bic s
+  pub bic_other : (length s ≡ 8 → ⊥) → (length s ≡ 11 → ⊥) → false ≡ bic s
   unfolding bic
-  bic-other n m = simp (ne_eqb (length s) 8 n, ne_eqb (length s) 11 m)
+  bic_other n m = simp (ne_eqb (length s) 8 n, ne_eqb (length s) 11 m)
 
 -- n bytes are `@`
 module _ (s : List ℕ) (n : ℕ) (e : n ≡ count at_sign s) where
-  pub mail-count : (n ≡ 1 → ⊥) → false ≡ mail s
+  pub mail_count : (n ≡ 1 → ⊥) → false ≡ mail s
   unfolding mail
-  mail-count h = simp (← e, ne_eqb n 1 h)
+  mail_count h = simp (← e, ne_eqb n 1 h)
 
-  pub mail-first : n ≡ 1 → get_or s 0 0 ≡ 64 → false ≡ mail s
+  pub mail_first : n ≡ 1 → get_or s 0 0 ≡ 64 → false ≡ mail s
   unfolding mail
-  mail-first h f = simp (← e, eq-eqb n 1 h, eq-eqb (get_or s 0 0) 64 f)
+  mail_first h f = simp (← e, eq-eqb n 1 h, eq-eqb (get_or s 0 0) 64 f)
 
-  pub mail-last : n ≡ 1 → (get_or s 0 0 ≡ 64 → ⊥) → not (eqb (get_or s (length s - 1) 0) 64) ≡ mail s
+  pub mail_last : n ≡ 1 → (get_or s 0 0 ≡ 64 → ⊥) → not (eqb (get_or s (length s - 1) 0) 64) ≡ mail s
   unfolding mail
-  mail-last h f = simp (← e, eq-eqb n 1 h, ne_eqb (get_or s 0 0) 64 f)
+  mail_last h f = simp (← e, eq-eqb n 1 h, ne_eqb (get_or s 0 0) 64 f)
 
-  pub mail-some : n ≡ 1 → 0 < length s
-  mail-some h = go s (sym e ∙ h)
+  pub mail_some : n ≡ 1 → 0 < length s
+  mail_some h = go s (sym e ∙ h)
     where
       go : (s : List ℕ) → count at_sign s ≡ 1 → 0 < length s
       go [] f = absurd (omega (arith, f))
       go (b ∷ s) f = omega arith
 
-  pub mail-end : n ≡ 1 → length s - 1 < length s
-  mail-end h = omega (arith, mail-some h)
+  pub mail_end : n ≡ 1 → length s - 1 < length s
+  mail_end h = omega (arith, mail_some h)

@@ -11,7 +11,7 @@ use lib.Seq.{take-append_seam, drop_at, take_at, length-take-le}
 use borrow.Author.Tests.{le-leb, leb-true, eq-eqb, not-false}
 use Rattle.text.specs.Choice.{if◌then◌else◌}
 use Rattle.text.specs.Placed.{written}
-use Rattle.text.proofs.Choices.{and_both, came-then, came-else}
+use Rattle.text.proofs.Choices.{and_both, came_then, came_else}
 use Rattle.refusal.specs.declared.Reason.TheVariants.{FieldCount, FeatureLacks, OutputTooShort, FieldEnds}
 use Rattle.refusal.specs.Table.{because}
 use Rattle.refusal.proofs.Verdicts.{no_pass}
@@ -30,11 +30,11 @@ use Rattle.line.specs.declared.walk.Walk.{Walk}
 use Rattle.line.specs.declared.walk.Walk.TheVariants.{Fine, Stopped}
 use Rattle.line.specs.Parts.{field_no}
 use Rattle.line.specs.Render.{render}
-use Rattle.line.proofs.Passing.{Each, fine-each, each-fine}
+use Rattle.line.proofs.Passing.{Each, fine_each, each_fine}
 use Rattle.line.specs.Line.{line_answer, alone, read_answer}
 use Rattle.line.specs.Find.{field_answer, find_answer}
 use Rattle.fields.proofs.Rules.{sound}
-use Rattle.records.proofs.Versions.{under-is, under-passes}
+use Rattle.records.proofs.Versions.{under_is, under_passes}
 use Rattle.writer.specs.Write.{record_numbered, rises_to, ends_hold, fields_from, between, tested_to_write, next_number, walked, of_fields, after_walk, write_verdict}
 use Rattle.writer.specs.Write.{of_record, answer_under, write_answer, written_to, Writes}
 use Rattle.writer.specs.declared.write.WriteAnswer.{WriteAnswer}
@@ -44,7 +44,7 @@ use Rattle.writer.proofs.Walks.{test_passes, passes_test}
 use Rattle.grammar.specs.Grammar.{FieldsOk, LineOk, Reads}
 use Rattle.grammar.specs.Written.{in_one, ends_from, Writable, ReadsBack}
 use Rattle.grammar.proofs.Needs.{lacks_not}
-use Rattle.grammar.proofs.Fields.{good-field, field-good}
+use Rattle.grammar.proofs.Fields.{good_field, field_good}
 use Rattle.grammar.proofs.Sizes.{render_reads, render_accepted}
 use Rattle.grammar.proofs.Finding.{found, field_exactly}
 
@@ -53,12 +53,12 @@ pub walked_fields : (rows : List Row) (n : ℕ) (beside : List ℕ) (fs : List (
 walked_fields rows n beside [] g = tt
 walked_fields rows n beside (f ∷ fs) g =
     let p = test_passes rows n beside f g.0 in
-    (good-field rows n beside f p.1 p.0, walked_fields rows (suc n) f fs g.1)
+    (good_field rows n beside f p.1 p.0, walked_fields rows (suc n) f fs g.1)
 
 pub fields_walked : (rows : List Row) (n : ℕ) (beside : List ℕ) (fs : List (List ℕ)) → FieldsOk rows n beside fs → Each (tested_to_write rows) n beside fs
 fields_walked rows n beside [] g = tt
 fields_walked rows n beside (f ∷ fs) g =
-    (passes_test rows n beside f (field-good rows n beside f g.0) g.0.clean, fields_walked rows (suc n) f fs g.1)
+    (passes_test rows n beside f (field_good rows n beside f g.0) g.0.clean, fields_walked rows (suc n) f fs g.1)
 
 -- a line that was written could be
 module _ (rules : Rules) (number : ℕ) (text ends : List ℕ) (size fill n : ℕ) where
@@ -70,9 +70,9 @@ module _ (rules : Rules) (number : ℕ) (text ends : List ℕ) (size fill n : �
       let fits = count_fits kind (length ends) in
       let w = walked (rules kind) 1 (type_of kind) (between text ends) in
       let after = after_walk w kind (between text ends) size fill in
-      let a = came-else (not held) (Refused (because FieldEnds 0)) (if not fits then Refused (because FieldCount 0) else after)
+      let a = came_else (not held) (Refused (because FieldEnds 0)) (if not fits then Refused (because FieldCount 0) else after)
       (Written n) (no_pass write_verdict refl refl) e in
-      let b = came-else (not fits) (Refused (because FieldCount 0)) after (Written n) (no_pass write_verdict refl refl) a.1 in
+      let b = came_else (not fits) (Refused (because FieldCount 0)) after (Written n) (no_pass write_verdict refl refl) a.1 in
       go w refl (not-false held a.0) (not-false fits b.0) b.1
     where
       go :
@@ -83,9 +83,9 @@ module _ (rules : Rules) (number : ℕ) (text ends : List ℕ) (size fill n : �
       go Fine ew eh ec e =
           let line = render kind (between text ends) in
           let room = if leb (fill + length line) size then Written (length line) else Refused (because OutputTooShort 0) in
-          let a = came-else (lacks kind (type_of kind ∷ between text ends)) (Refused (because FeatureLacks 0)) room (Written n)
+          let a = came_else (lacks kind (type_of kind ∷ between text ends)) (Refused (because FeatureLacks 0)) room (Written n)
           (no_pass write_verdict refl refl) e in
-          let b = came-then (leb (fill + length line) size) (Written (length line)) (Refused (because OutputTooShort 0)) (Written n)
+          let b = came_then (leb (fill + length line) size) (Written (length line)) (Refused (because OutputTooShort 0)) (Written n)
           (no_pass write_verdict refl refl)
           a.1 in
           record {
@@ -96,7 +96,7 @@ module _ (rules : Rules) (number : ℕ) (text ends : List ℕ) (size fill n : �
               counted = ap (count_fits kind) (between_count text ends) ∙ ec;
               fields =
                   walked_fields (rules kind) 1 (type_of kind) (between text ends)
-                  (fine-each (tested_to_write (rules kind)) next_number 1 1 (type_of kind) (between text ends) ew);
+                  (fine_each (tested_to_write (rules kind)) next_number 1 1 (type_of kind) (between text ends) ew);
               served = (lacks_not kind (between text ends)).0 a.0;
             };
             fits = leb-true (fill + length line) size b.0;
@@ -111,7 +111,7 @@ module _ (rules : Rules) (number : ℕ) (text ends : List ℕ) (size fill n : �
         g.held,
         ← between_count text ends,
         g.allowed.counted,
-        each-fine (tested_to_write (rules g.kind)) next_number 1 1 (type_of g.kind) (between text ends)
+        each_fine (tested_to_write (rules g.kind)) next_number 1 1 (type_of g.kind) (between text ends)
             (fields_walked (rules g.kind) 1 (type_of g.kind) (between text ends) g.allowed.fields),
         (lacks_not g.kind (between text ends)).1 g.allowed.served,
         le-leb (fill + length (render g.kind (between text ends))) size g.fits,
@@ -164,7 +164,7 @@ pub reads_back :
     ReadsBack told version kind (between text ends) (take n (drop fill after)))))
 unfolding written_to write_answer
 reads_back told number text ends out fill n after g =
-    let u = under-passes told Refused (λ version. answer_under (profile version) number text ends (length out) fill) (Written n)
+    let u = under_passes told Refused (λ version. answer_under (profile version) number text ends (length out) fill) (Written n)
     (no_pass write_verdict refl refl) (sym g.0) in
     let w = (written_exactly (profile u.0) number text ends (length out) fill n).0 u.1.1 in
     let line = render w.kind (between text ends) in
@@ -217,7 +217,7 @@ writes_again {version = version} {s = s} {at = at} {line = line} {fs = fs} g tol
     record { kind = line.kind; known = k; held = handed_ends fs; allowed = rw e g.allowed; fits = rw e (omega (arith, n)); long = rw e }
     in
     let a : answer ≡ Written (length (render line.kind fs)) =
-    w.0 ∙ under-is told Refused (λ v. answer_under (profile v) number (in_one fs) (ends_from 0 fs) (length out) fill) version et
+    w.0 ∙ under_is told Refused (λ v. answer_under (profile v) number (in_one fs) (ends_from 0 fs) (length out) fill) version et
     ∙ (written_exactly (profile version) number (in_one fs) (ends_from 0 fs) (length out) fill (length (render line.kind fs))).1 u in
     let own : take (line.next - at) (drop at s) ≡ render line.kind fs =
     rw g.stands (take_at (render line.kind fs) g.rest (line.next - at) (sym n)) in

@@ -11,40 +11,40 @@ use Rattle.text.proofs.Numbers.{eq_or_ne}
 use Rattle.fields.specs.Profile.{is_required, has_form, Row, width_of}
 use Rattle.fields.specs.Field.{tested}
 use Rattle.fields.specs.declared.field.Tested.TheVariants.{Good}
-use Rattle.fields.proofs.Tests.{empty-good, form-good, good_passed}
+use Rattle.fields.proofs.Tests.{empty_good, form_good, good_passed}
 use Rattle.line.specs.Render.{plain, all_in}
 use Rattle.line.proofs.Passing.{Each}
 use Rattle.grammar.specs.Grammar.{FieldOk, FieldsOk}
 
 module _ (rows : List Row) (n : ℕ) (beside f : List ℕ) where
-  pub good-field : all plain f ≡ true → tested rows n beside f ≡ Good → FieldOk rows n beside f
-  good-field p e =
+  pub good_field : all plain f ≡ true → tested rows n beside f ≡ Good → FieldOk rows n beside f
+  good_field p e =
       let g = good_passed rows n beside f e in
       record { clean = p; fits = g.fits; filled = g.filled; formed = g.formed }
 
-  pub field-good : FieldOk rows n beside f → tested rows n beside f ≡ Good
-  field-good g =
+  pub field_good : FieldOk rows n beside f → tested rows n beside f ≡ Good
+  field_good g =
       ⊎_elim
       (λ (z : length f ≡ 0). ⊎_elim (λ (r : is_required rows n ≡ true). absurd (g.filled r z))
-      (λ r. sym (empty-good rows n beside f z (is_required rows n) refl r))
+      (λ r. sym (empty_good rows n beside f z (is_required rows n) refl r))
       (true_or_false (is_required rows n)))
-      (λ z. sym (form-good rows n beside f (width_of rows n beside) refl g.fits z (has_form rows n beside f) refl (g.formed z)))
+      (λ z. sym (form_good rows n beside f (width_of rows n beside) refl g.fits z (has_form rows n beside f) refl (g.formed z)))
       (eq_or_ne (length f) 0)
 
 module _ (rows : List Row) where
-  pub each-fields : (n : ℕ) (beside : List ℕ) (fs : List (List ℕ)) → all_in plain fs ≡ true → Each (tested rows) n beside fs →
+  pub each_fields : (n : ℕ) (beside : List ℕ) (fs : List (List ℕ)) → all_in plain fs ≡ true → Each (tested rows) n beside fs →
       FieldsOk rows n beside fs
-  each-fields n beside [] p e = tt
-  each-fields n beside (f ∷ fs) p e = (
-    good-field rows n beside f (and_left (all plain f) (all_in plain fs) p) e.0,
-    each-fields (suc n) f fs (and_right (all plain f) (all_in plain fs) p) e.1,
+  each_fields n beside [] p e = tt
+  each_fields n beside (f ∷ fs) p e = (
+    good_field rows n beside f (and_left (all plain f) (all_in plain fs) p) e.0,
+    each_fields (suc n) f fs (and_right (all plain f) (all_in plain fs) p) e.1,
   )
 
-  pub fields-each : (n : ℕ) (beside : List ℕ) (fs : List (List ℕ)) → FieldsOk rows n beside fs → Each (tested rows) n beside fs
-  fields-each n beside [] g = tt
-  fields-each n beside (f ∷ fs) g = (field-good rows n beside f g.0, fields-each (suc n) f fs g.1)
+  pub fields_each : (n : ℕ) (beside : List ℕ) (fs : List (List ℕ)) → FieldsOk rows n beside fs → Each (tested rows) n beside fs
+  fields_each n beside [] g = tt
+  fields_each n beside (f ∷ fs) g = (field_good rows n beside f g.0, fields_each (suc n) f fs g.1)
 
   -- the bytes of the fields
-  pub fields-plain : (n : ℕ) (beside : List ℕ) (fs : List (List ℕ)) → FieldsOk rows n beside fs → all_in plain fs ≡ true
-  fields-plain n beside [] g = refl
-  fields-plain n beside (f ∷ fs) g = and_both (all plain f) (all_in plain fs) g.0.clean (fields-plain (suc n) f fs g.1)
+  pub fields_plain : (n : ℕ) (beside : List ℕ) (fs : List (List ℕ)) → FieldsOk rows n beside fs → all_in plain fs ≡ true
+  fields_plain n beside [] g = refl
+  fields_plain n beside (f ∷ fs) g = and_both (all plain f) (all_in plain fs) g.0.clean (fields_plain (suc n) f fs g.1)

@@ -26,7 +26,7 @@ use Rattle.line.specs.declared.read.LineAnswer.{LineAnswer}
 use Rattle.line.specs.declared.read.LineAnswer.TheVariants.{Accepted, Refused}
 use Rattle.line.specs.declared.find.FieldAnswer.TheVariants.{Found, Refused}
 use Rattle.grammar.specs.Grammar.{Reads, FieldStands, StandsInLine}
-use Rattle.grammar.proofs.Lines.{accepted_reads, reads-accepted, reads_alone, read-parts, read-field}
+use Rattle.grammar.proofs.Lines.{accepted_reads, reads_accepted, reads_alone, read_parts, read_field}
 
 -- the bytes in front of a field
 start_joined : (fs : List (List ℕ)) (m : ℕ) → start_in fs m ≡ length (joined (take m fs))
@@ -53,7 +53,7 @@ module _ {told : Told} {s : List ℕ} {at : ℕ} {line : Line} {fs : List (List 
 
   start_is : (n m : ℕ) → n ≡ suc m → start_of (text_at s at) n ≡ length (front m)
   start_is n m e =
-      rw (e, read-parts g)
+      rw (e, read_parts g)
       (omega (
         arith,
         start_joined fs m,
@@ -62,7 +62,7 @@ module _ {told : Told} {s : List ℕ} {at : ℕ} {line : Line} {fs : List (List 
       ))
 
   accepted : line_answer (alone told.rules) s at ≡ Accepted line
-  accepted = reads-accepted (reads_alone g)
+  accepted = reads_accepted (reads_alone g)
 
   there : (m : ℕ) → m < length fs → take (length (get_or fs m [])) (drop (at + length (front m)) s) ≡ get_or fs m []
   there m h =
@@ -79,13 +79,13 @@ module _ {told : Told} {s : List ℕ} {at : ℕ} {line : Line} {fs : List (List 
           ne_eqb n 0 (λ z. omega arith),
           le-ltb line.count n (omega (arith, g.count)),
           start_is n (n - 1) (omega arith),
-          read-field g n h,
+          read_field g n h,
         )
 
     -- a number that no field has is 15 at 0
-    pub field-not-there : (1 ≤ n → n ≤ length fs → ⊥) → field_answer told.rules s at n ≡ Refused (because NotThere 0)
+    pub field_not_there : (1 ≤ n → n ≤ length fs → ⊥) → field_answer told.rules s at n ≡ Refused (because NotThere 0)
     unfolding field_answer in_line
-    field-not-there h =
+    field_not_there h =
         ⊎_elim
         (λ (l : 1 ≤ n). ⊎_elim (λ (m : n ≤ length fs). absurd (h l m))
         (λ m. simp (accepted, ne_eqb n 0 (λ z. omega arith), lt-ltb line.count n (omega (arith, g.count)))) (le_or_lt n
@@ -94,12 +94,12 @@ module _ {told : Told} {s : List ℕ} {at : ℕ} {line : Line} {fs : List (List 
         (le_or_lt 1 n)
 
     module _ (start long : ℕ) where
-      found-finds : field_answer told.rules s at n ≡ Found start long → FieldStands line.kind fs s at n start long
-      found-finds e =
+      found_finds : field_answer told.rules s at n ≡ Found start long → FieldStands line.kind fs s at n start long
+      found_finds e =
           ⊎_elim
           (λ (l : 1 ≤ n). ⊎_elim (λ (m : n ≤ length fs). go l m (sym (found l m) ∙ e))
-          (λ m. absurd (no_pass field_verdict refl refl (sym (field-not-there (λ x y. omega arith)) ∙ e))) (le_or_lt n (length fs)))
-          (λ l. absurd (no_pass field_verdict refl refl (sym (field-not-there (λ x y. omega arith)) ∙ e)))
+          (λ m. absurd (no_pass field_verdict refl refl (sym (field_not_there (λ x y. omega arith)) ∙ e))) (le_or_lt n (length fs)))
+          (λ l. absurd (no_pass field_verdict refl refl (sym (field_not_there (λ x y. omega arith)) ∙ e)))
           (le_or_lt 1 n)
         where
           go : 1 ≤ n → n ≤ length fs → Found (at + length (front (n - 1))) (length (field_no fs n)) ≡ Found start long →
@@ -109,12 +109,12 @@ module _ {told : Told} {s : List ℕ} {at : ℕ} {line : Line} {fs : List (List 
               let b : long ≡ length (field_no fs n) = cc in
               record { first = l; last = m; starts = a; measures = b; there = rw (a, b) (there (n - 1) (omega arith)) }
 
-      finds-found : FieldStands line.kind fs s at n start long → field_answer told.rules s at n ≡ Found start long
-      finds-found f = found f.first f.last ∙ rw (f.starts, f.measures)
+      finds_found : FieldStands line.kind fs s at n start long → field_answer told.rules s at n ≡ Found start long
+      finds_found f = found f.first f.last ∙ rw (f.starts, f.measures)
 
       -- a field of an accepted line is found exactly where it stands
       pub field_exactly : (field_answer told.rules s at n ≡ Found start long) ↔ FieldStands line.kind fs s at n start long
-      field_exactly = (found-finds, finds-found)
+      field_exactly = (found_finds, finds_found)
 
 -- "hands its refusal on"
 pub field_refused : (rules : Rules) (s : List ℕ) (at n : ℕ) (refusal : Refusal) → line_answer (alone rules) s at ≡ Refused refusal →
@@ -126,9 +126,9 @@ field_refused rules s at n refusal e = rw e
 pub found_exactly :
     (rules : Rules) (s : List ℕ) (at n start long : ℕ) → (field_answer rules s at n ≡ Found start long) ↔
     StandsInLine rules s at n start long
-found_exactly rules s at n start long = (λ e. go (line_answer (alone rules) s at) refl e, λ g. finds-found g.1.1.0 n start long g.1.1.1)
+found_exactly rules s at n start long = (λ e. go (line_answer (alone rules) s at) refl e, λ g. finds_found g.1.1.0 n start long g.1.1.1)
   where
     go : (a : LineAnswer) → line_answer (alone rules) s at ≡ a → field_answer rules s at n ≡ Found start long →
         StandsInLine rules s at n start long
     go (Refused refusal) q e = absurd (no_pass field_verdict refl refl (sym (field_refused rules s at n refusal q) ∙ e))
-    go (Accepted line) q e = let g = accepted_reads (alone rules) s at line q in (line, (fields_of (text_at s at), (g, found-finds g n start long e)))
+    go (Accepted line) q e = let g = accepted_reads (alone rules) s at line q in (line, (fields_of (text_at s at), (g, found_finds g n start long e)))

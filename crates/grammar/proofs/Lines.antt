@@ -11,7 +11,7 @@ use borrow.Author.Tests.{le-ltb}
 use Rattle.text.specs.Byte.{text_byte}
 use Rattle.text.specs.Quoted.{bytes}
 use Rattle.text.specs.Scan.{all}
-use Rattle.text.proofs.Runs.{run-once}
+use Rattle.text.proofs.Runs.{run_once}
 use Rattle.forms.specs.Shape.{digits}
 use Rattle.records.specs.Record.{type_of, may_come}
 use Rattle.fields.specs.Profile.{Rules}
@@ -26,10 +26,10 @@ use Rattle.line.specs.Told.{Told}
 use Rattle.line.specs.declared.read.Line.{Line}
 use Rattle.line.specs.declared.read.LineAnswer.TheVariants.{Accepted}
 use Rattle.line.proofs.Plain.{render_long}
-use Rattle.line.proofs.Ends.{ended, ends-well, text-there}
+use Rattle.line.proofs.Ends.{ended, ends_well_lem, text_there}
 use Rattle.line.proofs.Accepting.{line_ok, text_written, line_stands}
 use Rattle.grammar.specs.Grammar.{LineOk, Reads}
-use Rattle.grammar.proofs.Texts.{text-split, text-bytes, text-accepted, text-allowed}
+use Rattle.grammar.proofs.Texts.{text_split, text_bytes, text_accepted, text_allowed}
 
 -- an accepted line stands there
 pub accepted_reads : (told : Told) (s : List ℕ) (at : ℕ) (line : Line) → line_answer told s at ≡ Accepted line →
@@ -41,7 +41,7 @@ accepted_reads told s at line e =
     record {
       in_limit = g.short;
       comes = g.text.comes;
-      allowed = text-allowed told at text line d.text g.text;
+      allowed = text_allowed told at text line d.text g.text;
       rest = d.rest;
       stands = line_stands told s at line g;
       count = g.text.counted;
@@ -55,56 +55,56 @@ module _ {told : Told} {s : List ℕ} {at : ℕ} {line : Line} {fs : List (List 
   long = sym (length-drop at s) ∙ ap length g.stands ∙ length-append (render line.kind fs) g.rest ∙ rw
       (render_long line.kind fs)
 
-  text-long : 3 ≤ length (text_of line.kind fs)
-  text-long = omega (arith, length-append (type_of line.kind) (joined fs), type_long line.kind)
+  text_long : 3 ≤ length (text_of line.kind fs)
+  text_long = omega (arith, length-append (type_of line.kind) (joined fs), type_long line.kind)
 
-  pub read-inside : at ≤ length s
-  read-inside = omega (arith, long)
+  pub read_inside : at ≤ length s
+  read_inside = omega (arith, long)
 
-  pub next-inside : line.next ≤ length s
-  next-inside = omega (arith, long, g.next, render_long line.kind fs)
+  pub next_inside : line.next ≤ length s
+  next_inside = omega (arith, long, g.next, render_long line.kind fs)
 
-  pub next-far : at + 5 ≤ line.next
-  next-far = omega (arith, text-long, g.next, render_long line.kind fs)
+  pub next_far : at + 5 ≤ line.next
+  next_far = omega (arith, text_long, g.next, render_long line.kind fs)
 
-  pub rest-is : g.rest ≡ drop line.next s
-  rest-is = sym (rw (
+  pub rest_is : g.rest ≡ drop line.next s
+  rest_is = sym (rw (
     g.next,
     ← drop-drop (length (render line.kind fs)) at s,
     g.stands,
   ) (drop-append_seam (render line.kind fs) g.rest))
 
   bytes_of : all text_byte (text_of line.kind fs) ≡ true
-  bytes_of = text-bytes line.kind fs g.allowed
+  bytes_of = text_bytes line.kind fs g.allowed
 
-  pub read-text : text_at s at ≡ text_of line.kind fs
-  read-text = text-there s at (text_of line.kind fs) g.rest bytes_of g.stands
+  pub read_text : text_at s at ≡ text_of line.kind fs
+  read_text = text_there s at (text_of line.kind fs) g.rest bytes_of g.stands
 
-  pub read-parts : split (text_at s at) ≡ type_of line.kind ∷ fs
-  read-parts = ap split read-text ∙ text-split line.kind fs g.allowed
+  pub read_parts : split (text_at s at) ≡ type_of line.kind ∷ fs
+  read_parts = ap split read_text ∙ text_split line.kind fs g.allowed
 
-  pub read-field : (n : ℕ) → 1 ≤ n → part_at (text_at s at) n ≡ field_no fs n
-  read-field n h = go (n - 1) (omega arith)
+  pub read_field : (n : ℕ) → 1 ≤ n → part_at (text_at s at) n ≡ field_no fs n
+  read_field n h = go (n - 1) (omega arith)
     where
       go : (m : ℕ) → n ≡ suc m → part_at (text_at s at) n ≡ get_or fs m []
-      go m e = rw (e, read-parts)
+      go m e = rw (e, read_parts)
 
-  pub reads-accepted : line_answer told s at ≡ Accepted line
+  pub reads_accepted : line_answer told s at ≡ Accepted line
   unfolding line_answer text_answer
-  reads-accepted =
+  reads_accepted =
       let n : at + length (text_of line.kind fs) + 2 ≡ line.next = omega (arith, g.next, render_long line.kind fs) in
       rw (
         le-ltb file_limit (length s) g.in_limit,
-        le-ltb (length s) at read-inside,
-        ends-well s at (text_of line.kind fs) g.rest bytes_of g.stands,
-        read-text,
+        le-ltb (length s) at read_inside,
+        ends_well_lem s at (text_of line.kind fs) g.rest bytes_of g.stands,
+        read_text,
       )
-      (text-accepted line.kind fs g.allowed told.due at g.comes ∙ rw (n, ← g.count))
+      (text_accepted line.kind fs g.allowed told.due at g.comes ∙ rw (n, ← g.count))
 
 -- a line is accepted exactly when an allowed line stands at the offset
 pub line_exactly : (told : Told) (s : List ℕ) (at : ℕ) (line : Line) → (line_answer told s at ≡ Accepted line) ↔
     ((fs : List (List ℕ)) × Reads told s at line fs)
-line_exactly told s at line = (λ e. (fields_of (text_at s at), accepted_reads told s at line e), λ g. reads-accepted g.1)
+line_exactly told s at line = (λ e. (fields_of (text_at s at), accepted_reads told s at line e), λ g. reads_accepted g.1)
 
 -- the same bytes are no other line, and no other fields
 pub one_line : {rules late : Rules} (kind other : Record) (fs gs : List (List ℕ)) (rest more : List ℕ) → LineOk rules kind fs → LineOk late other gs →
@@ -113,9 +113,9 @@ one_line kind other fs gs rest more g h e =
     let cut : text_of kind fs ++ 13 ∷ 10 ∷ rest ≡ text_of other gs ++ 13 ∷ 10 ∷ more =
     sym (append_assoc (text_of kind fs) (bytes "\r\n") rest) ∙ e ∙ append_assoc (text_of other gs) (bytes "\r\n") more
     in
-    let a = run-once text_byte (text_of kind fs) (text_of other gs) 13 13 (10 ∷ rest) (10 ∷
-    more) (text-bytes kind fs g) (text-bytes other gs h) refl refl cut in
-    let parts : type_of kind ∷ fs ≡ type_of other ∷ gs = sym (text-split kind fs g) ∙ ap split a.0 ∙ text-split other gs h in
+    let a = run_once text_byte (text_of kind fs) (text_of other gs) 13 13 (10 ∷ rest) (10 ∷
+    more) (text_bytes kind fs g) (text_bytes other gs h) refl refl cut in
+    let parts : type_of kind ∷ fs ≡ type_of other ∷ gs = sym (text_split kind fs g) ∙ ap split a.0 ∙ text_split other gs h in
     (type_tells kind other (ap (λ (l : List (List ℕ)). get_or l 0 []) parts), (ap (drop 1) parts, ap (drop 2) a.1))
 
 -- a line that stands where a record is due stands there alone too

@@ -13,7 +13,7 @@ use Rattle.text.specs.Byte.{digit}
 use Rattle.text.specs.Decimal.{number}
 use Rattle.text.specs.Quoted.{bytes}
 use Rattle.text.specs.Scan.{all, among}
-use Rattle.text.proofs.Choices.{and_left, and_right, and_both, or_cases, true_or_false, came-then, clash}
+use Rattle.text.proofs.Choices.{and_left, and_right, and_both, or_cases, true_or_false, came_then, clash}
 use Rattle.forms.specs.Shape.{all_digits, digits}
 use Rattle.forms.specs.Feature.{feature_codes, is_feature, code_of}
 use Rattle.records.specs.Record.{type_of, row_of}
@@ -67,7 +67,7 @@ coded : (f : List ℕ) (x y z n : ℕ) → digits 3 (x ∷ y ∷ z ∷ []) ≡ t
     f ≡ x ∷ y ∷ z ∷ []
 unfolding code_of is_feature
 coded f x y z n d en e =
-    let a = came-then (is_feature f) (number f) 0 (suc n) (λ w. omega arith) e in
+    let a = came_then (is_feature f) (number f) 0 (suc n) (λ w. omega arith) e in
     same_three f x y z (and_left (digits 3 f) (among (number f) feature_codes) a.0) d (a.1 ∙ sym en)
 
 module _ (name : List ℕ) (fs : List (List ℕ)) where
@@ -88,44 +88,44 @@ module _ (name : List ℕ) (fs : List (List ℕ)) where
       let long = length (get_or parts n []) in
       clash (eq-eqb long 0 (ap length (part_field n (leb-true 1 n h)) ∙ z)) (not-true (eqb long 0) e)
 
-  filled-part : (n : ℕ) → leb 1 n ≡ true → Filled (field_no fs n) → is_filled parts n ≡ true
+  filled_part : (n : ℕ) → leb 1 n ≡ true → Filled (field_no fs n) → is_filled parts n ≡ true
   unfolding is_filled
-  filled-part n h e =
+  filled_part n h e =
       let long = length (get_or parts n []) in
       ap not (ne_eqb long 0 (λ z. e (sym (ap length (part_field n (leb-true 1 n h))) ∙ z)))
 
-  pub all-filled : (ns : List ℕ) → all (leb 1) ns ≡ true → all (is_filled parts) ns ≡ true → AllFilled fs ns
-  all-filled [] h e = tt
-  all-filled (n ∷ ns) h e = (
+  pub all_filled : (ns : List ℕ) → all (leb 1) ns ≡ true → all (is_filled parts) ns ≡ true → AllFilled fs ns
+  all_filled [] h e = tt
+  all_filled (n ∷ ns) h e = (
     part_filled n (and_left (leb 1 n) (all (leb 1) ns) h) (and_left (is_filled parts n) (all (is_filled parts) ns) e),
-    all-filled ns (and_right (leb 1 n) (all (leb 1) ns) h) (and_right (is_filled parts n) (all (is_filled parts) ns) e),
+    all_filled ns (and_right (leb 1 n) (all (leb 1) ns) h) (and_right (is_filled parts n) (all (is_filled parts) ns) e),
   )
 
-  pub filled-all : (ns : List ℕ) → all (leb 1) ns ≡ true → AllFilled fs ns → all (is_filled parts) ns ≡ true
-  filled-all [] h g = refl
-  filled-all (n ∷ ns) h g =
-      and_both (is_filled parts n) (all (is_filled parts) ns) (filled-part n (and_left (leb 1 n) (all (leb 1) ns) h) g.0)
-      (filled-all ns (and_right (leb 1 n) (all (leb 1) ns) h) g.1)
+  pub filled_all : (ns : List ℕ) → all (leb 1) ns ≡ true → AllFilled fs ns → all (is_filled parts) ns ≡ true
+  filled_all [] h g = refl
+  filled_all (n ∷ ns) h g =
+      and_both (is_filled parts n) (all (is_filled parts) ns) (filled_part n (and_left (leb 1 n) (all (leb 1) ns) h) g.0)
+      (filled_all ns (and_right (leb 1 n) (all (leb 1) ns) h) g.1)
 
-  filled-either : Filled (field_no fs 9) ⊎ Filled (field_no fs 10) → (is_filled parts 9 || is_filled parts 10) ≡ true
-  filled-either (inl p) = rw (filled-part 9 refl p)
-  filled-either (inr p) = rw (filled-part 10 refl p) (or-true (is_filled parts 9))
+  filled_either : Filled (field_no fs 9) ⊎ Filled (field_no fs 10) → (is_filled parts 9 || is_filled parts 10) ≡ true
+  filled_either (inl p) = rw (filled_part 9 refl p)
+  filled_either (inr p) = rw (filled_part 10 refl p) (or-true (is_filled parts 9))
 
   -- a line with this code has what the code asks for
   by_code : is_served parts ≡ true → (c : List ℕ) → code ≡ c → serves (code_of c) parts ≡ true
   unfolding is_served
   by_code h c e = ap (λ (f : List ℕ). serves (code_of f) parts) (sym e) ∙ h
 
-  served-fields : is_served parts ≡ true → Served fs
+  served_fields : is_served parts ≡ true → Served fs
   unfolding serves code_of is_feature feature_codes digits all_digits
-  served-fields h =
+  served_fields h =
       record {
         account =
-            ⊎_elim (λ e. all-filled (3 ∷ 4 ∷ 5 ∷ 6 ∷ 7 ∷ []) refl (by_code h (bytes "006") e))
-            (⊎_elim (λ e. all-filled (3 ∷ 4 ∷ 5 ∷ 6 ∷ 7 ∷ []) refl (by_code h (bytes "022") e)) absurd);
+            ⊎_elim (λ e. all_filled (3 ∷ 4 ∷ 5 ∷ 6 ∷ 7 ∷ []) refl (by_code h (bytes "006") e))
+            (⊎_elim (λ e. all_filled (3 ∷ 4 ∷ 5 ∷ 6 ∷ 7 ∷ []) refl (by_code h (bytes "022") e)) absurd);
         cash =
-            ⊎_elim (λ e. all-filled (3 ∷ 4 ∷ []) refl (by_code h (bytes "011") e))
-            (⊎_elim (λ e. all-filled (3 ∷ 4 ∷ []) refl (by_code h (bytes "063") e)) absurd);
+            ⊎_elim (λ e. all_filled (3 ∷ 4 ∷ []) refl (by_code h (bytes "011") e))
+            (⊎_elim (λ e. all_filled (3 ∷ 4 ∷ []) refl (by_code h (bytes "063") e)) absurd);
         contact =
             ⊎_elim
             (λ e. ⊎_elim (λ p. inl (part_filled 9 refl p)) (λ p. inr (part_filled 10 refl p))
@@ -133,15 +133,15 @@ module _ (name : List ℕ) (fs : List (List ℕ)) where
             absurd;
       }
 
-  either-of : (m n : ℕ) → among (code_of code) (m ∷ n ∷ []) ≡ true → (code_of code ≡ m) ⊎ (code_of code ≡ n)
-  either-of m n e =
+  either_of : (m n : ℕ) → among (code_of code) (m ∷ n ∷ []) ≡ true → (code_of code ≡ m) ⊎ (code_of code ≡ n)
+  either_of m n e =
       ⊎_elim (λ p. inl (eqb-true (code_of code) m p))
       (λ p. inr (⊎_elim (λ q. eqb-true (code_of code) n q) (λ q. clash q refl) (or_cases (eqb (code_of code) n) false p)))
       (or_cases (eqb (code_of code) m) (eqb (code_of code) n || false) e)
 
-  fields-served : Served fs → is_served parts ≡ true
+  fields_served : Served fs → is_served parts ≡ true
   unfolding is_served serves digits all_digits
-  fields-served g = go (among (code_of code) (6 ∷ 22 ∷ [])) (among (code_of code) (11 ∷ 63 ∷ [])) (eqb (code_of code) 54) refl refl refl
+  fields_served g = go (among (code_of code) (6 ∷ 22 ∷ [])) (among (code_of code) (11 ∷ 63 ∷ [])) (eqb (code_of code) 54) refl refl refl
     where
       go : (t u v : Bool) → among (code_of code) (6 ∷ 22 ∷ []) ≡ t → among (code_of code) (11 ∷ 63 ∷ []) ≡ u → eqb (code_of code) 54 ≡ v →
           (if t then all (is_filled parts) (3 ∷ 4 ∷ 5 ∷ 6 ∷ 7 ∷ [])
@@ -149,14 +149,14 @@ module _ (name : List ℕ) (fs : List (List ℕ)) where
           else if v then (is_filled parts 9 || is_filled parts 10)
           else true) ≡ true
       go true u v et eu ev =
-          filled-all (3 ∷ 4 ∷ 5 ∷ 6 ∷ 7 ∷ []) refl
+          filled_all (3 ∷ 4 ∷ 5 ∷ 6 ∷ 7 ∷ []) refl
           (g.account (⊎_elim (λ e. inl (coded code 48 48 54 5 refl refl e)) (λ e. inr (inl (coded code 48 50 50 21 refl refl e)))
-          (either-of 6 22 et)))
+          (either_of 6 22 et)))
       go false true v et eu ev =
-          filled-all (3 ∷ 4 ∷ []) refl
+          filled_all (3 ∷ 4 ∷ []) refl
           (g.cash (⊎_elim (λ e. inl (coded code 48 49 49 10 refl refl e)) (λ e. inr (inl (coded code 48 54 51 62 refl refl e)))
-          (either-of 11 63 eu)))
-      go false false true et eu ev = filled-either (g.contact (inl (coded code 48 53 52 53 refl refl (eqb-true (code_of code) 54 ev))))
+          (either_of 11 63 eu)))
+      go false false true et eu ev = filled_either (g.contact (inl (coded code 48 53 52 53 refl refl (eqb-true (code_of code) 54 ev))))
       go false false false et eu ev = refl
 
 -- of every record
@@ -172,8 +172,8 @@ lacks_not Shipment fs = (λ e. other Shipment (omega arith), λ g. refl)
 lacks_not Parcel fs = (λ e. other Parcel (omega arith), λ g. refl)
 lacks_not Product fs = (λ e. other Product (omega arith), λ g. refl)
 lacks_not Feature fs = (
-  λ e k. served-fields (type_of Feature) fs (not-false (is_served (type_of Feature ∷ fs)) e),
-  λ g. ap not (fields-served (type_of Feature) fs (g refl)),
+  λ e k. served_fields (type_of Feature) fs (not-false (is_served (type_of Feature ∷ fs)) e),
+  λ g. ap not (fields_served (type_of Feature) fs (g refl)),
 )
 
 -- a feature lacks something exactly when it has not what it needs

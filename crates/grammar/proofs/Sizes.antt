@@ -16,16 +16,16 @@ use Rattle.line.specs.Render.{joined, render}
 use Rattle.line.specs.Line.{line_answer, alone}
 use Rattle.line.specs.declared.read.LineAnswer.TheVariants.{Accepted}
 use Rattle.line.proofs.Plain.{render_long}
-use Rattle.line.proofs.Passing.{each-le}
+use Rattle.line.proofs.Passing.{each_le}
 use Rattle.grammar.specs.Grammar.{FieldsOk, LineOk, Reads}
-use Rattle.grammar.proofs.Fields.{fields-each}
-use Rattle.grammar.proofs.Lines.{reads-accepted}
+use Rattle.grammar.proofs.Fields.{fields_each}
+use Rattle.grammar.proofs.Lines.{reads_accepted}
 
 pub fields_le : (rows : List Row) (n : ℕ) (beside : List ℕ) (fs : List (List ℕ)) → within rows ≡ true → FieldsOk rows n beside fs →
     length (joined fs) ≤ 101 * length fs
 fields_le rows n beside fs w g =
-    each-le (tested rows) (λ m b f e. omega (arith, (good_passed rows m b f e).fits, width_le rows m b w)) n beside fs
-    (fields-each rows n beside fs g)
+    each_le (tested rows) (λ m b f e. omega (arith, (good_passed rows m b f e).fits, width_le rows m b w)) n beside fs
+    (fields_each rows n beside fs g)
 
 pub render_le : {rules : Rules} → Sound rules → (kind : Record) (fs : List (List ℕ)) → LineOk rules kind fs → length (render kind fs) ≤ 4045
 render_le {rules = rules} w kind fs g =
@@ -55,4 +55,4 @@ render_reads {rules = rules} w kind fs g =
 
 pub render_accepted : {rules : Rules} → Sound rules → (kind : Record) (fs : List (List ℕ)) → LineOk rules kind fs →
     line_answer (alone rules) (render kind fs) 0 ≡ Accepted (record { kind = kind; count = length fs; next = length (render kind fs) })
-render_accepted {rules = rules} w kind fs g = reads-accepted (render_reads w kind fs g)
+render_accepted {rules = rules} w kind fs g = reads_accepted (render_reads w kind fs g)

@@ -22,36 +22,36 @@ use Rattle.line.specs.Line.{after_walk, of_kind, of_named, of_text}
 use Rattle.line.specs.declared.read.Line.{Line}
 use Rattle.line.specs.declared.read.LineAnswer.TheVariants.{Accepted}
 use Rattle.line.proofs.Splits.{split_some}
-use Rattle.line.proofs.Plain.{split_plain, plain-split, plain-bytes}
-use Rattle.line.proofs.Passing.{fine-each, each-fine}
+use Rattle.line.proofs.Plain.{split_plain, plain_split, plain_bytes}
+use Rattle.line.proofs.Passing.{fine_each, each_fine}
 use Rattle.line.proofs.Accepting.{TextOk}
 use Rattle.grammar.specs.Grammar.{LineOk}
 use Rattle.grammar.proofs.Needs.{lacks_not}
-use Rattle.grammar.proofs.Fields.{each-fields, fields-each, fields-plain}
+use Rattle.grammar.proofs.Fields.{each_fields, fields_each, fields_plain}
 
 -- the text of an allowed line
 module _ {rules : Rules} (kind : Record) (fs : List (List ℕ)) (g : LineOk rules kind fs) where
   clean : all_in plain fs ≡ true
-  clean = fields-plain (rules kind) 1 (type_of kind) fs g.fields
+  clean = fields_plain (rules kind) 1 (type_of kind) fs g.fields
 
-  pub text-split : split (text_of kind fs) ≡ type_of kind ∷ fs
-  text-split = plain-split kind fs clean
+  pub text_split : split (text_of kind fs) ≡ type_of kind ∷ fs
+  text_split = plain_split kind fs clean
 
-  pub text-bytes : all text_byte (text_of kind fs) ≡ true
-  text-bytes = plain-bytes kind fs clean
+  pub text_bytes : all text_byte (text_of kind fs) ≡ true
+  text_bytes = plain_bytes kind fs clean
 
-  pub text-accepted : (due : Due) (at : ℕ) → may_come due kind ≡ true →
+  pub text_accepted : (due : Due) (at : ℕ) → may_come due kind ≡ true →
       of_text (record { rules = rules; due = due }) at (text_of kind fs) ≡
       Accepted (record { kind = kind; count = length fs; next = at + length (text_of kind fs) + 2 })
   unfolding of_text of_named of_kind after_walk
-  text-accepted due at m =
+  text_accepted due at m =
       simp (
-        text-split,
+        text_split,
         type_named kind,
         m,
         g.counted,
-        each-fine (tested (rules kind)) behind 1 (at + length (type_of kind) + 1) (type_of kind) fs
-            (fields-each (rules kind) 1 (type_of kind) fs g.fields),
+        each_fine (tested (rules kind)) behind 1 (at + length (type_of kind) + 1) (type_of kind) fs
+            (fields_each (rules kind) 1 (type_of kind) fs g.fields),
         (lacks_not kind fs).1 g.served,
       )
 
@@ -60,11 +60,11 @@ module _ (told : Told) (at : ℕ) (text : List ℕ) (line : Line) (bytes : all t
   name : name_of text ≡ type_of line.kind
   name = named_type (name_of text) line.kind g.known
 
-  pub text-allowed : LineOk told.rules line.kind (fields_of text)
-  text-allowed =
+  pub text_allowed : LineOk told.rules line.kind (fields_of text)
+  text_allowed =
       let clean : all_in plain (name_of text ∷ fields_of text) ≡ true = ap (all_in plain) (sym (split_some text)) ∙ split_plain text bytes in
-      let each = fine-each (tested (told.rules line.kind)) behind 1 (at + length (name_of text) + 1) (name_of text) (fields_of text) g.walks in
-      let fields = each-fields (told.rules line.kind) 1 (name_of text) (fields_of text)
+      let each = fine_each (tested (told.rules line.kind)) behind 1 (at + length (name_of text) + 1) (name_of text) (fields_of text) g.walks in
+      let fields = each_fields (told.rules line.kind) 1 (name_of text) (fields_of text)
       (and_right (all plain (name_of text)) (all_in plain (fields_of text)) clean) each in
       record {
         counted = g.fits;

@@ -35,8 +35,8 @@ module _ (s tree : List ℕ) (parcels at : ℕ) (room : has_room tree parcels at
   unfolding code_answer
   chosen = rw room
 
-  pub answer-tells : (t : Bool) → code_answer s tree parcels at ≡ (if t then Known else New) → t ≡ is_there s tree parcels at
-  answer-tells t e = go t (is_there s tree parcels at) (sym chosen ∙ e)
+  pub answer_tells : (t : Bool) → code_answer s tree parcels at ≡ (if t then Known else New) → t ≡ is_there s tree parcels at
+  answer_tells t e = go t (is_there s tree parcels at) (sym chosen ∙ e)
     where
       go : (t u : Bool) → (if u then Known else New) ≡ (if t then Known else New) → t ≡ u
       go true true e = refl
@@ -44,13 +44,13 @@ module _ (s tree : List ℕ) (parcels at : ℕ) (room : has_room tree parcels at
       go false true e = let z : ◌≡◌ {A = ℕ} 0 1 = cc in absurd (omega arith)
       go false false e = refl
 
-  pub room-answers : code_answer s tree parcels at ≡ NoRoom → ⊥
-  room-answers e = go (is_there s tree parcels at) (sym chosen ∙ e)
+  pub room_answers : code_answer s tree parcels at ≡ NoRoom → ⊥
+  room_answers e = go (is_there s tree parcels at) (sym chosen ∙ e)
     where
       go : (t : Bool) → (if t then Known else New) ≡ NoRoom → ⊥
       go true e = let z : ◌≡◌ {A = ℕ} 0 1 = cc in omega arith
       go false e = let z : ◌≡◌ {A = ℕ} 0 1 = cc in omega arith
 
-  pub room-grows : tree_after s tree parcels at ≡ grown s tree parcels at
+  pub room_grows : tree_after s tree parcels at ≡ grown s tree parcels at
   unfolding tree_after
-  room-grows = rw room
+  room_grows = rw room

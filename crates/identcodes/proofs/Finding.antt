@@ -19,20 +19,20 @@ store_past l i v h = sym (set_out l i v h)
 
 -- room for one parcel more
 module _ (tree : List ℕ) (parcels at : ℕ) where
-  pub offset-large : 65536 ≤ at → false ≡ has_room tree parcels at
+  pub offset_large : 65536 ≤ at → false ≡ has_room tree parcels at
   unfolding has_room
-  offset-large h = rw (le-ltb at 65536 h)
+  offset_large h = rw (le-ltb at 65536 h)
 
   module _ (h : at < 65536) where
-    pub parcels-many : 32768 ≤ parcels → false ≡ has_room tree parcels at
+    pub parcels_many : 32768 ≤ parcels → false ≡ has_room tree parcels at
     unfolding has_room
-    parcels-many m =
+    parcels_many m =
         let over : 65536 < words_of (parcels + 1) = omega arith in
         rw (lt-ltb at 65536 h, lt-leb (words_of (parcels + 1)) 65536 over)
 
-    pub row-long : parcels < 32768 → ltb (2 * parcels) (length tree) ≡ has_room tree parcels at
+    pub row_long : parcels < 32768 → ltb (2 * parcels) (length tree) ≡ has_room tree parcels at
     unfolding has_room
-    row-long f =
+    row_long f =
         let under : words_of (parcels + 1) ≤ 65536 = omega arith in
         let words : suc (2 * parcels) ≡ words_of (parcels + 1) = omega arith in
         rw (lt-ltb at 65536 h, le-leb (words_of (parcels + 1)) 65536 under) (ap (λ (n : ℕ). leb n (length tree)) words)
@@ -43,66 +43,66 @@ module _ (s tree : List ℕ) (parcels at : ℕ) (t : Bool) (et : t ≡ has_room 
   unfolding code_answer
   no_room e = rw (← et, not-true t e)
 
-  pub none-grows : not t ≡ true → tree ≡ tree_after s tree parcels at
+  pub none_grows : not t ≡ true → tree ≡ tree_after s tree parcels at
   unfolding tree_after
-  none-grows e = rw (← et, not-true t e)
+  none_grows e = rw (← et, not-true t e)
 
   module _ (room : not t ≡ false) where
-    pub parcels-few : parcels < 32768
-    parcels-few = omega (arith, room_parts tree parcels at (sym et ∙ not-false t room))
+    pub parcels_few : parcels < 32768
+    parcels_few = omega (arith, room_parts tree parcels at (sym et ∙ not-false t room))
 
-    pub offset-small : at < 65536
-    offset-small = (room_parts tree parcels at (sym et ∙ not-false t room)).0
+    pub offset_small : at < 65536
+    offset_small = (room_parts tree parcels at (sym et ∙ not-false t room)).0
 
     module _ (u : Bool) (eu : u ≡ is_there s tree parcels at) where
-      pub answer-known : u ≡ true → Known ≡ code_answer s tree parcels at
+      pub answer_known : u ≡ true → Known ≡ code_answer s tree parcels at
       unfolding code_answer
-      answer-known e = rw (← et, not-false t room, ← eu, e)
+      answer_known e = rw (← et, not-false t room, ← eu, e)
 
-      pub answer-new : u ≡ false → New ≡ code_answer s tree parcels at
+      pub answer_new : u ≡ false → New ≡ code_answer s tree parcels at
       unfolding code_answer
-      answer-new e = rw (← et, not-false t room, ← eu, e)
+      answer_new e = rw (← et, not-false t room, ← eu, e)
 
-    pub tree-after : (after : List ℕ) → after ≡ grown s tree parcels at → after ≡ tree_after s tree parcels at
+    pub tree_after_lem : (after : List ℕ) → after ≡ grown s tree parcels at → after ≡ tree_after s tree parcels at
     unfolding tree_after
-    tree-after after e = rw (← et, not-false t room) e
+    tree_after_lem after e = rw (← et, not-false t room) e
 
 -- the code looked for
 module _ (s tree : List ℕ) (parcels at : ℕ) where
   module _ (none : parcels ≡ 0) where
-    pub first-new : false ≡ is_there s tree parcels at
+    pub first_new : false ≡ is_there s tree parcels at
     unfolding is_there
-    first-new = rw (eq-eqb parcels 0 none)
+    first_new = rw (eq-eqb parcels 0 none)
 
-    pub first-kept : (after : List ℕ) → after ≡ set tree 0 at → after ≡ grown s tree parcels at
+    pub first_kept : (after : List ℕ) → after ≡ set tree 0 at → after ≡ grown s tree parcels at
     unfolding grown
-    first-kept after e = rw (eq-eqb parcels 0 none) e
+    first_kept after e = rw (eq-eqb parcels 0 none) e
 
   module _ (some : parcels ≡ 0 → ⊥) (code : List ℕ) (ec : code ≡ take 22 (drop (at + 4) s)) (slot : ℕ)
       (es : slot ≡ slot_from (2 * parcels - 1) tree code 0) (word : ℕ) (ew : word ≡ get_or tree slot 0) (far : ℕ) (ef : far ≡ word)
       (earlier : List ℕ) (ee : earlier ≡ take 22 (drop (far + 4) s)) (digit : ℕ) (ed : digit ≡ unlike_at earlier code) where
-    leaf-is : earlier ≡ leaf_code s tree parcels (identcode_at s at)
-    leaf-is = rw (ee, ef, ew, es, ec)
+    leaf_is : earlier ≡ leaf_code s tree parcels (identcode_at s at)
+    leaf_is = rw (ee, ef, ew, es, ec)
 
     digit_is : digit ≡ unlike_at (leaf_code s tree parcels (identcode_at s at)) (identcode_at s at)
-    digit_is = ed ∙ rw (leaf-is, ec)
+    digit_is = ed ∙ rw (leaf_is, ec)
 
     module _ (h : 22 ≤ digit) where
-      pub code-known : true ≡ is_there s tree parcels at
+      pub code_known : true ≡ is_there s tree parcels at
       unfolding is_there
-      code-known = rw (ne_eqb parcels 0 some, ← digit_is, le-leb 22 digit h)
+      code_known = rw (ne_eqb parcels 0 some, ← digit_is, le-leb 22 digit h)
 
-      pub tree-stays : tree ≡ grown s tree parcels at
+      pub tree_stays : tree ≡ grown s tree parcels at
       unfolding grown
-      tree-stays = rw (ne_eqb parcels 0 some, ← digit_is, le-leb 22 digit h)
+      tree_stays = rw (ne_eqb parcels 0 some, ← digit_is, le-leb 22 digit h)
 
     module _ (h : digit < 22) where
-      pub code-new : false ≡ is_there s tree parcels at
+      pub code_new : false ≡ is_there s tree parcels at
       unfolding is_there
-      code-new = rw (ne_eqb parcels 0 some, ← digit_is, lt-leb 22 digit h)
+      code_new = rw (ne_eqb parcels 0 some, ← digit_is, lt-leb 22 digit h)
 
-      pub tree-grows : (x y : ℕ) → x ≡ get_or earlier digit 0 → y ≡ get_or code digit 0 → (after : List ℕ) →
+      pub tree_grows : (x y : ℕ) → x ≡ get_or earlier digit 0 → y ≡ get_or code digit 0 → (after : List ℕ) →
           after ≡ parted tree slot (2 * parcels - 1) digit x y at → after ≡ grown s tree parcels at
       unfolding grown
-      tree-grows x y ex ey after ea =
-          ea ∙ rw (ex, ey, ne_eqb parcels 0 some, ← digit_is, lt-leb 22 digit h, ← leaf-is, ← ec, ← es)
+      tree_grows x y ex ey after ea =
+          ea ∙ rw (ex, ey, ne_eqb parcels 0 some, ← digit_is, lt-leb 22 digit h, ← leaf_is, ← ec, ← es)

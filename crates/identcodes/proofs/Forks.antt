@@ -11,31 +11,31 @@ use Rattle.text.specs.Choice.{if◌then◌else◌}
 use Rattle.identcodes.specs.Tree.{fork, digit_of, byte_of, pair_of, leads_to}
 
 module _ (digit byte pair : ℕ) (hb : byte < 256) (hp : pair < 65536) where
-  pub fork-pair : pair_of (fork digit byte pair) ≡ pair
+  pub fork_pair : pair_of (fork digit byte pair) ≡ pair
   unfolding pair_of fork
-  fork-pair = omega arith
+  fork_pair = omega arith
 
-  pub fork-byte : byte_of (fork digit byte pair) ≡ byte
+  pub fork_byte : byte_of (fork digit byte pair) ≡ byte
   unfolding byte_of fork
-  fork-byte = omega arith
+  fork_byte = omega arith
 
-  pub fork-digit : digit_of (fork digit byte pair) ≡ digit
+  pub fork_digit : digit_of (fork digit byte pair) ≡ digit
   unfolding digit_of fork
-  fork-digit = omega arith
+  fork_digit = omega arith
 
-  pub fork-is : 1 ≤ byte → 65536 ≤ fork digit byte pair
+  pub fork_is : 1 ≤ byte → 65536 ≤ fork digit byte pair
   unfolding fork
-  fork-is h = omega arith
+  fork_is h = omega arith
 
 -- where a fork leads, as the code finds it
 module _ (fork word asked : ℕ) (code : List ℕ) (e : word ≡ fork) (ea : asked ≡ get_or code (word / 16777216) 0) where
-  pub lead-first : asked < word / 65536 % 256 → word % 65536 ≡ leads_to fork code
+  pub lead_first : asked < word / 65536 % 256 → word % 65536 ≡ leads_to fork code
   unfolding digit_of byte_of pair_of
-  lead-first h = rw (← e, ← ea, lt-ltb asked (word / 65536 % 256) h)
+  lead_first h = rw (← e, ← ea, lt-ltb asked (word / 65536 % 256) h)
 
-  pub lead-second : word / 65536 % 256 ≤ asked → word % 65536 + 1 ≡ leads_to fork code
+  pub lead_second : word / 65536 % 256 ≤ asked → word % 65536 + 1 ≡ leads_to fork code
   unfolding digit_of byte_of pair_of
-  lead-second h = rw (← e, ← ea, le-ltb asked (word / 65536 % 256) h)
+  lead_second h = rw (← e, ← ea, le-ltb asked (word / 65536 % 256) h)
 
 -- a fork leads to one of its pair
 pub lead_pair : (word : ℕ) (code : List ℕ) → (pair_of word ≤ leads_to word code) × (leads_to word code ≤ pair_of word + 1)

@@ -15,7 +15,7 @@ use Rattle.text.proofs.Choices.{true_or_false}
 use Rattle.text.proofs.Numbers.{le_or_lt, eq_or_ne}
 use Rattle.forms.specs.Shape.{digits}
 use Rattle.identcodes.specs.Tree.{identcode_at, fork, digit_of, byte_of, pair_of, leads_to, slot_from, words_of, slot_of, planted, parted}
-use Rattle.identcodes.proofs.Slots.{Sound, Tree, lead-on, comes-to}
+use Rattle.identcodes.proofs.Slots.{Sound, Tree, lead_on, comes_to}
 
 -- the words of the pair, and the fork where the leaf was
 module _ (tree : List ℕ) (slot pair x y word : ℕ) (hs : slot < pair) (hp : pair + 1 < length tree) where
@@ -48,15 +48,15 @@ pub planted_is : (tree : List ℕ) (slot pair x y word : ℕ) (first second afte
 planted_is tree slot pair x y word first second after e1 e2 e3 = rw (e3, e2, e1)
 
 module _ (tree : List ℕ) (slot pair digit earlier here at : ℕ) (after : List ℕ) (word leaf : ℕ) (el : leaf ≡ get_or tree slot 0) where
-  pub parted-first : earlier < here → word ≡ fork digit here pair → after ≡ planted tree slot pair leaf at word →
+  pub parted_first : earlier < here → word ≡ fork digit here pair → after ≡ planted tree slot pair leaf at word →
       after ≡ parted tree slot pair digit earlier here at
   unfolding parted
-  parted-first h ew ea = ea ∙ rw (el, ew, lt-ltb earlier here h)
+  parted_first h ew ea = ea ∙ rw (el, ew, lt-ltb earlier here h)
 
-  pub parted-second : here ≤ earlier → word ≡ fork digit earlier pair → after ≡ planted tree slot pair at leaf word →
+  pub parted_second : here ≤ earlier → word ≡ fork digit earlier pair → after ≡ planted tree slot pair at leaf word →
       after ≡ parted tree slot pair digit earlier here at
   unfolding parted
-  parted-second h ew ea = ea ∙ rw (el, ew, le-ltb earlier here h)
+  parted_second h ew ea = ea ∙ rw (el, ew, le-ltb earlier here h)
 
 -- where a code comes that came to k
 abbrev pub afterwards : ℕ → ℕ → List ℕ → ℕ → ℕ
@@ -74,17 +74,17 @@ module _ (s : List ℕ) (parcels : ℕ) (tree : List ℕ) (g : Tree s parcels tr
     stays i turns h = rw (lt-leb 65536 (get_or now i 0) h)
 
     -- the two words of the pair are leaves
-    pub pair-leaf : get_or now (leads_to word code) 0 < 65536
-    pair-leaf = go (ltb (get_or code (digit_of word) 0) (byte_of word))
+    pub pair_leaf : get_or now (leads_to word code) 0 < 65536
+    pair_leaf = go (ltb (get_or code (digit_of word) 0) (byte_of word))
       where
         go : (t : Bool) → get_or now (if t then pair_of word else pair_of word + 1) 0 < 65536
         go true = rw pair (omega (arith, hx, at_first tree slot (words_of parcels) x y word hs hp))
         go false = rw pair (omega (arith, hy, at_second tree slot (words_of parcels) x y word hs hp))
 
-    pub comes-after : (turns i : ℕ) → i < words_of parcels → words_of parcels ≤ turns + i →
+    pub comes_after : (turns i : ℕ) → i < words_of parcels → words_of parcels ≤ turns + i →
         slot_from (suc (suc turns)) now code i ≡ afterwards slot word code (slot_from turns tree code i)
-    comes-after zero i h enough = absurd (omega arith)
-    comes-after (suc turns) i h enough = go (leb 65536 (get_or tree i 0)) refl (λ next. comes-after turns next)
+    comes_after zero i h enough = absurd (omega arith)
+    comes_after (suc turns) i h enough = go (leb 65536 (get_or tree i 0)) refl (λ next. comes_after turns next)
       where
         go : (t : Bool) → leb 65536 (get_or tree i 0) ≡ t →
             ((next : ℕ) → next < words_of parcels → words_of parcels ≤ turns + next →
@@ -93,7 +93,7 @@ module _ (s : List ℕ) (parcels : ℕ) (tree : List ℕ) (g : Tree s parcels tr
             ≡ afterwards slot word code (if t then slot_from turns tree code (leads_to (get_or tree i 0) code) else i)
         go true e on =
             let f = leb-true 65536 (get_or tree i 0) e in
-            let l = lead-on s parcels tree g code i h f in
+            let l = lead_on s parcels tree g code i h f in
             let other : i ≡ slot → ⊥ = λ (q : i ≡ slot). omega (arith, f, leaf, ap (λ (k : ℕ). get_or tree k 0) q) in
             let there : get_or now i 0 ≡ get_or tree i 0 = at_other tree slot (words_of parcels) x y word hs hp i h other in
             rw (there, le-leb 65536 (get_or tree i 0) f) (on (leads_to (get_or tree i 0) code) l.1 (omega (arith, l.0)))
@@ -103,7 +103,7 @@ module _ (s : List ℕ) (parcels : ℕ) (tree : List ℕ) (g : Tree s parcels tr
             here q =
                 let there : get_or now i 0 ≡ word =
                 ap (λ (k : ℕ). get_or now k 0) (eqb-true i slot q) ∙ at_slot tree slot (words_of parcels) x y word hs hp in
-                rw (q, there, le-leb 65536 word hw) (stays (leads_to word code) (suc turns) pair-leaf)
+                rw (q, there, le-leb 65536 word hw) (stays (leads_to word code) (suc turns) pair_leaf)
 
             elsewhere : eqb i slot ≡ false → slot_from (suc (suc (suc turns))) now code i ≡ afterwards slot word code i
             elsewhere q =
@@ -114,24 +114,24 @@ module _ (s : List ℕ) (parcels : ℕ) (tree : List ℕ) (g : Tree s parcels tr
     more : words_of (parcels + 1) ≡ suc (suc (words_of parcels))
     more = omega arith
 
-    leaf-sound : (place w z : ℕ) → w ≡ z → z < 65536 → digits 22 (identcode_at s z) ≡ true → Sound s (words_of (parcels + 1)) place w
-    leaf-sound place w z e h l =
+    leaf_sound : (place w z : ℕ) → w ≡ z → z < 65536 → digits 22 (identcode_at s z) ≡ true → Sound s (words_of (parcels + 1)) place w
+    leaf_sound place w z e h l =
         record {
           leaf = λ f. ap (λ (k : ℕ). digits 22 (identcode_at s k)) e ∙ l;
           pair = λ f. absurd (omega arith);
           inside = λ f. absurd (omega arith);
         }
 
-    fork-sound : (w : ℕ) → w ≡ word → Sound s (words_of (parcels + 1)) slot w
-    fork-sound w e =
+    fork_sound : (w : ℕ) → w ≡ word → Sound s (words_of (parcels + 1)) slot w
+    fork_sound w e =
         record {
           leaf = λ f. absurd (omega arith);
           pair = λ f. let q : slot < pair_of word = omega arith in rw e q;
           inside = λ f. let q : pair_of word + 1 < words_of (parcels + 1) = omega arith in rw e q;
         }
 
-    kept-sound : (place w : ℕ) → place < words_of parcels → w ≡ get_or tree place 0 → Sound s (words_of (parcels + 1)) place w
-    kept-sound place w h e =
+    kept_sound : (place w : ℕ) → place < words_of parcels → w ≡ get_or tree place 0 → Sound s (words_of (parcels + 1)) place w
+    kept_sound place w h e =
         let old = g.sound place h in
         record {
           leaf = λ f. rw e (old.leaf (omega arith));
@@ -139,34 +139,34 @@ module _ (s : List ℕ) (parcels : ℕ) (tree : List ℕ) (g : Tree s parcels tr
           inside = λ f. let q : pair_of (get_or tree place 0) + 1 < words_of (parcels + 1) = omega (arith, old.inside (omega arith)) in rw e q;
         }
 
-    pub planted-tree : Tree s (parcels + 1) now
-    planted-tree = record { sound = each }
+    pub planted_tree : Tree s (parcels + 1) now
+    planted_tree = record { sound = each }
       where
         each : (place : ℕ) → place < words_of (parcels + 1) → Sound s (words_of (parcels + 1)) place (get_or now place 0)
-        each place h = ⊎_elim pair-words old (le_or_lt (words_of parcels) place)
+        each place h = ⊎_elim pair_words old (le_or_lt (words_of parcels) place)
           where
             old : place < words_of parcels → Sound s (words_of (parcels + 1)) place (get_or now place 0)
             old b =
                 ⊎_elim
-                (λ q. rw q (fork-sound (get_or now slot 0) (at_slot tree slot (words_of parcels) x y word hs hp)))
-                (λ n. kept-sound place (get_or now place 0) b (at_other tree slot (words_of parcels) x y word hs hp place b n))
+                (λ q. rw q (fork_sound (get_or now slot 0) (at_slot tree slot (words_of parcels) x y word hs hp)))
+                (λ n. kept_sound place (get_or now place 0) b (at_other tree slot (words_of parcels) x y word hs hp place b n))
                 (eq_or_ne place slot)
 
-            pair-words : words_of parcels ≤ place → Sound s (words_of (parcels + 1)) place (get_or now place 0)
-            pair-words b =
+            pair_words : words_of parcels ≤ place → Sound s (words_of (parcels + 1)) place (get_or now place 0)
+            pair_words b =
                 ⊎_elim
-                (λ q. leaf-sound place (get_or now place 0) x
+                (λ q. leaf_sound place (get_or now place 0) x
                 (ap (λ (k : ℕ). get_or now k 0) q ∙ at_first tree slot (words_of parcels) x y word hs hp) hx lx)
                 (λ n. let q : place ≡ words_of parcels + 1 = omega arith in
-                leaf-sound place (get_or now place 0) y
+                leaf_sound place (get_or now place 0) y
                 (ap (λ (k : ℕ). get_or now k 0) q ∙ at_second tree slot (words_of parcels) x y word hs hp) hy ly)
                 (eq_or_ne place (words_of parcels))
 
     -- where a code comes now
-    pub slot-after : (code : List ℕ) → slot_of now (parcels + 1) code ≡ afterwards slot word code (slot_of tree parcels code)
-    slot-after code =
+    pub slot_after : (code : List ℕ) → slot_of now (parcels + 1) code ≡ afterwards slot word code (slot_of tree parcels code)
+    slot_after code =
         ap (λ (n : ℕ). slot_from n now code 0) more
-        ∙ comes-after code (words_of parcels) 0 (omega arith) (omega arith)
+        ∙ comes_after code (words_of parcels) 0 (omega arith) (omega arith)
 
     -- which code it meets there: at the other leaf stands one that is unlike it
     module _ (code : List ℕ) where
@@ -188,9 +188,9 @@ module _ (s : List ℕ) (parcels : ℕ) (tree : List ℕ) (g : Tree s parcels tr
       pub elsewhere : (slot_of tree parcels code ≡ slot → ⊥) → get_or now (slot_of now (parcels + 1) code) 0 ≡ get_or tree (slot_of tree parcels code) 0
       elsewhere n =
           let k = slot_of tree parcels code in
-          let b = comes-to s parcels tree g code (words_of parcels) 0 (omega arith) (omega arith) in
-          let same_place : slot_of now (parcels + 1) code ≡ k = slot-after code ∙ rw (ne_eqb k slot n) in
+          let b = comes_to s parcels tree g code (words_of parcels) 0 (omega arith) (omega arith) in
+          let same_place : slot_of now (parcels + 1) code ≡ k = slot_after code ∙ rw (ne_eqb k slot n) in
           ap (λ (i : ℕ). get_or now i 0) same_place ∙ at_other tree slot (words_of parcels) x y word hs hp k b.0 n
 
-      pub at-the-fork : slot_of tree parcels code ≡ slot → slot_of now (parcels + 1) code ≡ leads_to word code
-      at-the-fork e = slot-after code ∙ rw (eq-eqb (slot_of tree parcels code) slot e)
+      pub at_the_fork : slot_of tree parcels code ≡ slot → slot_of now (parcels + 1) code ≡ leads_to word code
+      at_the_fork e = slot_after code ∙ rw (eq-eqb (slot_of tree parcels code) slot e)

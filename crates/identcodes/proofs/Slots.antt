@@ -25,17 +25,17 @@ pub record Tree (s : List ℕ) (parcels : ℕ) (tree : List ℕ) : Type 0 where
 -- with enough turns the way ends at a leaf
 module _ (s : List ℕ) (parcels : ℕ) (tree : List ℕ) (g : Tree s parcels tree) (code : List ℕ) where
   -- a fork leads on, to a word of the tree
-  pub lead-on : (slot : ℕ) → slot < words_of parcels → 65536 ≤ get_or tree slot 0 →
+  pub lead_on : (slot : ℕ) → slot < words_of parcels → 65536 ≤ get_or tree slot 0 →
       (slot < leads_to (get_or tree slot 0) code) × (leads_to (get_or tree slot 0) code < words_of parcels)
-  lead-on slot h f =
+  lead_on slot h f =
       let w = g.sound slot h in
       let l = lead_pair (get_or tree slot 0) code in
       (omega (arith, w.pair f, l), omega (arith, w.inside f, l))
 
-  pub comes-to : (turns slot : ℕ) → slot < words_of parcels → words_of parcels ≤ turns + slot →
+  pub comes_to : (turns slot : ℕ) → slot < words_of parcels → words_of parcels ≤ turns + slot →
       (slot_from turns tree code slot < words_of parcels) × (get_or tree (slot_from turns tree code slot) 0 < 65536)
-  comes-to zero slot h enough = absurd (omega arith)
-  comes-to (suc turns) slot h enough = go (leb 65536 (get_or tree slot 0)) refl (λ next. comes-to turns next)
+  comes_to zero slot h enough = absurd (omega arith)
+  comes_to (suc turns) slot h enough = go (leb 65536 (get_or tree slot 0)) refl (λ next. comes_to turns next)
     where
       go : (t : Bool) → leb 65536 (get_or tree slot 0) ≡ t →
           ((next : ℕ) → next < words_of parcels → words_of parcels ≤ turns + next →
@@ -43,26 +43,26 @@ module _ (s : List ℕ) (parcels : ℕ) (tree : List ℕ) (g : Tree s parcels tr
           ((if t then slot_from turns tree code (leads_to (get_or tree slot 0) code) else slot) < words_of parcels)
           × (get_or tree (if t then slot_from turns tree code (leads_to (get_or tree slot 0) code) else slot) 0 < 65536)
       go true e more =
-          let l = lead-on slot h (leb-true 65536 (get_or tree slot 0) e) in
+          let l = lead_on slot h (leb-true 65536 (get_or tree slot 0) e) in
           more (leads_to (get_or tree slot 0) code) l.1 (omega (arith, l.0))
       go false e more = (h, leb-false 65536 (get_or tree slot 0) e)
 
 -- the loop, with so many turns left: each premise is a fact that it has
 module _ (tree code : List ℕ) (slot left z : ℕ) (inv : slot_from left tree code slot ≡ z) where
-  pub slot-done : left ≤ 0 → slot ≡ z
-  slot-done h = let none : left ≡ 0 = omega arith in sym (ap (λ (n : ℕ). slot_from n tree code slot) none) ∙ inv
+  pub slot_done : left ≤ 0 → slot ≡ z
+  slot_done h = let none : left ≡ 0 = omega arith in sym (ap (λ (n : ℕ). slot_from n tree code slot) none) ∙ inv
 
   module _ (some : 0 < left) (word : ℕ) (ew : word ≡ get_or tree slot 0) where
     turn : left ≡ suc (left - 1)
     turn = omega arith
 
-    pub slot-leaf : word < 65536 → slot ≡ z
-    slot-leaf h =
+    pub slot_leaf : word < 65536 → slot ≡ z
+    slot_leaf h =
         let leaf : get_or tree slot 0 < 65536 = omega arith in
         sym (ap (λ (n : ℕ). slot_from n tree code slot) turn ∙ rw (lt-leb 65536 (get_or tree slot 0) leaf)) ∙ inv
 
-    pub slot-on : 65536 ≤ word → (next : ℕ) → next ≡ leads_to word code → slot_from (left - 1) tree code next ≡ z
-    slot-on h next en =
+    pub slot_on : 65536 ≤ word → (next : ℕ) → next ≡ leads_to word code → slot_from (left - 1) tree code next ≡ z
+    slot_on h next en =
         let fork : 65536 ≤ get_or tree slot 0 = omega arith in
         ap (slot_from (left - 1) tree code) (en ∙ ap (λ (w : ℕ). leads_to w code) ew)
         ∙ sym (ap (λ (n : ℕ). slot_from n tree code slot) turn ∙ rw (le-leb 65536 (get_or tree slot 0) fork))

@@ -28,15 +28,15 @@ module _ (a b : List ℕ) (i z x y : ℕ) (h : i < 22) (ex : x ≡ get_or a i 0)
   turn : 22 - i ≡ suc left
   turn = omega arith
 
-  pub unlike-on : x ≡ y → unlike_from (22 - (i + 1)) a b (i + 1) ≡ z
-  unlike-on e =
+  pub unlike_on : x ≡ y → unlike_from (22 - (i + 1)) a b (i + 1) ≡ z
+  unlike_on e =
       let next : i + 1 ≡ suc i = omega arith in
       ap (unlike_from left a b) next
       ∙ sym (ap (λ (n : ℕ). unlike_from n a b i) turn ∙ rw (eq-eqb (get_or a i 0) (get_or b i 0) (sym ex ∙ e ∙ ey)))
       ∙ f
 
-  pub unlike-stops : (x ≡ y → ⊥) → i ≡ z
-  unlike-stops n =
+  pub unlike_stops : (x ≡ y → ⊥) → i ≡ z
+  unlike_stops n =
       sym (ap (λ (n : ℕ). unlike_from n a b i) turn ∙ rw (ne_eqb (get_or a i 0) (get_or b i 0) (λ q. n (ex ∙ q ∙ sym ey)))) ∙ f
 
 pub unlike_none : (a b : List ℕ) (i z : ℕ) → 22 ≤ i → i ≤ 22 → unlike_from (22 - i) a b i ≡ z → 22 ≡ z

@@ -10,8 +10,8 @@ use borrow.Author.Tests.{ltb-false, not-false}
 use Rattle.text.specs.Byte.{text_byte}
 use Rattle.text.specs.Quoted.{bytes}
 use Rattle.text.specs.Choice.{if◌then◌else◌}
-use Rattle.text.proofs.Choices.{came-else}
-use Rattle.text.proofs.Runs.{first-least, first-most}
+use Rattle.text.proofs.Choices.{came_else}
+use Rattle.text.proofs.Runs.{first_least, first_most}
 use Rattle.refusal.specs.declared.Reason.TheVariants.{FileTooLong, NoLineEnd, OutOfOrder, FieldCount, FeatureLacks}
 use Rattle.refusal.specs.Table.{because}
 use Rattle.refusal.proofs.Verdicts.{no_pass}
@@ -61,7 +61,7 @@ module _ (told : Told) (at : ℕ) (line : List ℕ) (l : Line) where
   kind_ok kind en ec e =
       let fits = count_fits kind (length (fields_of line)) in
       let w = walk (told.rules kind) 1 (at + length (name_of line) + 1) (name_of line) (fields_of line) in
-      let a = came-else (not fits) (Refused (because FieldCount at)) (after_walk w kind at line) (Accepted l) (no_pass line_verdict refl refl) e in
+      let a = came_else (not fits) (Refused (because FieldCount at)) (after_walk w kind at line) (Accepted l) (no_pass line_verdict refl refl) e in
       after w refl (not-false fits a.0) a.1
     where
       after :
@@ -70,7 +70,7 @@ module _ (told : Told) (at : ℕ) (line : List ℕ) (l : Line) where
           after_walk w kind at line ≡ Accepted l → TextOk told at line l
       after (Stopped refusal) ew ef ea = absurd (no_pass line_verdict refl refl ea)
       after Fine ew ef ea =
-          let b = came-else (lacks kind (split line)) (Refused (because FeatureLacks at))
+          let b = came_else (lacks kind (split line)) (Refused (because FeatureLacks at))
           (Accepted (record { kind = kind; count = length (fields_of line); next = at + length line + 2 })) (Accepted l) (no_pass line_verdict refl refl) ea in
           let same : record { kind = kind; count = length (fields_of line); next = at + length line + 2 } ≡ l = cc in
           let k : kind ≡ l.kind = ap (λ (x : Line). x.kind) same in
@@ -88,13 +88,13 @@ module _ (told : Told) (at : ℕ) (line : List ℕ) (l : Line) where
   unfolding of_named
   named_ok Unknown en e = absurd (no_pass line_verdict refl refl e)
   named_ok (Known kind) en e =
-      let a = came-else (not (may_come told.due kind)) (Refused (because OutOfOrder at)) (of_kind told.rules kind at line) (Accepted l)
+      let a = came_else (not (may_come told.due kind)) (Refused (because OutOfOrder at)) (of_kind told.rules kind at line) (Accepted l)
       (no_pass line_verdict refl refl) e in
       kind_ok kind en (not-false (may_come told.due kind) a.0) a.1
 
-  pub text-ok : of_text told at line ≡ Accepted l → TextOk told at line l
+  pub text_ok : of_text told at line ≡ Accepted l → TextOk told at line l
   unfolding of_text
-  text-ok e = named_ok (named (name_of line)) refl e
+  text_ok e = named_ok (named (name_of line)) refl e
 
 -- the text of a line that ends well
 pub record TextEnds (s : List ℕ) (at end : ℕ) : Type 0 where
@@ -108,11 +108,11 @@ unfolding text_answer
 text_ends s at end e =
     let well = ends_well s (line_end s at) in
     let found = if not well then Refused (because NoLineEnd (line_end s at)) else Ends (line_end s at) in
-    let a = came-else (ltb file_limit (length s)) (Refused (because FileTooLong file_limit)) (if ltb (length s)
+    let a = came_else (ltb file_limit (length s)) (Refused (because FileTooLong file_limit)) (if ltb (length s)
     at then Refused (because NoLineEnd (length s)) else found)
     (Ends end) (no_pass text_verdict refl refl) e in
-    let b = came-else (ltb (length s) at) (Refused (because NoLineEnd (length s))) found (Ends end) (no_pass text_verdict refl refl) a.1 in
-    let c = came-else (not well) (Refused (because NoLineEnd (line_end s at))) (Ends (line_end s at)) (Ends end) (no_pass text_verdict refl refl) b.1 in
+    let b = came_else (ltb (length s) at) (Refused (because NoLineEnd (length s))) found (Ends end) (no_pass text_verdict refl refl) a.1 in
+    let c = came_else (not well) (Refused (because NoLineEnd (line_end s at))) (Ends (line_end s at)) (Ends end) (no_pass text_verdict refl refl) b.1 in
     record {
       short = ltb-false file_limit (length s) a.0;
       inside = ltb-false (length s) at b.0;
@@ -128,21 +128,21 @@ line_ok told s at l e = go (text_answer s at) refl e
     go (Refused refusal) q e = absurd (no_pass line_verdict refl refl e)
     go (Ends end) q e =
         let t = text_ends s at end q in
-        record { short = t.short; inside = t.inside; well = t.well; text = rw t.is at (text-ok told at (take (end - at) (drop at s)) l e) }
+        record { short = t.short; inside = t.inside; well = t.well; text = rw t.is at (text_ok told at (take (end - at) (drop at s)) l e) }
 
 -- where the text lies
 module _ (s : List ℕ) (at : ℕ) (inside : at ≤ length s) where
-  pub text-long : length (text_at s at) ≡ line_end s at - at
-  text-long =
-      let above = first-least (λ _ b. text_byte b) at (drop at s) in
-      let below = first-most (λ _ b. text_byte b) at (drop at s) in
+  pub text_long : length (text_at s at) ≡ line_end s at - at
+  text_long =
+      let above = first_least (λ _ b. text_byte b) at (drop at s) in
+      let below = first_most (λ _ b. text_byte b) at (drop at s) in
       omega (arith, length-take (line_end s at - at) (drop at s), length-drop at s, inside)
 
-  pub end-inside : line_end s at ≤ length s
-  end-inside = omega (arith, first-most (λ _ b. text_byte b) at (drop at s), length-drop at s, inside)
+  pub end_inside : line_end s at ≤ length s
+  end_inside = omega (arith, first_most (λ _ b. text_byte b) at (drop at s), length-drop at s, inside)
 
   pub end_after : at ≤ line_end s at
-  end_after = first-least (λ _ b. text_byte b) at (drop at s)
+  end_after = first_least (λ _ b. text_byte b) at (drop at s)
 
 -- the text as the judge of a line takes it from the answer
 module _ (s : List ℕ) (at : ℕ) (a : TextAnswer) (ea : a ≡ text_answer s at) (end : ℕ) (ee : a ≡ Ends end) where
@@ -153,39 +153,39 @@ module _ (s : List ℕ) (at : ℕ) (a : TextAnswer) (ea : a ≡ text_answer s at
   found_after = omega (arith, found.is, end_after s at found.inside)
 
   pub found_inside : end ≤ length s
-  found_inside = omega (arith, found.is, end-inside s at found.inside)
+  found_inside = omega (arith, found.is, end_inside s at found.inside)
 
-  pub found-small : at + length (take (end - at) (drop at s)) ≤ file_limit
-  found-small = omega (arith, length-take (end - at) (drop at s), length-drop at s, found_after, found_inside, found.short)
+  pub found_small : at + length (take (end - at) (drop at s)) ≤ file_limit
+  found_small = omega (arith, length-take (end - at) (drop at s), length-drop at s, found_after, found_inside, found.short)
 
 pub next_is : (told : Told) (s : List ℕ) (at : ℕ) (l : Line) → LineAt told s at l → l.next ≡ line_end s at + 2
-next_is told s at l g = omega (arith, g.text.ends, text-long s at g.inside, end_after s at g.inside)
+next_is told s at l g = omega (arith, g.text.ends, text_long s at g.inside, end_after s at g.inside)
 
 -- the text of an accepted line, as the callers take it from the answer
 module _ (told : Told) (s : List ℕ) (at : ℕ) (a : LineAnswer) (ea : a ≡ line_answer told s at) (l : Line) (el : a ≡ Accepted l) where
   pub lies : LineAt told s at l
   lies = line_ok told s at l (sym ea ∙ el)
 
-  pub text-end : l.next - 2 ≡ line_end s at
-  text-end = omega (arith, next_is told s at l lies)
+  pub text_end : l.next - 2 ≡ line_end s at
+  text_end = omega (arith, next_is told s at l lies)
 
-  pub text-starts : at ≤ l.next - 2
-  text-starts = omega (arith, next_is told s at l lies, end_after s at lies.inside)
+  pub text_starts : at ≤ l.next - 2
+  text_starts = omega (arith, next_is told s at l lies, end_after s at lies.inside)
 
-  pub text-inside : l.next - 2 ≤ length s
-  text-inside = omega (arith, next_is told s at l lies, end-inside s at lies.inside)
+  pub text_inside : l.next - 2 ≤ length s
+  text_inside = omega (arith, next_is told s at l lies, end_inside s at lies.inside)
 
-  pub next-least : 2 ≤ l.next
-  next-least = omega (arith, next_is told s at l lies)
+  pub next_least : 2 ≤ l.next
+  next_least = omega (arith, next_is told s at l lies)
 
-  pub next-after : at + 2 ≤ l.next
-  next-after = omega (arith, next_is told s at l lies, end_after s at lies.inside)
+  pub next_after : at + 2 ≤ l.next
+  next_after = omega (arith, next_is told s at l lies, end_after s at lies.inside)
 
-  pub text-small : at + length (take (l.next - 2 - at) (drop at s)) ≤ file_limit
-  text-small = omega (arith, length-take (l.next - 2 - at) (drop at s), length-drop at s, text-starts, text-inside, lies.short)
+  pub text_small : at + length (take (l.next - 2 - at) (drop at s)) ≤ file_limit
+  text_small = omega (arith, length-take (l.next - 2 - at) (drop at s), length-drop at s, text_starts, text_inside, lies.short)
 
-  pub text-is : take (l.next - 2 - at) (drop at s) ≡ text_at s at
-  text-is = ap (λ (k : ℕ). take (k - at) (drop at s)) text-end
+  pub text_is : take (l.next - 2 - at) (drop at s) ≡ text_at s at
+  text_is = ap (λ (k : ℕ). take (k - at) (drop at s)) text_end
 
 -- an accepted line is the rendering of its record and its fields
 pub text_written : (told : Told) (at : ℕ) (text : List ℕ) (l : Line) → TextOk told at text l → text ≡ text_of l.kind (fields_of text)

@@ -46,9 +46,9 @@ module _ (s : List ℕ) (at : ℕ) (line rest : List ℕ) (text : all text_byte 
   pub ends_at : line_end s at ≡ at + length line
   ends_at = rw cut (run_past text_byte at line 13 (10 ∷ rest) text refl)
 
-  pub ends-well : ends_well s (line_end s at) ≡ true
+  pub ends_well_lem : ends_well s (line_end s at) ≡ true
   unfolding ends_well
-  ends-well = rw (ends_at, ← drop-drop (length line) at s, cut, drop-append_seam)
+  ends_well_lem = rw (ends_at, ← drop-drop (length line) at s, cut, drop-append_seam)
 
-  pub text-there : text_at s at ≡ line
-  text-there = let n : line_end s at - at ≡ length line = omega (arith, ends_at) in rw (n, cut) (take-append_seam line (13 ∷ 10 ∷ rest))
+  pub text_there : text_at s at ≡ line
+  text_there = let n : line_end s at - at ≡ length line = omega (arith, ends_at) in rw (n, cut) (take-append_seam line (13 ∷ 10 ∷ rest))

@@ -11,7 +11,7 @@ use Rattle.fields.specs.Profile.{Rules}
 use Rattle.line.specs.Parts.{start_of, part_at}
 use Rattle.line.specs.Line.{line_answer, alone}
 use Rattle.line.specs.Find.{handed_on, in_line, field_answer}
-use Rattle.line.proofs.Accepting.{text-is}
+use Rattle.line.proofs.Accepting.{text_is}
 use Rattle.line.specs.declared.read.Line.{Line}
 use Rattle.line.specs.declared.read.LineAnswer.{LineAnswer}
 use Rattle.line.specs.declared.read.LineAnswer.TheVariants.{Accepted, Refused}
@@ -26,23 +26,23 @@ pub found_is : (at n start : ℕ) (line f : List ℕ) → start ≡ start_of lin
 found_is at n start line f es ef = rw (es, ef)
 
 module _ (rules : Rules) (s : List ℕ) (at n : ℕ) (a : LineAnswer) (ea : a ≡ line_answer (alone rules) s at) where
-  pub handed-on : (refusal : Refusal) (r : FieldAnswer) → a ≡ Refused refusal → r ≡ handed_on a → r ≡ field_answer rules s at n
+  pub handed_on_lem : (refusal : Refusal) (r : FieldAnswer) → a ≡ Refused refusal → r ≡ handed_on a → r ≡ field_answer rules s at n
   unfolding field_answer in_line
-  handed-on refusal r e er = er ∙ rw (← ea, e)
+  handed_on_lem refusal r e er = er ∙ rw (← ea, e)
 
   module _ (line : Line) (el : a ≡ Accepted line) where
     pub no_number : n ≡ 0 → Refused (because NotThere 0) ≡ field_answer rules s at n
     unfolding field_answer in_line
     no_number e = rw (← ea, el, eq-eqb n 0 e)
 
-    pub above-count : (n ≡ 0 → ⊥) → line.count < n → Refused (because NotThere 0) ≡ field_answer rules s at n
+    pub above_count : (n ≡ 0 → ⊥) → line.count < n → Refused (because NotThere 0) ≡ field_answer rules s at n
     unfolding field_answer in_line
-    above-count m h = rw (← ea, el, ne_eqb n 0 m, lt-ltb line.count n h)
+    above_count m h = rw (← ea, el, ne_eqb n 0 m, lt-ltb line.count n h)
 
-    pub field-there : (n ≡ 0 → ⊥) → n ≤ line.count → (r : FieldAnswer) →
+    pub field_there : (n ≡ 0 → ⊥) → n ≤ line.count → (r : FieldAnswer) →
         r ≡ Found (at + start_of (take (line.next - 2 - at) (drop at s)) n) (length (part_at (take (line.next - 2 - at) (drop at s)) n)) →
         r ≡ field_answer rules s at n
     unfolding field_answer in_line
-    field-there m h r e =
+    field_there m h r e =
         rw (← ea, el, ne_eqb n 0 m, le-ltb line.count n h)
-        (e ∙ ap (λ (t : List ℕ). Found (at + start_of t n) (length (part_at t n))) (text-is (alone rules) s at a ea line el))
+        (e ∙ ap (λ (t : List ℕ). Found (at + start_of t n) (length (part_at t n))) (text_is (alone rules) s at a ea line el))

@@ -50,26 +50,26 @@ module _ (rules : Rules) (kind : Record) (at : ℕ) (line : List ℕ) (n : ℕ) 
   fits : t ≡ count_fits kind (length (fields_of line))
   fits = et ∙ ap (count_fits kind) (count_fields n line en)
 
-  pub count-wrong : not t ≡ true → Refused (because FieldCount at) ≡ of_kind rules kind at line
+  pub count_wrong : not t ≡ true → Refused (because FieldCount at) ≡ of_kind rules kind at line
   unfolding of_kind
-  count-wrong e = rw (← fits, e)
+  count_wrong e = rw (← fits, e)
 
-  pub count-right :
+  pub count_right :
       not t ≡ false → (w : Walk) → w ≡ walk (rules kind) 1 (at + length (name_of line) + 1) (name_of line) (fields_of line) →
       (a : LineAnswer) → a ≡ after_walk w kind at line → a ≡ of_kind rules kind at line
   unfolding of_kind
-  count-right right w ew a e = rw (← fits, right) (e ∙ ap (λ (v : Walk). after_walk v kind at line) ew)
+  count_right right w ew a e = rw (← fits, right) (e ∙ ap (λ (v : Walk). after_walk v kind at line) ew)
 
 -- a field that stops the walk, then what the feature needs
 module _ (kind : Record) (at : ℕ) (line : List ℕ) (w : Walk) where
-  pub field-wrong : (refusal : Refusal) → w ≡ Stopped refusal → Refused refusal ≡ after_walk w kind at line
+  pub field_wrong : (refusal : Refusal) → w ≡ Stopped refusal → Refused refusal ≡ after_walk w kind at line
   unfolding after_walk
-  field-wrong refusal e = rw e
+  field_wrong refusal e = rw e
 
   module _ (fine : w ≡ Fine) (u : Bool) (eu : u ≡ lacks kind (split line)) where
-    pub lacks-one : u ≡ true → Refused (because FeatureLacks at) ≡ after_walk w kind at line
+    pub lacks_one : u ≡ true → Refused (because FeatureLacks at) ≡ after_walk w kind at line
     unfolding after_walk
-    lacks-one e = rw (fine, ← eu, e)
+    lacks_one e = rw (fine, ← eu, e)
 
     pub has_all : u ≡ false → (n : ℕ) → n ≡ length (fields_of line) →
         Accepted (record { kind = kind; count = n; next = at + length line + 2 }) ≡ after_walk w kind at line
@@ -82,9 +82,9 @@ module _ (told : Told) (at : ℕ) (line name : List ℕ) (en : name ≡ name_of 
   unfolding of_text
   typed a e = e ∙ ap (λ (m : Named). of_named m told at line) (ed ∙ ap named en)
 
-  pub type-unknown : nd ≡ Unknown → Refused (because UnknownRecord at) ≡ of_text told at line
+  pub type_unknown : nd ≡ Unknown → Refused (because UnknownRecord at) ≡ of_text told at line
   unfolding of_named
-  type-unknown e = typed (Refused (because UnknownRecord at)) (rw e)
+  type_unknown e = typed (Refused (because UnknownRecord at)) (rw e)
 
   module _ (kind : Record) (known : nd ≡ Known kind) (t : Bool) (et : t ≡ may_come told.due kind) where
     pub out_of_order : not t ≡ true → Refused (because OutOfOrder at) ≡ of_text told at line
@@ -97,30 +97,30 @@ module _ (told : Told) (at : ℕ) (line name : List ℕ) (en : name ≡ name_of 
 
 -- the text, then what is answered of it
 module _ (told : Told) (s : List ℕ) (at : ℕ) (a : TextAnswer) (ea : a ≡ text_answer s at) where
-  pub text-refused : (refusal : Refusal) → a ≡ Refused refusal → Refused refusal ≡ line_answer told s at
+  pub text_refused : (refusal : Refusal) → a ≡ Refused refusal → Refused refusal ≡ line_answer told s at
   unfolding line_answer
-  text-refused refusal e = rw (← ea, e)
+  text_refused refusal e = rw (← ea, e)
 
-  pub text-judged : (end : ℕ) → a ≡ Ends end → (r : LineAnswer) → r ≡ of_text told at (take (end - at) (drop at s)) → r ≡ line_answer told s at
+  pub text_judged : (end : ℕ) → a ≡ Ends end → (r : LineAnswer) → r ≡ of_text told at (take (end - at) (drop at s)) → r ≡ line_answer told s at
   unfolding line_answer
-  text-judged end e r er = rw (← ea, e) er
+  text_judged end e r er = rw (← ea, e) er
 
 -- the file's length, the offset, the line's end
 module _ (s : List ℕ) (at : ℕ) where
-  pub file-long : file_limit < length s → text_answer s at ≡ Refused (because FileTooLong file_limit)
+  pub file_long : file_limit < length s → text_answer s at ≡ Refused (because FileTooLong file_limit)
   unfolding text_answer
-  file-long h = simp (lt-ltb file_limit (length s))
+  file_long h = simp (lt-ltb file_limit (length s))
 
   module _ (h : length s ≤ file_limit) where
-    pub past-file : length s < at → text_answer s at ≡ Refused (because NoLineEnd (length s))
+    pub past_file : length s < at → text_answer s at ≡ Refused (because NoLineEnd (length s))
     unfolding text_answer
-    past-file l = simp (le-ltb file_limit (length s), lt-ltb (length s) at)
+    past_file l = simp (le-ltb file_limit (length s), lt-ltb (length s) at)
 
     module _ (l : at ≤ length s) (end : ℕ) (ee : end ≡ line_end s at) (t : Bool) (et : t ≡ ends_well s end) where
       pub no_end : not t ≡ true → Refused (because NoLineEnd end) ≡ text_answer s at
       unfolding text_answer
       no_end e = simp (le-ltb file_limit (length s), le-ltb (length s) at, ← ee, ← et, e)
 
-      pub line-ends : not t ≡ false → Ends end ≡ text_answer s at
+      pub line_ends : not t ≡ false → Ends end ≡ text_answer s at
       unfolding text_answer
-      line-ends e = simp (le-ltb file_limit (length s), le-ltb (length s) at, ← ee, ← et, e)
+      line_ends e = simp (le-ltb file_limit (length s), le-ltb (length s) at, ← ee, ← et, e)

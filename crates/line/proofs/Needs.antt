@@ -17,15 +17,15 @@ filled_is parts n f e = rw e
 
 -- an arm of the match is a case of the rule
 module _ (parts : List (List ℕ)) (f : List ℕ) (code : ℕ) (ef : f ≡ get_or parts 1 []) (ec : code ≡ code_of f) where
-  pub served-as : (case : ℕ) (t : Bool) → code ≡ case → t ≡ serves case parts → t ≡ is_served parts
+  pub served_as : (case : ℕ) (t : Bool) → code ≡ case → t ≡ serves case parts → t ≡ is_served parts
   unfolding is_served
-  served-as case t e et = et ∙ ap (λ (n : ℕ). serves n parts) (sym e ∙ ec ∙ ap code_of ef)
+  served_as case t e et = et ∙ ap (λ (n : ℕ). serves n parts) (sym e ∙ ec ∙ ap code_of ef)
 
-  pub served-rest :
+  pub served_rest :
       (code ≡ 6 → ⊥) → (code ≡ 11 → ⊥) → (code ≡ 22 → ⊥) → (code ≡ 54 → ⊥) → (code ≡ 63 → ⊥) → true ≡ is_served parts
   unfolding serves
-  served-rest a b c d e =
-      served-as code true refl (simp (ne_eqb code 6 a, ne_eqb code 11 b, ne_eqb code 22 c, ne_eqb code 54 d, ne_eqb code 63 e))
+  served_rest a b c d e =
+      served_as code true refl (simp (ne_eqb code 6 a, ne_eqb code 11 b, ne_eqb code 22 c, ne_eqb code 54 d, ne_eqb code 63 e))
 
 pub lacks_as : (kind case : Record) (parts : List (List ℕ)) (t : Bool) → kind ≡ case → t ≡ lacks case parts → t ≡ lacks kind parts
 lacks_as kind case parts t e f = rw e f

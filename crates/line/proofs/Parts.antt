@@ -13,7 +13,7 @@ use mir.Val.{Fits}
 use mir.Syntax.{w64}
 use borrow.Author.Tests.{le-leb, lt-leb, lt-ltb, le-ltb}
 use Rattle.text.specs.Choice.{if◌then◌else◌}
-use Rattle.text.proofs.Runs.{first-least, first-most, first-shift}
+use Rattle.text.proofs.Runs.{first_least, first_most, first_shift}
 use Rattle.text.specs.Scan.{first_failing, count}
 use Rattle.text.proofs.Numbers.{le_or_lt}
 use Rattle.line.specs.Parts.{semicolon, into_first, split, part_at, name_of, fields_of, start_in, start_of, in_field, field_end}
@@ -29,7 +29,7 @@ behind s n = if ltb n (length s) then split (drop (suc n) s) else []
 split_first : (s : List ℕ) → split s ≡ take (first_long s) s ∷ behind s (first_long s)
 unfolding first_long behind
 split_first [] = refl
-split_first (b ∷ s) = go (semicolon b) refl (split_first s) (first-shift in_field 1 s)
+split_first (b ∷ s) = go (semicolon b) refl (split_first s) (first_shift in_field 1 s)
   where
     go :
         (t : Bool) → semicolon b ≡ t → split s ≡ take (first_long s) s ∷ behind s (first_long s) →
@@ -51,19 +51,19 @@ pub rest_none : (line : List ℕ) (start : ℕ) → length line < start → rest
 rest_none line start h = rw (lt-leb start (length line) h)
 
 module _ (line : List ℕ) (start : ℕ) (inside : start ≤ length line) where
-  pub end-least : start ≤ field_end line start
-  end-least = first-least (λ _ b. in_field b) start (drop start line)
+  pub end_least : start ≤ field_end line start
+  end_least = first_least (λ _ b. in_field b) start (drop start line)
 
-  pub end-most : field_end line start ≤ length line
-  end-most = omega (arith, first-most (λ _ b. in_field b) start (drop start line), length-drop start line)
+  pub end_most : field_end line start ≤ length line
+  end_most = omega (arith, first_most (λ _ b. in_field b) start (drop start line), length-drop start line)
 
   end_is : field_end line start ≡ start + first_long (drop start line)
   unfolding first_long
-  end_is = first-shift in_field start (drop start line)
+  end_is = first_shift in_field start (drop start line)
 
-  behind-rest : (n : ℕ) → behind (drop start line) n ≡ rest line (start + n + 1)
+  behind_rest : (n : ℕ) → behind (drop start line) n ≡ rest line (start + n + 1)
   unfolding behind
-  behind-rest n = ⊎_elim more none (le_or_lt (start + n + 1) (length line))
+  behind_rest n = ⊎_elim more none (le_or_lt (start + n + 1) (length line))
     where
       more : start + n + 1 ≤ length line → behind (drop start line) n ≡ rest line (start + n + 1)
       more h =
@@ -78,18 +78,18 @@ module _ (line : List ℕ) (start : ℕ) (inside : start ≤ length line) where
       none : length line < start + n + 1 → behind (drop start line) n ≡ rest line (start + n + 1)
       none h = rw (le-ltb n (length (drop start line)) (simp length-drop (omega arith)), lt-leb (start + n + 1) (length line) h)
 
-  pub rest-step : rest line start ≡ take (field_end line start - start) (drop start line) ∷ rest line (field_end line start + 1)
-  rest-step =
+  pub rest_step : rest line start ≡ take (field_end line start - start) (drop start line) ∷ rest line (field_end line start + 1)
+  rest_step =
       let n = first_long (drop start line) in
       let e : start + n - start ≡ n = omega arith in
       rw (le-leb start (length line) inside)
       (split_first (drop start line)
-      ∙ ap (λ (l : List (List ℕ)). take n (drop start line) ∷ l) (behind-rest n)
+      ∙ ap (λ (l : List (List ℕ)). take n (drop start line) ∷ l) (behind_rest n)
       ∙ ap (λ (m : ℕ). take m (drop start line) ∷ rest line (start + n + 1)) (sym e)
       ∙ ap (λ (m : ℕ). take (m - start) (drop start line) ∷ rest line (m + 1)) (sym end_is))
 
-  pub part-long : length (take (field_end line start - start) (drop start line)) ≡ field_end line start - start
-  part-long = omega (arith, end-most, end-least, length-take (field_end line start - start) (drop start line), length-drop start line)
+  pub part_long : length (take (field_end line start - start) (drop start line)) ≡ field_end line start - start
+  part_long = omega (arith, end_most, end_least, length-take (field_end line start - start) (drop start line), length-drop start line)
 
 -- the part with a number is the first of those left where it starts
 rest_at : (line : List ℕ) (n start : ℕ) → rest line (start + start_in (rest line start) n) ≡ drop n (rest line start)
@@ -102,29 +102,29 @@ rest_at line (suc n) start = ⊎_elim (inside (rest_at line n)) past (le_or_lt s
         let e = field_end line start in
         let k = start_in (rest line (e + 1)) n in
         let there : start + (length (take (e - start) (drop start line)) + 1 + k) ≡ e + 1 + k =
-        omega (arith, part-long line start h, end-least line start h) in
-        ap (λ (l : List (List ℕ)). rest line (start + start_in l (suc n))) (rest-step line start h)
+        omega (arith, part_long line start h, end_least line start h) in
+        ap (λ (l : List (List ℕ)). rest line (start + start_in l (suc n))) (rest_step line start h)
         ∙ ap (rest line) there
         ∙ more (e + 1)
-        ∙ ap (drop (suc n)) (sym (rest-step line start h))
+        ∙ ap (drop (suc n)) (sym (rest_step line start h))
 
     past : length line < start → rest line (start + start_in (rest line start) (suc n)) ≡ drop (suc n) (rest line start)
     past h = rw (rest_none line start h) (ap (rest line) (add-zero start) ∙ rest_none line start h)
 
 module _ (line : List ℕ) (n start : ℕ) (es : start ≡ start_of line n) where
-  at-start : rest line start ≡ drop n (split line)
-  at-start = ap (rest line) (es ∙ ap (λ (l : List (List ℕ)). start_in l n) (sym (rest_all line)) ∙ sym (zero-add _)) ∙ rest_at line n 0
+  at_start : rest line start ≡ drop n (split line)
+  at_start = ap (rest line) (es ∙ ap (λ (l : List (List ℕ)). start_in l n) (sym (rest_all line)) ∙ sym (zero-add _)) ∙ rest_at line n 0
       ∙ ap (drop n) (rest_all line)
 
-  first-left : part_at line n ≡ get_or (rest line start) 0 []
-  first-left = sym (get_or-drop n (split line) 0 [] ∙ ap (λ (m : ℕ). get_or (split line) m []) (add-zero n))
-      ∙ ap (λ (l : List (List ℕ)). get_or l 0 []) (sym at-start)
+  first_left : part_at line n ≡ get_or (rest line start) 0 []
+  first_left = sym (get_or-drop n (split line) 0 [] ∙ ap (λ (m : ℕ). get_or (split line) m []) (add-zero n))
+      ∙ ap (λ (l : List (List ℕ)). get_or l 0 []) (sym at_start)
 
-  pub part-missing : length line < start → [] ≡ part_at line n
-  part-missing h = sym (first-left ∙ ap (λ (l : List (List ℕ)). get_or l 0 []) (rest_none line start h))
+  pub part_missing : length line < start → [] ≡ part_at line n
+  part_missing h = sym (first_left ∙ ap (λ (l : List (List ℕ)). get_or l 0 []) (rest_none line start h))
 
-  pub part-there : (end : ℕ) → start ≤ length line → end ≡ field_end line start → take (end - start) (drop start line) ≡ part_at line n
-  part-there end h e = sym (first-left ∙ ap (λ (l : List (List ℕ)). get_or l 0 []) (rest-step line start h)
+  pub part_there : (end : ℕ) → start ≤ length line → end ≡ field_end line start → take (end - start) (drop start line) ≡ part_at line n
+  part_there end h e = sym (first_left ∙ ap (λ (l : List (List ℕ)). get_or l 0 []) (rest_step line start h)
       ∙ ap (λ (m : ℕ). take (m - start) (drop start line)) (sym e))
 
 none_in : (n : ℕ) → start_in [] n ≡ 0
@@ -137,22 +137,22 @@ start_starts line number = let e : number - 0 ≡ number = omega arith in zero-a
 
 -- the loop that passes over parts: each premise is a fact that the loop has
 module _ (line : List ℕ) (number i start z : ℕ) (left : start + start_in (rest line start) (number - i) ≡ z) where
-  pub start-on : (end : ℕ) → i < number → start ≤ length line → end ≡ field_end line start →
+  pub start_on : (end : ℕ) → i < number → start ≤ length line → end ≡ field_end line start →
       end + 1 + start_in (rest line (end + 1)) (number - (i + 1)) ≡ z
-  start-on end l h e =
+  start_on end l h e =
       let k : number - i ≡ suc (number - (i + 1)) = omega arith in
       let step : start + start_in (rest line start) (number - i) ≡ start + (length
       (take (field_end line start - start) (drop start line)) + 1 + start_in (rest line (field_end line start + 1)) (number - (i + 1))) =
       ap (λ (m : ℕ). start + start_in (rest line start) m) k ∙ ap (λ (p : List (List ℕ)). start + start_in p (suc (number - (i + 1))))
-      (rest-step line start h) in
-      rw e (omega (arith, step, left, part-long line start h, end-least line start h))
+      (rest_step line start h) in
+      rw e (omega (arith, step, left, part_long line start h, end_least line start h))
 
-  pub start-past : length line < start → start ≡ z
-  start-past h = sym (add-zero start) ∙ ap (λ (m : ℕ). start + m) (sym (none_in (number - i)))
+  pub start_past : length line < start → start ≡ z
+  start_past h = sym (add-zero start) ∙ ap (λ (m : ℕ). start + m) (sym (none_in (number - i)))
       ∙ ap (λ (l : List (List ℕ)). start + start_in l (number - i)) (sym (rest_none line start h)) ∙ left
 
-  pub start-done : number ≤ i → start ≡ z
-  start-done h = let k : number - i ≡ 0 = omega arith in sym (add-zero start)
+  pub start_done : number ≤ i → start ≡ z
+  start_done h = let k : number - i ≡ 0 = omega arith in sym (add-zero start)
       ∙ ap (λ (m : ℕ). start + start_in (rest line start) m) (sym k) ∙ left
 
 -- a line has a field for each semicolon
@@ -174,28 +174,28 @@ count_fields n line e = omega (arith, length-drop 1 (split line), split_long lin
 
 -- the record type and the fields, as the walk over the fields meets them
 module _ (line : List ℕ) (name : ℕ) (en : name ≡ length (name_of line)) where
-  type-end : field_end line 0 ≡ name
-  type-end = omega (
+  type_end : field_end line 0 ≡ name
+  type_end = omega (
     arith,
-    part-long line 0 (omega arith),
-    end-least line 0 (omega arith),
-    ap length (part-there line 0 0 refl (field_end line 0) (omega arith) refl),
+    part_long line 0 (omega arith),
+    end_least line 0 (omega arith),
+    ap length (part_there line 0 0 refl (field_end line 0) (omega arith) refl),
   )
 
-  pub name-there : take (name + 1 - 1 - 0) (drop 0 line) ≡ name_of line
-  name-there =
-      let e : name + 1 - 1 - 0 ≡ field_end line 0 - 0 = omega (arith, type-end) in
-      ap (λ (m : ℕ). take m line) e ∙ part-there line 0 0 refl (field_end line 0) (omega arith) refl
+  pub name_there : take (name + 1 - 1 - 0) (drop 0 line) ≡ name_of line
+  name_there =
+      let e : name + 1 - 1 - 0 ≡ field_end line 0 - 0 = omega (arith, type_end) in
+      ap (λ (m : ℕ). take m line) e ∙ part_there line 0 0 refl (field_end line 0) (omega arith) refl
 
-  pub fields-there : rest line (name + 1) ≡ fields_of line
-  fields-there =
-      ap (λ (m : ℕ). rest line (m + 1)) (sym type-end) ∙ ap (drop 1) (sym (rest-step line 0 (omega arith)) ∙ rest_all line)
+  pub fields_there : rest line (name + 1) ≡ fields_of line
+  fields_there =
+      ap (λ (m : ℕ). rest line (m + 1)) (sym type_end) ∙ ap (drop 1) (sym (rest_step line 0 (omega arith)) ∙ rest_all line)
 
-  pub name-inside : name + 1 ≤ length line + 1
-  name-inside = omega (arith, type-end, end-most line 0 (omega arith))
+  pub name_inside : name + 1 ≤ length line + 1
+  name_inside = omega (arith, type_end, end_most line 0 (omega arith))
 
-  pub name-fits : (at : ℕ) → at + length line ≤ file_limit → Fits w64 (name + 1)
-  name-fits at h = omega (arith, name-inside)
+  pub name_fits : (at : ℕ) → at + length line ≤ file_limit → Fits w64 (name + 1)
+  name_fits at h = omega (arith, name_inside)
 
 pub name_long : (line name : List ℕ) → name ≡ name_of line → length name ≡ length (name_of line)
 name_long line name e = ap length e

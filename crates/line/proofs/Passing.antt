@@ -26,18 +26,18 @@ module _ (test : ℕ → List ℕ → List ℕ → Tested) where
   Each n beside (f ∷ fs) = (test n beside f ≡ Good) × Each (suc n) f fs
 
   module _ (further : ℕ → List ℕ → ℕ) where
-    pub fine-each : (n place : ℕ) (beside : List ℕ) (fs : List (List ℕ)) → walk_by test further n place beside fs ≡ Fine → Each n beside fs
-    fine-each n place beside [] e = tt
-    fine-each n place beside (f ∷ fs) e =
+    pub fine_each : (n place : ℕ) (beside : List ℕ) (fs : List (List ℕ)) → walk_by test further n place beside fs ≡ Fine → Each n beside fs
+    fine_each n place beside [] e = tt
+    fine_each n place beside (f ∷ fs) e =
         let a = on_fine (test n beside f) place (walk_by test further (suc n) (further place f) f fs) e in
-        (a.0, fine-each (suc n) (further place f) f fs a.1)
+        (a.0, fine_each (suc n) (further place f) f fs a.1)
 
-    pub each-fine : (n place : ℕ) (beside : List ℕ) (fs : List (List ℕ)) → Each n beside fs → walk_by test further n place beside fs ≡ Fine
-    each-fine n place beside [] g = refl
-    each-fine n place beside (f ∷ fs) g = rw g.0 (each-fine (suc n) (further place f) f fs g.1)
+    pub each_fine : (n place : ℕ) (beside : List ℕ) (fs : List (List ℕ)) → Each n beside fs → walk_by test further n place beside fs ≡ Fine
+    each_fine n place beside [] g = refl
+    each_fine n place beside (f ∷ fs) g = rw g.0 (each_fine (suc n) (further place f) f fs g.1)
 
   -- where no field that passes is longer than 100 bytes, so many fields are not long either
   module _ (least : (n : ℕ) (beside f : List ℕ) → test n beside f ≡ Good → length f ≤ 100) where
-    pub each-le : (n : ℕ) (beside : List ℕ) (fs : List (List ℕ)) → Each n beside fs → length (joined fs) ≤ 101 * length fs
-    each-le n beside [] g = zero-le
-    each-le n beside (f ∷ fs) g = omega (arith, each-le (suc n) f fs g.1, least n beside f g.0, length-append f (joined fs))
+    pub each_le : (n : ℕ) (beside : List ℕ) (fs : List (List ℕ)) → Each n beside fs → length (joined fs) ≤ 101 * length fs
+    each_le n beside [] g = zero-le
+    each_le n beside (f ∷ fs) g = omega (arith, each_le (suc n) f fs g.1, least n beside f g.0, length-append f (joined fs))

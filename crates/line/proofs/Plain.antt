@@ -29,14 +29,14 @@ type_plain Product = refl
 type_plain Feature = refl
 
 module _ (p q : ℕ → Bool) (w : (b : ℕ) → p b ≡ true → q b ≡ true) where
-  pub all-also : (f : List ℕ) → all p f ≡ true → all q f ≡ true
-  all-also [] e = refl
-  all-also (b ∷ f) e = and_both (q b) (all q f) (w b (and_left (p b) (all p f) e)) (all-also f (and_right (p b) (all p f) e))
+  pub all_also : (f : List ℕ) → all p f ≡ true → all q f ≡ true
+  all_also [] e = refl
+  all_also (b ∷ f) e = and_both (q b) (all q f) (w b (and_left (p b) (all p f) e)) (all_also f (and_right (p b) (all p f) e))
 
-  pub all-in-also : (fs : List (List ℕ)) → all_in p fs ≡ true → all_in q fs ≡ true
-  all-in-also [] e = refl
-  all-in-also (f ∷ fs) e = and_both (all q f) (all_in q fs) (all-also f (and_left (all p f) (all_in p fs) e))
-      (all-in-also fs (and_right (all p f) (all_in p fs) e))
+  pub all_in_also : (fs : List (List ℕ)) → all_in p fs ≡ true → all_in q fs ≡ true
+  all_in_also [] e = refl
+  all_in_also (f ∷ fs) e = and_both (all q f) (all_in q fs) (all_also f (and_left (all p f) (all_in p fs) e))
+      (all_in_also fs (and_right (all p f) (all_in p fs) e))
 
 pub plain_text : (b : ℕ) → plain b ≡ true → text_byte b ≡ true
 plain_text b e = and_left (text_byte b) (in_field b) e
@@ -67,27 +67,27 @@ split_plain (b ∷ line) e = go (semicolon b) refl (split_plain line (and_right 
 
 -- a text with plain parts falls into them again
 module _ (name : List ℕ) (fs : List (List ℕ)) (p : all_in plain (name ∷ fs) ≡ true) where
-  front-plain : all plain name ≡ true
-  front-plain = and_left (all plain name) (all_in plain fs) p
+  front_plain : all plain name ≡ true
+  front_plain = and_left (all plain name) (all_in plain fs) p
 
   rest_plain : all_in plain fs ≡ true
   rest_plain = and_right (all plain name) (all_in plain fs) p
 
-  pub parts-split : split (name ++ joined fs) ≡ name ∷ fs
-  parts-split = split_joined name fs (all-also plain in_field plain_in_field name front-plain) (all-in-also plain in_field plain_in_field fs rest_plain)
+  pub parts_split : split (name ++ joined fs) ≡ name ∷ fs
+  parts_split = split_joined name fs (all_also plain in_field plain_in_field name front_plain) (all_in_also plain in_field plain_in_field fs rest_plain)
 
-  pub parts-bytes : all text_byte (name ++ joined fs) ≡ true
-  parts-bytes =
-      all_append text_byte name (joined fs) (all-also plain text_byte plain_text name front-plain)
-      (joined_text fs (all-in-also plain text_byte plain_text fs rest_plain))
+  pub parts_bytes : all text_byte (name ++ joined fs) ≡ true
+  parts_bytes =
+      all_append text_byte name (joined fs) (all_also plain text_byte plain_text name front_plain)
+      (joined_text fs (all_in_also plain text_byte plain_text fs rest_plain))
 
 -- so does the text of a line whose fields are plain
 module _ (kind : Record) (fs : List (List ℕ)) (clean : all_in plain fs ≡ true) where
   all_plain : all_in plain (type_of kind ∷ fs) ≡ true
   all_plain = and_both (all plain (type_of kind)) (all_in plain fs) (type_plain kind) clean
 
-  pub plain-split : split (text_of kind fs) ≡ type_of kind ∷ fs
-  plain-split = parts-split (type_of kind) fs all_plain
+  pub plain_split : split (text_of kind fs) ≡ type_of kind ∷ fs
+  plain_split = parts_split (type_of kind) fs all_plain
 
-  pub plain-bytes : all text_byte (text_of kind fs) ≡ true
-  plain-bytes = parts-bytes (type_of kind) fs all_plain
+  pub plain_bytes : all text_byte (text_of kind fs) ≡ true
+  plain_bytes = parts_bytes (type_of kind) fs all_plain

@@ -23,9 +23,9 @@ stopped_by e = cc
 
 module _ (test : ℕ → List ℕ → List ℕ → Tested) (further : ℕ → List ℕ → ℕ) where
   -- the place of the field behind these, the first of which is at this place
-  abbrev pub placeBehind : ℕ → List (List ℕ) → ℕ
-  placeBehind place [] = place
-  placeBehind place (f ∷ front) = placeBehind (further place f) front
+  abbrev pub place_behind : ℕ → List (List ℕ) → ℕ
+  place_behind place [] = place
+  place_behind place (f ∷ front) = place_behind (further place f) front
 
   -- the field with this number is the first that is bad
   pub record Stops (n place : ℕ) (beside : List ℕ) (fs : List (List ℕ)) (refusal : Refusal) : Type 0 where
@@ -36,13 +36,13 @@ module _ (test : ℕ → List ℕ → List ℕ → Tested) (further : ℕ → Li
     pub before : Each test n beside front
     pub why : Reason
     pub here : test (n + length front) (part_before beside front) field ≡ Bad why
-    pub is : refusal ≡ because why (placeBehind place front)
+    pub is : refusal ≡ because why (place_behind place front)
 
-  pub stopped-stops : (n place : ℕ) (beside : List ℕ) (fs : List (List ℕ)) (refusal : Refusal) →
+  pub stopped_stops : (n place : ℕ) (beside : List ℕ) (fs : List (List ℕ)) (refusal : Refusal) →
       walk_by test further n place beside fs ≡ Stopped refusal → Stops n place beside fs refusal
-  stopped-stops n place beside [] refusal e = fine_stopped e
-  stopped-stops n place beside (f ∷ fs) refusal e =
-      go (test n beside f) refl (λ q. stopped-stops (suc n) (further place f) f fs refusal q) e
+  stopped_stops n place beside [] refusal e = fine_stopped e
+  stopped_stops n place beside (f ∷ fs) refusal e =
+      go (test n beside f) refl (λ q. stopped_stops (suc n) (further place f) f fs refusal q) e
     where
       go :
           (t : Tested) → test n beside f ≡ t →
@@ -72,10 +72,10 @@ module _ (test : ℕ → List ℕ → List ℕ → Tested) (further : ℕ → Li
             is = stopped_by q;
           }
 
-  pub stops-stopped : (n place : ℕ) (beside : List ℕ) (front : List (List ℕ)) (f : List ℕ) (more : List (List ℕ)) (why : Reason) →
+  pub stops_stopped : (n place : ℕ) (beside : List ℕ) (front : List (List ℕ)) (f : List ℕ) (more : List (List ℕ)) (why : Reason) →
       Each test n beside front → test (n + length front) (part_before beside front) f ≡ Bad why →
-      walk_by test further n place beside (front ++ f ∷ more) ≡ Stopped (because why (placeBehind place front))
-  stops-stopped n place beside [] f more why b h = rw (rw (add-zero n) at h)
-  stops-stopped n place beside (g ∷ front) f more why b h =
+      walk_by test further n place beside (front ++ f ∷ more) ≡ Stopped (because why (place_behind place front))
+  stops_stopped n place beside [] f more why b h = rw (rw (add-zero n) at h)
+  stops_stopped n place beside (g ∷ front) f more why b h =
       let h' : test (suc n + length front) (part_before g front) f ≡ Bad why = rw (suc-add n (length front), ← add-suc n (length front)) h in
-      rw b.0 (stops-stopped (suc n) (further place g) g front f more why b.1 h')
+      rw b.0 (stops_stopped (suc n) (further place g) g front f more why b.1 h')

@@ -15,7 +15,7 @@ use Rattle.line.specs.Parts.{name_of, fields_of, field_end}
 use Rattle.line.specs.Walk.{on_test, walk}
 use Rattle.line.specs.declared.walk.Walk.{Walk}
 use Rattle.line.specs.declared.walk.Walk.TheVariants.{Fine, Stopped}
-use Rattle.line.proofs.Parts.{rest, rest_none, rest-step, part-long, end-least, name-there, fields-there}
+use Rattle.line.proofs.Parts.{rest, rest_none, rest_step, part_long, end_least, name_there, fields_there}
 
 -- what is left of the walk at a place, with the part in front of it from the place beside on, is the whole
 abbrev pub Left : List Row → List ℕ → ℕ → ℕ → ℕ → ℕ → Walk → Type 0
@@ -23,17 +23,17 @@ Left rows line at number beside start whole = walk rows number (at + start) (tak
     (rest line start) ≡ whole
 
 module _ (rows : List Row) (line : List ℕ) (at name : ℕ) (en : name ≡ length (name_of line)) where
-  pub walk-starts : Left rows line at 1 0 (name + 1) (walk rows 1 (at + length (name_of line) + 1) (name_of line) (fields_of line))
-  walk-starts =
+  pub walk_starts : Left rows line at 1 0 (name + 1) (walk rows 1 (at + length (name_of line) + 1) (name_of line) (fields_of line))
+  walk_starts =
       let e : at + (name + 1) ≡ at + length (name_of line) + 1 = omega arith in
       ap (λ (m : ℕ). walk rows 1 m (take (name + 1 - 1 - 0) (drop 0 line)) (rest line (name + 1))) e
-      ∙ ap (λ (b : List ℕ). walk rows 1 (at + length (name_of line) + 1) b (rest line (name + 1))) (name-there line name en)
-      ∙ ap (λ (fs : List (List ℕ)). walk rows 1 (at + length (name_of line) + 1) (name_of line) fs) (fields-there line name en)
+      ∙ ap (λ (b : List ℕ). walk rows 1 (at + length (name_of line) + 1) b (rest line (name + 1))) (name_there line name en)
+      ∙ ap (λ (fs : List (List ℕ)). walk rows 1 (at + length (name_of line) + 1) (name_of line) fs) (fields_there line name en)
 
 module _ (rows : List Row) (line : List ℕ) (at number beside start : ℕ) (whole : Walk)
     (left : Left rows line at number beside start whole) where
-  pub walk-done : length line < start → Fine ≡ whole
-  walk-done h = sym (ap (walk rows number (at + start) (take (start - 1 - beside) (drop beside line))) (rest_none line start h)) ∙ left
+  pub walk_done : length line < start → Fine ≡ whole
+  walk_done h = sym (ap (walk rows number (at + start) (take (start - 1 - beside) (drop beside line))) (rest_none line start h)) ∙ left
 
   module _ (end : ℕ) (t : Tested) (h : start ≤ length line) (ee : end ≡ field_end line start)
       (et : t ≡ tested rows number (take (start - 1 - beside) (drop beside line)) (take (end - start) (drop start line))) where
@@ -41,17 +41,17 @@ module _ (rows : List Row) (line : List ℕ) (at number beside start : ℕ) (who
         (take (end - start) (drop start line)) (rest line (end + 1))) ≡ whole
     turn =
         rw (et, ee)
-        (sym (ap (walk rows number (at + start) (take (start - 1 - beside) (drop beside line))) (rest-step line start h)) ∙ left)
+        (sym (ap (walk rows number (at + start) (take (start - 1 - beside) (drop beside line))) (rest_step line start h)) ∙ left)
 
-    pub walk-stops : (why : Reason) → t ≡ Bad why → Stopped (because why (at + start)) ≡ whole
-    walk-stops why e = rw e at turn
+    pub walk_stops : (why : Reason) → t ≡ Bad why → Stopped (because why (at + start)) ≡ whole
+    walk_stops why e = rw e at turn
 
-    pub walk-on : t ≡ Good → Left rows line at (number + 1) start (end + 1) whole
-    walk-on e =
+    pub walk_on : t ≡ Good → Left rows line at (number + 1) start (end + 1) whole
+    walk_on e =
         let f = take (end - start) (drop start line) in
-        let long : length (take (end - start) (drop start line)) ≡ end - start = rw ee (part-long line start h) in
+        let long : length (take (end - start) (drop start line)) ≡ end - start = rw ee (part_long line start h) in
         let place : at + (end + 1) ≡ at + start + length (take (end - start) (drop start line)) + 1 =
-        omega (arith, long, ee, end-least line start h) in
+        omega (arith, long, ee, end_least line start h) in
         let same : end + 1 - 1 - start ≡ end - start = omega arith in
         let on : walk rows (suc number) (at + start + length f + 1) f (rest line (end + 1)) ≡ whole = rw e at turn in
         ap (λ (n : ℕ). walk rows n (at + (end + 1)) (take (end + 1 - 1 - start) (drop start line)) (rest line (end + 1))) (add-one number)

@@ -15,7 +15,7 @@ use Rattle.file.specs.File.{judged, list_of}
 use Rattle.file.specs.declared.whole.Totals.{Totals}
 use Rattle.file.specs.declared.whole.FileAnswer.{FileAnswer}
 use Rattle.file.specs.declared.whole.FileAnswer.TheVariants.{Accepted, Refused}
-use Rattle.file.proofs.Listing.{none-listed, lines-listed, lines_fit as words-fit}
+use Rattle.file.proofs.Listing.{none_listed, lines_listed, lines_fit as words-fit}
 use Rattle.purpose.specs.Source.{source_of}
 use Rattle.purpose.specs.Purpose.{purpose_long, cut, source_text, text_from, on_source, on_file, purpose_answer, purpose_of}
 use Rattle.purpose.specs.declared.source.Source.{Source}
@@ -26,13 +26,13 @@ use Rattle.purpose.specs.declared.write.PurposeAnswer.TheVariants.{Written, Refu
 
 -- the file is refused
 module _ (s : List ℕ) (lent : Lent) (a : FileAnswer) (ea : a ≡ (judged s lent).answer) (refusal : Refusal) (e : a ≡ Refused refusal) where
-  pub file-answer : (n room : ℕ) → Refused refusal ≡ purpose_answer s n lent room
+  pub file_answer : (n room : ℕ) → Refused refusal ≡ purpose_answer s n lent room
   unfolding on_file
-  file-answer n room = rw (← ea, e)
+  file_answer n room = rw (← ea, e)
 
-  pub file-list : (m : ℕ) → m ≡ lent.words → (list : List ℕ) → list ≡ list_of lent.words (judged s lent).starts → list ≡ replicate m 0
-  file-list m em list el =
-      let none : (judged s lent).starts ≡ [] = none-listed s lent (sym ea ∙ e) in
+  pub file_list : (m : ℕ) → m ≡ lent.words → (list : List ℕ) → list ≡ list_of lent.words (judged s lent).starts → list ≡ replicate m 0
+  file_list m em list el =
+      let none : (judged s lent).starts ≡ [] = none_listed s lent (sym ea ∙ e) in
       let k : lent.words - 0 ≡ m = omega (arith, em) in
       el ∙ ap (list_of lent.words) none ∙ ap (λ (n : ℕ). replicate n 0) k
 
@@ -48,7 +48,7 @@ module _ (s : List ℕ) (lent : Lent) (a : FileAnswer) (ea : a ≡ (judged s len
       (ef : found ≡ source_of s (take totals.lines list) n) where
     listed : take totals.lines list ≡ (judged s lent).starts
     listed = ap (take totals.lines) el ∙ take_at (judged s lent).starts (replicate (lent.words - length (judged s lent).starts) 0)
-        totals.lines (lines-listed s lent totals accepts)
+        totals.lines (lines_listed s lent totals accepts)
 
     source_is : found ≡ source_of s (judged s lent).starts n
     source_is = ef ∙ ap (λ (starts : List ℕ). source_of s starts n) listed
@@ -66,12 +66,12 @@ module _ (s : List ℕ) (lent : Lent) (a : FileAnswer) (ea : a ≡ (judged s len
       unfolding on_source
       too_short h = answered (length out) (Refused (because OutputTooShort 0)) (rw (es, lt-ltb (length out) purpose_long h))
 
-      pub was-written : purpose_long ≤ length out → (r : ℕ) → r ≡ length (cut (source_text s source)) → Written r ≡ purpose_answer s n lent (length out)
+      pub was_written : purpose_long ≤ length out → (r : ℕ) → r ≡ length (cut (source_text s source)) → Written r ≡ purpose_answer s n lent (length out)
       unfolding on_source
-      was-written h r er = answered (length out) (Written r) (rw (es, le-ltb (length out) purpose_long h, er))
+      was_written h r er = answered (length out) (Written r) (rw (es, le-ltb (length out) purpose_long h, er))
 
-      pub text-there : (o : List ℕ) → o ≡ written out 0 (cut (source_text s source)) → o ≡ written out 0 (purpose_of s n lent)
-      text-there o eo = eo ∙ ap (λ (x : Sourced). written out 0 (text_from s x)) (sym es ∙ source_is)
+      pub text_there : (o : List ℕ) → o ≡ written out 0 (cut (source_text s source)) → o ≡ written out 0 (purpose_of s n lent)
+      text_there o eo = eo ∙ ap (λ (x : Sourced). written out 0 (text_from s x)) (sym es ∙ source_is)
 
 pub cleared : (m : ℕ) (list list2 : List ℕ) → length list ≡ m → list2 ≡ replicate (length list) 0 → list2 ≡ replicate m 0
 cleared m list list2 long e = e ∙ ap (λ (k : ℕ). replicate k 0) long

@@ -37,24 +37,24 @@ written_twice out a b =
 
 -- one piece
 module _ (src part : List ℕ) (at : ℕ) (low : at ≤ purpose_long) (e : part ≡ take (purpose_long - at) src) where
-  pub piece-long : at + length part ≡ at + length (take (purpose_long - at) src)
-  piece-long = rw e
+  pub piece_long : at + length part ≡ at + length (take (purpose_long - at) src)
+  piece_long = rw e
 
   pub piece_fits : at + length part ≤ purpose_long
   piece_fits = omega (arith, ap length e, length-take (purpose_long - at) src)
 
-  pub piece-there : (out : List ℕ) → purpose_long ≤ length out → (o : List ℕ) → o ≡ placed out at part → o ≡ written out at (take (purpose_long - at) src)
+  pub piece_there : (out : List ℕ) → purpose_long ≤ length out → (o : List ℕ) → o ≡ placed out at part → o ≡ written out at (take (purpose_long - at) src)
   unfolding placed
-  piece-there out room o eo = eo ∙ rw (le-leb (at + length part) (length out) (omega (arith, piece_fits)), e)
+  piece_there out room o eo = eo ∙ rw (le-leb (at + length part) (length out) (omega (arith, piece_fits)), e)
 
 -- a piece behind what is cut of the text a
 module _ (a : List ℕ) (p : ℕ) (ep : p ≡ length (cut a)) (b : List ℕ) where
-  more-long : (q : ℕ) → q ≡ p + length (take (purpose_long - p) b) → q ≡ length (cut (a ++ b))
-  more-long q eq = eq ∙ rw ep (sym (length-append (cut a) (take (purpose_long - length (cut a)) b)) ∙ ap length (cut_more a b))
+  more_long : (q : ℕ) → q ≡ p + length (take (purpose_long - p) b) → q ≡ length (cut (a ++ b))
+  more_long q eq = eq ∙ rw ep (sym (length-append (cut a) (take (purpose_long - length (cut a)) b)) ∙ ap length (cut_more a b))
 
-  more-there : (out o : List ℕ) → o ≡ written out 0 (cut a) → (o2 : List ℕ) → o2 ≡ written o p (take (purpose_long - p) b) →
+  more_there : (out o : List ℕ) → o ≡ written out 0 (cut a) → (o2 : List ℕ) → o2 ≡ written o p (take (purpose_long - p) b) →
       o2 ≡ written out 0 (cut (a ++ b))
-  more-there out o eo o2 eo2 = eo2 ∙ rw (eo, ep) (written_twice out (cut a) (take (purpose_long - length (cut a)) b)
+  more_there out o eo o2 eo2 = eo2 ∙ rw (eo, ep) (written_twice out (cut a) (take (purpose_long - length (cut a)) b)
       ∙ ap (written out 0) (cut_more a b))
 
 -- two texts with a slash between them, written in three pieces
@@ -63,37 +63,37 @@ module _ (a b : List ℕ) (p : ℕ) (ep : p ≡ 0 + length (take (purpose_long -
   first = ep ∙ zero-add (length (cut a))
 
   front : q ≡ length (cut (a ++ bytes "/"))
-  front = more-long a p first (bytes "/") q eq
+  front = more_long a p first (bytes "/") q eq
 
   pub joined_long : (r : ℕ) → r ≡ q + length (take (purpose_long - q) b) → r ≡ length (cut (a ++ bytes "/" ++ b))
-  joined_long r er = more-long (a ++ bytes "/") q front b r er
+  joined_long r er = more_long (a ++ bytes "/") q front b r er
 
-  pub joined-there :
+  pub joined_there :
       (out o : List ℕ) → o ≡ written out 0 (take (purpose_long - 0) a) → (o2 : List ℕ) → o2 ≡ written o p (take (purpose_long - p) (bytes "/")) →
       (o3 : List ℕ) → o3 ≡ written o2 q (take (purpose_long - q) b) →
       o3 ≡ written out 0 (cut (a ++ bytes "/" ++ b))
-  joined-there out o eo o2 eo2 o3 eo3 =
-      more-there (a ++ bytes "/") q front b out o2 (more-there a p first (bytes "/") out o eo o2 eo2) o3 eo3
+  joined_there out o eo o2 eo2 o3 eo3 =
+      more_there (a ++ bytes "/") q front b out o2 (more_there a p first (bytes "/") out o eo o2 eo2) o3 eo3
 
 -- the text of a source
 module _ (s : List ℕ) (source : Source) where
   module _ (at n : ℕ) (es : source ≡ Field at n) (f : List ℕ) (ef : f ≡ field_at s at n) where
-    field-text : f ≡ source_text s source
-    field-text = rw es ef
+    field_text : f ≡ source_text s source
+    field_text = rw es ef
 
     pub field_long : (r : ℕ) → r ≡ 0 + length (take (purpose_long - 0) f) → r ≡ length (cut (source_text s source))
-    field_long r er = er ∙ zero-add (length (cut f)) ∙ ap (λ (l : List ℕ). length (cut l)) field-text
+    field_long r er = er ∙ zero-add (length (cut f)) ∙ ap (λ (l : List ℕ). length (cut l)) field_text
 
-    pub field-there : (out o : List ℕ) → o ≡ written out 0 (take (purpose_long - 0) f) → o ≡ written out 0 (cut (source_text s source))
-    field-there out o eo = eo ∙ ap (λ (l : List ℕ). written out 0 (cut l)) field-text
+    pub field_there : (out o : List ℕ) → o ≡ written out 0 (take (purpose_long - 0) f) → o ≡ written out 0 (cut (source_text s source))
+    field_there out o eo = eo ∙ ap (λ (l : List ℕ). written out 0 (cut l)) field_text
 
   module _ (parcel shipment : ℕ) (es : source ≡ Joined parcel shipment) (a b : List ℕ) (ea : a ≡ field_at s parcel 1)
       (eb : b ≡ field_at s shipment 16) where
-    both-text : a ++ bytes "/" ++ b ≡ source_text s source
-    both-text = rw (es, ea, eb)
+    both_text : a ++ bytes "/" ++ b ≡ source_text s source
+    both_text = rw (es, ea, eb)
 
     pub both_long : (r : ℕ) → r ≡ length (cut (a ++ bytes "/" ++ b)) → r ≡ length (cut (source_text s source))
-    both_long r er = er ∙ ap (λ (l : List ℕ). length (cut l)) both-text
+    both_long r er = er ∙ ap (λ (l : List ℕ). length (cut l)) both_text
 
-    pub both-there : (out o : List ℕ) → o ≡ written out 0 (cut (a ++ bytes "/" ++ b)) → o ≡ written out 0 (cut (source_text s source))
-    both-there out o eo = eo ∙ ap (λ (l : List ℕ). written out 0 (cut l)) both-text
+    pub both_there : (out o : List ℕ) → o ≡ written out 0 (cut (a ++ bytes "/" ++ b)) → o ≡ written out 0 (cut (source_text s source))
+    both_there out o eo = eo ∙ ap (λ (l : List ℕ). written out 0 (cut l)) both_text

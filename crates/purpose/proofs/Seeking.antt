@@ -25,14 +25,14 @@ module _ (s starts : List ℕ) (i z : ℕ) (left : shipment_above s starts i ≡
     above : (if t then i - 1 else shipment_above s starts (i - 1)) ≡ z
     above = let k : i ≡ suc (i - 1) = omega arith in rw (et, eo) (sym (ap (shipment_above s starts) k) ∙ left)
 
-    pub ship-here : t ≡ true → i - 1 ≡ z
-    ship-here e = rw e at above
+    pub ship_here : t ≡ true → i - 1 ≡ z
+    ship_here e = rw e at above
 
-    pub ship-up : t ≡ false → shipment_above s starts (i - 1) ≡ z
-    ship-up e = rw e at above
+    pub ship_up : t ≡ false → shipment_above s starts (i - 1) ≡ z
+    ship_up e = rw e at above
 
-  pub ship-none : i ≤ 0 → 0 ≡ z
-  ship-none h = let k : i ≡ 0 = omega arith in sym (ap (shipment_above s starts) k) ∙ left
+  pub ship_none : i ≤ 0 → 0 ≡ z
+  ship_none h = let k : i ≡ 0 = omega arith in sym (ap (shipment_above s starts) k) ∙ left
 
 -- the loop downward from a shipment: the first parcel from the line i on is the one looked for
 module _ (s starts : List ℕ) (i z : ℕ) (left : first_parcel s (drop i starts) ≡ z) where
@@ -40,39 +40,39 @@ module _ (s starts : List ℕ) (i z : ℕ) (left : first_parcel s (drop i starts
     below : (if t then o else first_parcel s (drop (suc i) starts)) ≡ z
     below = rw (et, eo) (sym (ap (first_parcel s) (drop-cons starts i 0 h)) ∙ left)
 
-    pub parcel-here : t ≡ true → o ≡ z
-    parcel-here e = rw e at below
+    pub parcel_here : t ≡ true → o ≡ z
+    parcel_here e = rw e at below
 
-    pub parcel-on : t ≡ false → first_parcel s (drop (i + 1) starts) ≡ z
-    parcel-on e = rw add-one (rw e at below)
+    pub parcel_on : t ≡ false → first_parcel s (drop (i + 1) starts) ≡ z
+    parcel_on e = rw add-one (rw e at below)
 
-  pub parcel-none : length starts ≤ i → 0 ≡ z
-  parcel-none h = sym (ap (first_parcel s) (drop_of_length-le starts {i = i} h)) ∙ left
+  pub parcel_none : length starts ≤ i → 0 ≡ z
+  parcel_none h = sym (ap (first_parcel s) (drop_of_length-le starts {i = i} h)) ∙ left
 
 -- the source for a cash line
 module _ (s starts : List ℕ) (n at : ℕ) (ea : at ≡ get_or starts n 0) (t : Bool) (et : t ≡ is_filled (split (text_at s at)) 8) where
-  pub own-field : t ≡ true → Field at 8 ≡ for_feature s starts n
+  pub own_field : t ≡ true → Field at 8 ≡ for_feature s starts n
   unfolding for_feature
-  own-field e = rw (← ea, ← et, e)
+  own_field e = rw (← ea, ← et, e)
 
-  pub from-above :
+  pub from_above :
       t ≡ false → (shipment o parcel : ℕ) → shipment ≡ shipment_above s starts n → parcel ≡ first_parcel s (drop (shipment + 1) starts) →
       o ≡ get_or starts shipment 0 →
       (r : Source) → r ≡ from_shipment s o parcel → r ≡ for_feature s starts n
   unfolding for_feature
-  from-above e shipment o parcel es ep eo r er = rw (← ea, ← et, e, ← es, ← ep, ← eo) er
+  from_above e shipment o parcel es ep eo r er = rw (← ea, ← et, e, ← es, ← ep, ← eo) er
 
 -- the source for any line
 module _ (s starts : List ℕ) (n : ℕ) where
-  pub past-lines : length starts ≤ n → Nowhere ≡ source_of s starts n
+  pub past_lines : length starts ≤ n → Nowhere ≡ source_of s starts n
   unfolding source_of
-  past-lines h = rw (le-leb (length starts) n h)
+  past_lines h = rw (le-leb (length starts) n h)
 
   module _ (h : n < length starts) (at : ℕ) (ea : at ≡ get_or starts n 0) (t : Bool) (et : t ≡ is_cash_line s at) where
-    pub no-cash-line : not t ≡ true → Nowhere ≡ source_of s starts n
+    pub no_cash_line : not t ≡ true → Nowhere ≡ source_of s starts n
     unfolding source_of
-    no-cash-line e = rw (lt-leb (length starts) n h, ← ea, ← et, not-true t e)
+    no_cash_line e = rw (lt-leb (length starts) n h, ← ea, ← et, not-true t e)
 
-    pub cash-line : not t ≡ false → (r : Source) → r ≡ for_feature s starts n → From r ≡ source_of s starts n
+    pub cash_line : not t ≡ false → (r : Source) → r ≡ for_feature s starts n → From r ≡ source_of s starts n
     unfolding source_of
-    cash-line e r er = rw (lt-leb (length starts) n h, ← ea, ← et, not-false t e, er)
+    cash_line e r er = rw (lt-leb (length starts) n h, ← ea, ← et, not-false t e, er)

@@ -9,8 +9,8 @@ use Rattle.line.specs.Line.{text_at}
 use Rattle.purpose.specs.At.{field_at, filled_at}
 
 module _ (s : List ℕ) (at n : ℕ) (line : List ℕ) (el : line ≡ text_at s at) where
-  pub part-told : (f : List ℕ) → f ≡ part_at line n → f ≡ field_at s at n
-  part-told f e = e ∙ ap (λ (l : List ℕ). part_at l n) el
+  pub part_told : (f : List ℕ) → f ≡ part_at line n → f ≡ field_at s at n
+  part_told f e = e ∙ ap (λ (l : List ℕ). part_at l n) el
 
-  pub filled-told : (t : Bool) → t ≡ is_filled (split line) n → t ≡ filled_at s at n
-  filled-told t e = e ∙ ap (λ (l : List ℕ). is_filled (split l) n) el
+  pub filled_told : (t : Bool) → t ≡ is_filled (split line) n → t ≡ filled_at s at n
+  filled_told t e = e ∙ ap (λ (l : List ℕ). is_filled (split l) n) el

@@ -43,15 +43,15 @@ ends_as due case t e f = rw e f
 
 -- the row of the record that comes, tested
 module _ (next : ℕ) (kind : Record) (en : next ≡ row_of kind) where
-  pub one-row : (n : ℕ) → eqb next n ≡ (eqb (row_of kind) n || false)
-  one-row n = rw (← en) (go (eqb next n))
+  pub one_row : (n : ℕ) → eqb next n ≡ (eqb (row_of kind) n || false)
+  one_row n = rw (← en) (go (eqb next n))
     where
       go : (t : Bool) → t ≡ (t || false)
       go true = refl
       go false = refl
 
-  pub parcel-rows : (t : Bool) → t ≡ (leb 3 next && leb next 4) → t ≡ (eqb (row_of kind) 3 || (eqb (row_of kind) 4 || false))
-  parcel-rows t e = e ∙ rw en (go kind)
+  pub parcel_rows : (t : Bool) → t ≡ (leb 3 next && leb next 4) → t ≡ (eqb (row_of kind) 3 || (eqb (row_of kind) 4 || false))
+  parcel_rows t e = e ∙ rw en (go kind)
     where
       go : (k : Record) → (leb 3 (row_of k) && leb (row_of k) 4) ≡ (eqb (row_of k) 3 || (eqb (row_of k) 4 || false))
       go Header = refl
@@ -61,12 +61,12 @@ module _ (next : ℕ) (kind : Record) (en : next ≡ row_of kind) where
       go Product = refl
       go Feature = refl
 
-  pub next-rows : (t : Bool) → t ≡ (eqb next 5 || (eqb next 2 || (eqb next 1 || false))) →
+  pub next_rows : (t : Bool) → t ≡ (eqb next 5 || (eqb next 2 || (eqb next 1 || false))) →
       t ≡ (eqb (row_of kind) 5 || (eqb (row_of kind) 2 || (eqb (row_of kind) 1 || false)))
-  next-rows t e = e ∙ rw en
+  next_rows t e = e ∙ rw en
 
-  pub last-rows : leb 4 next ≡ (eqb (row_of kind) 4 || (eqb (row_of kind) 5 || false))
-  last-rows = rw en (go kind)
+  pub last_rows : leb 4 next ≡ (eqb (row_of kind) 4 || (eqb (row_of kind) 5 || false))
+  last_rows = rw en (go kind)
     where
       go : (k : Record) → leb 4 (row_of k) ≡ (eqb (row_of k) 4 || (eqb (row_of k) 5 || false))
       go Header = refl
@@ -86,34 +86,34 @@ or_last m n = go (eqb m n)
 
 -- the tests of a name in their order
 module _ (name : List ℕ) (a : Bool) (ea : a ≡ same name (type_of Header)) where
-  pub is-header : a ≡ true → Known Header ≡ named name
+  pub is_header : a ≡ true → Known Header ≡ named name
   unfolding named
-  is-header h = simp (← ea, h)
+  is_header h = simp (← ea, h)
 
   module _ (na : a ≡ false) (b : Bool) (eb : b ≡ same name (type_of Sender)) where
-    pub is-sender : b ≡ true → Known Sender ≡ named name
+    pub is_sender : b ≡ true → Known Sender ≡ named name
     unfolding named
-    is-sender h = simp (← ea, na, ← eb, h)
+    is_sender h = simp (← ea, na, ← eb, h)
 
     module _ (nb : b ≡ false) (c : Bool) (ec : c ≡ same name (type_of Shipment)) where
-      pub is-shipment : c ≡ true → Known Shipment ≡ named name
+      pub is_shipment : c ≡ true → Known Shipment ≡ named name
       unfolding named
-      is-shipment h = simp (← ea, na, ← eb, nb, ← ec, h)
+      is_shipment h = simp (← ea, na, ← eb, nb, ← ec, h)
 
       module _ (nc : c ≡ false) (d : Bool) (ed : d ≡ same name (type_of Parcel)) where
-        pub is-parcel : d ≡ true → Known Parcel ≡ named name
+        pub is_parcel : d ≡ true → Known Parcel ≡ named name
         unfolding named
-        is-parcel h = simp (← ea, na, ← eb, nb, ← ec, nc, ← ed, h)
+        is_parcel h = simp (← ea, na, ← eb, nb, ← ec, nc, ← ed, h)
 
         module _ (nd : d ≡ false) (e : Bool) (ee : e ≡ same name (type_of Product)) where
-          pub is-product : e ≡ true → Known Product ≡ named name
+          pub is_product : e ≡ true → Known Product ≡ named name
           unfolding named
-          is-product h = simp (← ea, na, ← eb, nb, ← ec, nc, ← ed, nd, ← ee, h)
+          is_product h = simp (← ea, na, ← eb, nb, ← ec, nc, ← ed, nd, ← ee, h)
 
           module _ (ne : e ≡ false) (f : Bool) (ef : f ≡ same name (type_of Feature)) where
-            pub is-feature : f ≡ true → Known Feature ≡ named name
+            pub is_feature_lem : f ≡ true → Known Feature ≡ named name
             unfolding named
-            is-feature h = simp (← ea, na, ← eb, nb, ← ec, nc, ← ed, nd, ← ee, ne, ← ef, h)
+            is_feature_lem h = simp (← ea, na, ← eb, nb, ← ec, nc, ← ed, nd, ← ee, ne, ← ef, h)
 
             pub is_none : f ≡ false → Unknown ≡ named name
             unfolding named

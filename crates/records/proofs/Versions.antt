@@ -26,20 +26,20 @@ told_neither n h k = simp (ne_eqb n 5 h, ne_eqb n 7 k)
 
 -- a call that is told a version, by the cases that the code meets
 module _ {A : Type 0} (n : ℕ) (refused : Refusal → A) (answer : Version → A) (told : VersionTold) (et : told ≡ version_numbered n) (r : A) where
-  pub under-neither : told ≡ Neither → r ≡ refused (because UnknownVersion 0) → r ≡ under_version (version_numbered n) refused answer
-  under-neither e f = f ∙ rw (← et, e)
+  pub under_neither : told ≡ Neither → r ≡ refused (because UnknownVersion 0) → r ≡ under_version (version_numbered n) refused answer
+  under_neither e f = f ∙ rw (← et, e)
 
-  pub under-either : (version : Version) → told ≡ Either version → r ≡ answer version → r ≡ under_version (version_numbered n) refused answer
-  under-either version e f = f ∙ rw (← et, e)
+  pub under_either : (version : Version) → told ≡ Either version → r ≡ answer version → r ≡ under_version (version_numbered n) refused answer
+  under_either version e f = f ∙ rw (← et, e)
 
 -- what its answer tells, and the other way round
 module _ {A : Type 0} (n : ℕ) (refused : Refusal → A) (answer : Version → A) where
-  pub under-is : (version : Version) → version_numbered n ≡ Either version → under_version (version_numbered n) refused answer ≡ answer version
-  under-is version e = rw e
+  pub under_is : (version : Version) → version_numbered n ≡ Either version → under_version (version_numbered n) refused answer ≡ answer version
+  under_is version e = rw e
 
-  pub under-passes : (a : A) → (refused (because UnknownVersion 0) ≡ a → ⊥) → under_version (version_numbered n) refused answer ≡ a →
+  pub under_passes : (a : A) → (refused (because UnknownVersion 0) ≡ a → ⊥) → under_version (version_numbered n) refused answer ≡ a →
       UnderVersion n (λ version. answer version ≡ a)
-  under-passes a never e = go (version_numbered n) refl e
+  under_passes a never e = go (version_numbered n) refl e
     where
       go : (told : VersionTold) → version_numbered n ≡ told → under_version told refused answer ≡ a → UnderVersion n (λ version. answer version ≡ a)
       go Neither t q = absurd (never q)

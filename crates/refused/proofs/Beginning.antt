@@ -15,7 +15,7 @@ use Rattle.grammar.specs.Grammar.{LineOk}
 use Rattle.allowed.specs.Allowed.{FileLine, line_bytes, file_bytes, LinesOk, codes_on, identcodes, one_of_codes, NoneTwice}
 use Rattle.allowed.proofs.Codes.{Fresh, codes_append}
 use Rattle.file.specs.Contact.{lacks_contact}
-use Rattle.allowed.proofs.Contacts.{parts_of, contacts_after, asked-all, all_asked, asked-front, asked-at, asked-more}
+use Rattle.allowed.proofs.Contacts.{parts_of, contacts_after, asked_all, all_asked, asked_front, asked_at, asked_more}
 use Rattle.allowed.proofs.Twice.{none_more, fresh_before}
 use Rattle.refused.specs.File.{Come, due_behind, Begins, NextLine}
 
@@ -71,8 +71,8 @@ begins_more countries s ls l left n =
       order = come_more First ls l b.order n.follows.comes;
       codes = subst NoneTwice (sym (codes_more ls l)) (none_more l.kind l.fields (identcodes ls) b.codes n.fresh);
       contacts =
-          asked-all countries (ls ++ (l ∷ []))
-          (asked-more countries ls l true (all_asked countries ls b.contacts) n.reached);
+          asked_all countries (ls ++ (l ∷ []))
+          (asked_more countries ls l true (all_asked countries ls b.contacts) n.reached);
     }
 
 -- a line in the middle
@@ -115,12 +115,12 @@ next_at countries s ls l ks left b =
           lines = lines_front (profile (version_of s)) ls (l ∷ ks) b.lines;
           order = come_front First ls (l ∷ ks) b.order;
           codes = none_front (identcodes ls) (identcodes (l ∷ ks)) none;
-          contacts = asked-all countries ls (asked-front countries ls (l ∷ ks) true asked);
+          contacts = asked_all countries ls (asked_front countries ls (l ∷ ks) true asked);
         };
         ok = lines_at (profile (version_of s)) ls l ks b.lines;
         comes = come_at First ls l ks b.order;
       };
-      reached = asked-at countries ls l ks true asked;
+      reached = asked_at countries ls l ks true asked;
       fresh = fresh_before l.kind l.fields (identcodes ls) (identcodes ks) none;
     }
 
@@ -129,5 +129,5 @@ module _ {countries : List ℕ} (s : List ℕ) (ls : List FileLine) (left : List
   pub left_there : drop (length (file_bytes ls)) s ≡ left
   left_there = ap (drop (length (file_bytes ls))) b.there ∙ drop-append_seam (file_bytes ls) left
 
-  pub left-long : length s ≡ length (file_bytes ls) + length left
-  left-long = ap length b.there ∙ length-append (file_bytes ls) left
+  pub left_long : length s ≡ length (file_bytes ls) + length left
+  left_long = ap length b.there ∙ length-append (file_bytes ls) left

@@ -24,7 +24,7 @@ use Rattle.check_characters.specs.declared.number.Kind.{Kind}
 use Rattle.check_characters.specs.declared.number.Kind.TheVariants.{Tracking, Label}
 use Rattle.check_characters.specs.declared.number.NumberAnswer.{NumberAnswer}
 use Rattle.check_characters.specs.declared.number.NumberAnswer.TheVariants.{Accepted, Refused as NotAccepted}
-use Rattle.check_characters.proofs.Days.{number_front, answers-long, answer_at, number-inside, front, day-length, day-short, day-answered}
+use Rattle.check_characters.proofs.Days.{number_front, answers_long, answer_at, number_inside, front, day_length, day_short, day_answered}
 use Rattle.slips.specs.Exactly.{SoundNumber}
 use Rattle.slips.proofs.Numbers.{accepted_sound, sound_accepted}
 use Rattle.refused.specs.Number.{RefusedNumber}
@@ -36,34 +36,34 @@ abbrev alone : List ℕ → ℕ
 alone number = number_told (number_verdict (checked_number number))
 
 module _ (s : List ℕ) (long : length s ≡ 15) where
-  sound-byte : (kind : Kind) → SoundNumber kind s → AnswerByte s 0
-  sound-byte Tracking g = AnswerByte.sound g
-  sound-byte Label g = let z = g.long in absurd (omega arith)
+  sound_byte : (kind : Kind) → SoundNumber kind s → AnswerByte s 0
+  sound_byte Tracking g = AnswerByte.sound g
+  sound_byte Label g = let z = g.long in absurd (omega arith)
 
-  refused-byte : (refusal : Refusal) → RefusedNumber s refusal → AnswerByte s (number_of refusal.why)
-  refused-byte refusal (RefusedNumber.wrong_length n) = absurd (n Tracking long)
-  refused-byte refusal (RefusedNumber.wrong_symbol Tracking i n g) = AnswerByte.wrong_symbol i g
-  refused-byte refusal (RefusedNumber.wrong_symbol Label i n g) = absurd (omega arith)
-  refused-byte refusal (RefusedNumber.wrong_check Tracking n g p) = AnswerByte.wrong_check g p
-  refused-byte refusal (RefusedNumber.wrong_check Label n g p) = absurd (omega arith)
+  refused_byte : (refusal : Refusal) → RefusedNumber s refusal → AnswerByte s (number_of refusal.why)
+  refused_byte refusal (RefusedNumber.wrong_length n) = absurd (n Tracking long)
+  refused_byte refusal (RefusedNumber.wrong_symbol Tracking i n g) = AnswerByte.wrong_symbol i g
+  refused_byte refusal (RefusedNumber.wrong_symbol Label i n g) = absurd (omega arith)
+  refused_byte refusal (RefusedNumber.wrong_check Tracking n g p) = AnswerByte.wrong_check g p
+  refused_byte refusal (RefusedNumber.wrong_check Label n g p) = absurd (omega arith)
 
   -- it means what it says,
-  pub byte-means : AnswerByte s (alone s)
-  byte-means = go (checked_number s) refl
+  pub byte_means : AnswerByte s (alone s)
+  byte_means = go (checked_number s) refl
     where
       go : (a : NumberAnswer) → checked_number s ≡ a → AnswerByte s (number_told (number_verdict a))
-      go (Accepted kind) e = sound-byte kind (accepted_sound kind s e)
-      go (NotAccepted refusal) e = refused-byte refusal ((number_refused_exactly s refusal).0 e)
+      go (Accepted kind) e = sound_byte kind (accepted_sound kind s e)
+      go (NotAccepted refusal) e = refused_byte refusal ((number_refused_exactly s refusal).0 e)
 
   by : (a : NumberAnswer) → checked_number s ≡ a → number_told (number_verdict a) ≡ alone s
   by a e = sym (ap (λ (x : NumberAnswer). number_told (number_verdict x)) e)
 
   -- and no other byte does
-  pub means-byte : (b : ℕ) → AnswerByte s b → b ≡ alone s
-  means-byte b (AnswerByte.sound g) = by (Accepted Tracking) (sound_accepted Tracking s g)
-  means-byte b (AnswerByte.wrong_symbol i g) =
+  pub means_byte : (b : ℕ) → AnswerByte s b → b ≡ alone s
+  means_byte b (AnswerByte.sound g) = by (Accepted Tracking) (sound_accepted Tracking s g)
+  means_byte b (AnswerByte.wrong_symbol i g) =
       by (NotAccepted (because WrongSymbol i)) ((number_refused_exactly s (because WrongSymbol i)).1 (RefusedNumber.wrong_symbol Tracking i long g))
-  means-byte b (AnswerByte.wrong_check g p) =
+  means_byte b (AnswerByte.wrong_check g p) =
       by (NotAccepted (because WrongCheck (length s - 1)))
       ((number_refused_exactly s (because WrongCheck (length s - 1))).1 (RefusedNumber.wrong_check Tracking long g p))
 
@@ -73,27 +73,27 @@ module _ (numbers : List ℕ) where
   multiple e = omega arith
 
   module _ (many : ℕ) (whole : length numbers ≡ 15 * many) where
-    so-many : how_many numbers ≡ many
-    so-many = omega arith
+    so_many : how_many numbers ≡ many
+    so_many = omega arith
 
-    no-rest : length numbers % 15 ≡ 0
-    no-rest = omega arith
+    no_rest : length numbers % 15 ≡ 0
+    no_rest = omega arith
 
   fifteen : (i : ℕ) → i < how_many numbers → length (number_at numbers i) ≡ 15
-  fifteen i h = length-take-le 15 (drop (15 * i) numbers) (simp length-drop (omega (arith, number-inside numbers i h)))
+  fifteen i h = length-take-le 15 (drop (15 * i) numbers) (simp length-drop (omega (arith, number_inside numbers i h)))
 
   -- the answers, written at the front of others
   module _ (answers : List ℕ) where
     at_front : (i : ℕ) → i < how_many numbers → get_or (written answers 0 (day_answers numbers)) i 0 ≡ alone (number_at numbers i)
     at_front i h =
-        get_or-append (day_answers numbers) (drop (0 + length (day_answers numbers)) answers) 0 i (omega (arith, answers-long numbers))
+        get_or-append (day_answers numbers) (drop (0 + length (day_answers numbers)) answers) 0 i (omega (arith, answers_long numbers))
         ∙ answer_at numbers i h
 
-    past-them : (i : ℕ) → how_many numbers ≤ i → get_or (written answers 0 (day_answers numbers)) i 0 ≡ get_or answers i 0
-    past-them i h =
+    past_them : (i : ℕ) → how_many numbers ≤ i → get_or (written answers 0 (day_answers numbers)) i 0 ≡ get_or answers i 0
+    past_them i h =
         let n = length (day_answers numbers) in
-        let e : n + (i - n) ≡ i = omega (arith, answers-long numbers) in
-        let f : 0 + n + (i - n) ≡ i = omega (arith, answers-long numbers) in
+        let e : n + (i - n) ≡ i = omega (arith, answers_long numbers) in
+        let f : 0 + n + (i - n) ≡ i = omega (arith, answers_long numbers) in
         ap (λ k. get_or (written answers 0 (day_answers numbers)) k 0) (sym e)
         ∙ get_or-append-add (day_answers numbers) (drop (0 + n) answers) (i - n) 0 ∙ get_or-drop (0 + n) answers (i - n) 0
         ∙ ap (λ k. get_or answers k 0) f
@@ -103,7 +103,7 @@ module _ (numbers : List ℕ) where
       arith,
       length-append (day_answers numbers) (drop (0 + length (day_answers numbers)) answers),
       length-drop (0 + length (day_answers numbers)) answers,
-      answers-long numbers,
+      answers_long numbers,
     )
 
 module _ (numbers answers after : List ℕ) where
@@ -117,15 +117,15 @@ module _ (numbers answers after : List ℕ) where
           room = h;
           each =
               λ i l. subst (AnswerByte (number_at numbers i)) (sym (ap (λ (a : List ℕ). get_or a i 0) e ∙ at_front numbers answers i l))
-              (byte-means (number_at numbers i) (fifteen numbers i l));
-          rest = λ i l. ap (λ (a : List ℕ). get_or a i 0) e ∙ past-them numbers answers i l;
+              (byte_means (number_at numbers i) (fifteen numbers i l));
+          rest = λ i l. ap (λ (a : List ℕ). get_or a i 0) e ∙ past_them numbers answers i l;
           as_long = ap length e ∙ as_long numbers answers h;
           counted = p ∙ ap zeros (sym (front numbers answers after e));
         }
 
-    day-answers : ChecksDay numbers answers (Answered passed) after → AnsweredDay numbers answers passed after
+    day_answers_lem : ChecksDay numbers answers (Answered passed) after → AnsweredDay numbers answers passed after
     unfolding day_answer answers_after
-    day-answers (p, q) =
+    day_answers_lem (p, q) =
         choice (not (eqb (length numbers % 15) 0)) (Refused (because WrongLength 0)) _ (Answered passed)
         (λ t e. absurd (no_pass day_verdict refl refl e))
         (λ t. choice (ltb (length answers) (how_many numbers)) (Refused (because OutputTooShort 0)) (Answered (zeros (day_answers numbers)))
@@ -136,7 +136,7 @@ module _ (numbers answers after : List ℕ) where
 
     module _ (g : AnsweredDay numbers answers passed after) where
       pub many_is : how_many numbers ≡ g.many
-      many_is = so-many numbers g.many g.whole
+      many_is = so_many numbers g.many g.whole
 
       as_written : after ≡ written answers 0 (day_answers numbers)
       as_written =
@@ -144,38 +144,38 @@ module _ (numbers answers after : List ℕ) where
           ext_get_or 0 after (written answers 0 (day_answers numbers)) (g.as_long ∙ sym (as_long numbers answers room))
           (λ i l. ⊎_elim
           (λ t. let h : i < how_many numbers = ltb-true i (how_many numbers) t in
-          means-byte (number_at numbers i) (fifteen numbers i h) (get_or after i 0) (g.each i (omega (arith, many_is)))
+          means_byte (number_at numbers i) (fifteen numbers i h) (get_or after i 0) (g.each i (omega (arith, many_is)))
           ∙ sym (at_front numbers answers i h))
           (λ f. let h : how_many numbers ≤ i = ltb-false i (how_many numbers) f in
-          g.rest i (omega (arith, many_is)) ∙ sym (past-them numbers answers i h))
+          g.rest i (omega (arith, many_is)) ∙ sym (past_them numbers answers i h))
           (true_or_false (ltb i (how_many numbers))))
 
-      answers-day : ChecksDay numbers answers (Answered passed) after
+      answers_day : ChecksDay numbers answers (Answered passed) after
       unfolding answers_after
-      answers-day =
+      answers_day =
           let same : passed ≡ zeros (day_answers numbers) =
           g.counted ∙ ap (λ (n : ℕ). zeros (take n after)) (sym many_is) ∙ ap zeros (front numbers answers after as_written) in
-          (day-answered numbers (length answers) passed (no-rest numbers g.many g.whole) (omega (arith, many_is, g.room)) same, as_written)
+          (day_answered numbers (length answers) passed (no_rest numbers g.many g.whole) (omega (arith, many_is, g.room)) same, as_written)
 
     pub day_exactly : ChecksDay numbers answers (Answered passed) after ↔ AnsweredDay numbers answers passed after
-    day_exactly = (day-answers, answers-day)
+    day_exactly = (day_answers_lem, answers_day)
 
-    pub each-alone : (i : ℕ) → i < how_many numbers → ChecksDay numbers answers (Answered passed) after →
+    pub each_alone : (i : ℕ) → i < how_many numbers → ChecksDay numbers answers (Answered passed) after →
         get_or after i 0 ≡ number_told (number_verdict (checked_number (number_at numbers i)))
     unfolding answers_after
-    each-alone i h (p, q) = ap (λ (a : List ℕ). get_or a i 0) q ∙ at_front numbers answers i h
+    each_alone i h (p, q) = ap (λ (a : List ℕ). get_or a i 0) q ∙ at_front numbers answers i h
 
   module _ (refusal : Refusal) where
     is : (other : Refusal) → RefusedDay numbers (length answers) other → Refused other ≡ Refused refusal →
         RefusedDay numbers (length answers) refusal
     is other g e = let same : other ≡ refusal = cc in subst (RefusedDay numbers (length answers)) same g
 
-    pub day-refuses : Refused refusal ≡ day_answer numbers (length answers) → RefusedDay numbers (length answers) refusal
+    pub day_refuses : Refused refusal ≡ day_answer numbers (length answers) → RefusedDay numbers (length answers) refusal
     unfolding day_answer
-    day-refuses p =
+    day_refuses p =
         choice (not (eqb (length numbers % 15) 0)) (Refused (because WrongLength 0)) _ (Refused refusal)
         (λ t e. let n = eqb-false (length numbers % 15) 0 (not-true (eqb (length numbers % 15) 0) t) in
-        is (because WrongLength 0) (RefusedDay.wrong_length (λ many whole. n (no-rest numbers many whole))) e)
+        is (because WrongLength 0) (RefusedDay.wrong_length (λ many whole. n (no_rest numbers many whole))) e)
         (λ t. let m = eqb-true (length numbers % 15) 0 (not-false (eqb (length numbers % 15) 0) t) in
         choice (ltb (length answers) (how_many numbers)) (Refused (because OutputTooShort 0)) (Answered (zeros (day_answers numbers)))
         (Refused refusal)
@@ -183,15 +183,15 @@ module _ (numbers answers after : List ℕ) where
         (RefusedDay.too_short (how_many numbers) (multiple numbers m) (ltb-true (length answers) (how_many numbers) u)) e)
         (λ u e. absurd (no_pass day_verdict refl refl (sym e)))) (sym p)
 
-  refuses-day : (refusal : Refusal) → RefusedDay numbers (length answers) refusal → Refused refusal ≡ day_answer numbers (length answers)
-  refuses-day refusal (RefusedDay.wrong_length n) = day-length numbers (length answers) (λ m. n (how_many numbers) (multiple numbers m))
-  refuses-day refusal (RefusedDay.too_short many whole h) =
-      day-short numbers (length answers) (no-rest numbers many whole) (omega (arith, so-many numbers many whole))
+  refuses_day : (refusal : Refusal) → RefusedDay numbers (length answers) refusal → Refused refusal ≡ day_answer numbers (length answers)
+  refuses_day refusal (RefusedDay.wrong_length n) = day_length numbers (length answers) (λ m. n (how_many numbers) (multiple numbers m))
+  refuses_day refusal (RefusedDay.too_short many whole h) =
+      day_short numbers (length answers) (no_rest numbers many whole) (omega (arith, so_many numbers many whole))
 
   pub day_refused_exactly : (refusal : Refusal) →
       ChecksDay numbers answers (Refused refusal) after ↔ (RefusedDay numbers (length answers) refusal × (after ≡ answers))
   unfolding answers_after
-  day_refused_exactly refusal = ((λ (p, q). (day-refuses refusal p, q)), (λ (g, e). (refuses-day refusal g, e)))
+  day_refused_exactly refusal = ((λ (p, q). (day_refuses refusal p, q)), (λ (g, e). (refuses_day refusal g, e)))
 
 -- whatever is asked, it is answered or refused, never both
 module _ (numbers answers : List ℕ) where
@@ -205,45 +205,45 @@ module _ (numbers answers : List ℕ) where
           ((refusal : Refusal) × RefusedDay numbers (length answers) refusal)
       go (Answered passed) e =
           let after = answers_after (Answered passed) numbers answers in inl (passed, (after, (day_exactly numbers answers after passed).0 (e, refl)))
-      go (Refused refusal) e = inr (refusal, day-refuses numbers answers answers refusal e)
+      go (Refused refusal) e = inr (refusal, day_refuses numbers answers answers refusal e)
 
   pub day_never_both : (passed : ℕ) (after : List ℕ) (refusal : Refusal) →
       AnsweredDay numbers answers passed after → RefusedDay numbers (length answers) refusal → ⊥
   day_never_both passed after refusal g r =
-      no_pass day_verdict refl refl (refuses-day numbers answers after refusal r ∙ sym ((day_exactly numbers answers after passed).1 g).0)
+      no_pass day_verdict refl refl (refuses_day numbers answers after refusal r ∙ sym ((day_exactly numbers answers after passed).1 g).0)
 
 -- a day in two pieces
 module _ (first rest : List ℕ) (many : ℕ) (whole : length first ≡ 15 * many) where
-  many-first : how_many first ≡ many
-  many-first = so-many first many whole
+  many_first : how_many first ≡ many
+  many_first = so_many first many whole
 
-  many-both : how_many (first ++ rest) ≡ how_many first + how_many rest
-  many-both = omega (arith, length-append first rest)
+  many_both : how_many (first ++ rest) ≡ how_many first + how_many rest
+  many_both = omega (arith, length-append first rest)
 
   in_rest : (i : ℕ) → how_many first ≤ i → number_at (first ++ rest) i ≡ number_at rest (i - how_many first)
   in_rest i h =
-      let e : 15 * i ≡ length first + 15 * (i - how_many first) = omega (arith, many-first) in
+      let e : 15 * i ≡ length first + 15 * (i - how_many first) = omega (arith, many_first) in
       ap (λ k. take 15 (drop k (first ++ rest))) e ∙ ap (take 15) (drop-append-add first rest (15 * (i - how_many first)))
 
   pub in_pieces : day_answers (first ++ rest) ≡ day_answers first ++ day_answers rest
   in_pieces =
       ext_get_or 0 (day_answers (first ++ rest)) (day_answers first ++ day_answers rest)
-      (omega (arith, answers-long (first ++ rest), many-both, length-append (day_answers first) (day_answers rest), answers-long first, answers-long rest))
-      (λ i l. let all : i < how_many (first ++ rest) = omega (arith, answers-long (first ++ rest)) in
+      (omega (arith, answers_long (first ++ rest), many_both, length-append (day_answers first) (day_answers rest), answers_long first, answers_long rest))
+      (λ i l. let all : i < how_many (first ++ rest) = omega (arith, answers_long (first ++ rest)) in
       answer_at (first ++ rest) i all ∙ ⊎_elim
       (λ t. let h : i < how_many first = ltb-true i (how_many first) t in
-      ap alone (number_front first rest i (number-inside first i h)) ∙ sym (answer_at first i h)
-      ∙ sym (get_or-append (day_answers first) (day_answers rest) 0 i (omega (arith, answers-long first))))
+      ap alone (number_front first rest i (number_inside first i h)) ∙ sym (answer_at first i h)
+      ∙ sym (get_or-append (day_answers first) (day_answers rest) 0 i (omega (arith, answers_long first))))
       (λ f. let h : how_many first ≤ i = ltb-false i (how_many first) f in
-      let e : length (day_answers first) + (i - how_many first) ≡ i = omega (arith, answers-long first) in
-      ap alone (in_rest i h) ∙ sym (answer_at rest (i - how_many first) (omega (arith, many-both)))
+      let e : length (day_answers first) + (i - how_many first) ≡ i = omega (arith, answers_long first) in
+      ap alone (in_rest i h) ∙ sym (answer_at rest (i - how_many first) (omega (arith, many_both)))
       ∙ sym (get_or-append-add (day_answers first) (day_answers rest) (i - how_many first) 0)
       ∙ ap (λ k. get_or (day_answers first ++ day_answers rest) k 0) e)
       (true_or_false (ltb i (how_many first))))
 
-  pub zeros-in-pieces : zeros (day_answers (first ++ rest)) ≡ zeros (day_answers first) + zeros (day_answers rest)
-  zeros-in-pieces = ap zeros in_pieces ∙ zeros-append (day_answers first) (day_answers rest)
+  pub zeros_in_pieces : zeros (day_answers (first ++ rest)) ≡ zeros (day_answers first) + zeros (day_answers rest)
+  zeros_in_pieces = ap zeros in_pieces ∙ zeros_append (day_answers first) (day_answers rest)
     where
-      zeros-append : (a b : List ℕ) → zeros (a ++ b) ≡ zeros a + zeros b
-      zeros-append [] b = sym (zero-add (zeros b))
-      zeros-append (x ∷ a) b = omega (arith, zeros-append a b)
+      zeros_append : (a b : List ℕ) → zeros (a ++ b) ≡ zeros a + zeros b
+      zeros_append [] b = sym (zero-add (zeros b))
+      zeros_append (x ∷ a) b = omega (arith, zeros_append a b)

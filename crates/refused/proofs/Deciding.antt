@@ -18,11 +18,11 @@ use Rattle.file.specs.File.{Judged, judged, list_of, Judges, file_verdict}
 use Rattle.file.specs.declared.whole.FileAnswer.{FileAnswer}
 use Rattle.file.specs.declared.whole.FileAnswer.TheVariants.{Accepted, Refused}
 use Rattle.allowed.specs.Allowed.{FileLine, file_bytes, LinesOk, AllowedFile, InOrder, totals_of, line_starts}
-use Rattle.allowed.proofs.Files.{accepted-allowed, allowed-accepted}
+use Rattle.allowed.proofs.Files.{accepted_allowed, allowed_accepted}
 use Rattle.allowed.proofs.Versions.{version_on_lem, version_found}
 use Rattle.refused.specs.File.{Come, due_behind, Begins, RefusedFile, Means}
-use Rattle.refused.proofs.Refusing.{judged-refused}
-use Rattle.refused.proofs.Reaching.{refused-judged}
+use Rattle.refused.proofs.Refusing.{judged_refused}
+use Rattle.refused.proofs.Reaching.{refused_judged}
 use Rattle.refused.proofs.Files.{refused_exactly}
 
 said : FileAnswer → List ℕ → Judged
@@ -36,12 +36,12 @@ module _ (s : List ℕ) (lent : Lent) where
     where
       forth : Judges s lent (Accepted totals) list → Means s lent (Accepted totals) list
       forth j =
-          let g = accepted-allowed s lent totals (judged s lent).starts (ap (λ (a : FileAnswer). said a (judged s lent).starts) (sym j.0)) in
+          let g = accepted_allowed s lent totals (judged s lent).starts (ap (λ (a : FileAnswer). said a (judged s lent).starts) (sym j.0)) in
           record { lines = g.lines; allowed = g.allowed; room = g.room; counts = g.counts; starts = j.1 ∙ ap (list_of lent.words) g.list }
 
       back : Means s lent (Accepted totals) list → Judges s lent (Accepted totals) list
       back g =
-          let e = allowed-accepted s lent totals (line_starts 0 g.lines)
+          let e = allowed_accepted s lent totals (line_starts 0 g.lines)
           (record { lines = g.lines; allowed = g.allowed; room = g.room; counts = g.counts; list = refl }) in
           (sym (ap (λ (j : Judged). j.answer) e), g.starts ∙ sym (ap (λ (j : Judged). list_of lent.words j.starts) e))
 
@@ -53,17 +53,17 @@ module _ (s : List ℕ) (lent : Lent) where
       go (Accepted totals) e =
           let g = (judge_exactly (Accepted totals) (list_of lent.words (judged s lent).starts)).0 (sym e, refl) in
           inl (g.lines, g.allowed, g.room)
-      go (Refused refusal) e = inr (refusal, judged-refused s lent refusal e)
+      go (Refused refusal) e = inr (refusal, judged_refused s lent refusal e)
 
   pub never_both : (ls : List FileLine) (refusal : Refusal) → AllowedFile lent.countries s ls → length ls ≤ lent.words → RefusedFile s lent refusal → ⊥
   never_both ls refusal a room r =
       let g = (judge_exactly (Accepted (totals_of ls)) (list_of lent.words (line_starts 0 ls))).1
       (record { lines = ls; allowed = a; room = room; counts = refl; starts = refl }) in
-      no_pass file_verdict refl refl (sym (refused-judged s lent refusal r) ∙ sym g.0)
+      no_pass file_verdict refl refl (sym (refused_judged s lent refusal r) ∙ sym g.0)
 
   pub one_refusal : (refusal other : Refusal) → RefusedFile s lent refusal → RefusedFile s lent other → refusal ≡ other
   one_refusal refusal other r q =
-      let e : Refused refusal ≡ Refused other = sym (refused-judged s lent refusal r) ∙ refused-judged s lent other q in
+      let e : Refused refusal ≡ Refused other = sym (refused_judged s lent refusal r) ∙ refused_judged s lent other q in
       cc
 
 -- an allowed file is one that begins with its lines, has nothing left behind them, and may end there

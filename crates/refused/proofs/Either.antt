@@ -38,7 +38,7 @@ use Rattle.refused.specs.Write.{RefusedWrite}
 use Rattle.refused.specs.Number.{RefusedNumber, RefusedIban}
 use Rattle.refused.proofs.Lines.{line_refused_exactly}
 use Rattle.refused.proofs.Seeking.{field_refused_exactly}
-use Rattle.refused.proofs.Writing.{answer-write, write-answer}
+use Rattle.refused.proofs.Writing.{answer_write, write_answer_lem}
 use Rattle.refused.proofs.Numbers.{number_refused_exactly, iban_refused_exactly}
 
 module _ (told : Told) (s : List ℕ) (at : ℕ) where
@@ -79,11 +79,11 @@ module _ (rules : Rules) (number : ℕ) (text ends : List ℕ) (size fill : ℕ)
       go : (a : WriteAnswer) → answer_under rules number text ends size fill ≡ a →
           ((n : ℕ) × Writable rules number text ends size fill n) ⊎ ((refusal : Refusal) × RefusedWrite rules number text ends size fill refusal)
       go (Written n) e = inl (n, (written_exactly rules number text ends size fill n).0 e)
-      go (NotWritten refusal) e = inr (refusal, answer-write rules number text ends size fill refusal e)
+      go (NotWritten refusal) e = inr (refusal, answer_write rules number text ends size fill refusal e)
 
   pub write_never_both : (n : ℕ) (refusal : Refusal) → Writable rules number text ends size fill n → RefusedWrite rules number text ends size fill refusal → ⊥
   write_never_both n refusal g r =
-      no_pass write_verdict refl refl (sym (write-answer rules number text ends size fill refusal r) ∙ (written_exactly rules number text ends size fill n).1 g)
+      no_pass write_verdict refl refl (sym (write_answer_lem rules number text ends size fill refusal r) ∙ (written_exactly rules number text ends size fill n).1 g)
 
 module _ (s : List ℕ) where
   pub number_always_one : ((kind : Kind) × SoundNumber kind s) ⊎ ((refusal : Refusal) × RefusedNumber s refusal)

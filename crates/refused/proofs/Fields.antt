@@ -16,14 +16,14 @@ use Rattle.fields.proofs.Tests as tests
 use Rattle.line.specs.Render.{joined}
 use Rattle.line.specs.Walk.{behind}
 use Rattle.refused.specs.Line.{RefusedField}
-use Rattle.line.proofs.Stopping.{placeBehind}
+use Rattle.line.proofs.Stopping.{place_behind}
 
 pub bad_same : {why other : Reason} → Bad why ≡ Bad other → why ≡ other
 bad_same e = cc
 
 module _ (rows : List Row) (n : ℕ) (beside f : List ℕ) where
-  pub bad-refused : (why : Reason) → tested rows n beside f ≡ Bad why → RefusedField rows n beside f why
-  bad-refused why e = ⊎_elim fits long (le_or_lt (length f) (width_of rows n beside))
+  pub bad_refused : (why : Reason) → tested rows n beside f ≡ Bad why → RefusedField rows n beside f why
+  bad_refused why e = ⊎_elim fits long (le_or_lt (length f) (width_of rows n beside))
     where
       told : (w : Reason) → Bad w ≡ tested rows n beside f → RefusedField rows n beside f w → RefusedField rows n beside f why
       told w b g = subst (RefusedField rows n beside f) (bad_same (b ∙ e)) g
@@ -34,29 +34,29 @@ module _ (rows : List Row) (n : ℕ) (beside f : List ℕ) where
       none : length f ≡ 0 → RefusedField rows n beside f why
       none z =
           ⊎_elim
-          (λ r. told FieldEmpty (tests.empty-bad rows n beside f z (is_required rows n) refl r) (RefusedField.empty z r))
-          (λ r. absurd (tests.bad (sym (tests.empty-good rows n beside f z (is_required rows n) refl r ∙ e))))
+          (λ r. told FieldEmpty (tests.empty_bad rows n beside f z (is_required rows n) refl r) (RefusedField.empty z r))
+          (λ r. absurd (tests.bad (sym (tests.empty_good rows n beside f z (is_required rows n) refl r ∙ e))))
           (true_or_false (is_required rows n))
 
       some : length f ≤ width_of rows n beside → (length f ≡ 0 → ⊥) → RefusedField rows n beside f why
       some h z =
           ⊎_elim
-          (λ r. absurd (tests.bad (sym (tests.form-good rows n beside f (width_of rows n beside) refl h z (has_form rows n beside f) refl r ∙ e))))
-          (λ r. told FieldForm (tests.form-bad rows n beside f (width_of rows n beside) refl h z (has_form rows n beside f) refl r)
+          (λ r. absurd (tests.bad (sym (tests.form_good rows n beside f (width_of rows n beside) refl h z (has_form rows n beside f) refl r ∙ e))))
+          (λ r. told FieldForm (tests.form_bad rows n beside f (width_of rows n beside) refl h z (has_form rows n beside f) refl r)
           (RefusedField.formless h z r))
           (true_or_false (has_form rows n beside f))
 
       fits : length f ≤ width_of rows n beside → RefusedField rows n beside f why
       fits h = ⊎_elim none (some h) (eq_or_ne (length f) 0)
 
-  pub refused-bad : (why : Reason) → RefusedField rows n beside f why → tested rows n beside f ≡ Bad why
-  refused-bad why (RefusedField.too_long h) = sym (tests.too_long rows n beside f (width_of rows n beside) refl h)
-  refused-bad why (RefusedField.empty z r) = sym (tests.empty-bad rows n beside f z (is_required rows n) refl r)
-  refused-bad why (RefusedField.formless h z r) =
-      sym (tests.form-bad rows n beside f (width_of rows n beside) refl h z (has_form rows n beside f) refl r)
+  pub refused_bad : (why : Reason) → RefusedField rows n beside f why → tested rows n beside f ≡ Bad why
+  refused_bad why (RefusedField.too_long h) = sym (tests.too_long rows n beside f (width_of rows n beside) refl h)
+  refused_bad why (RefusedField.empty z r) = sym (tests.empty_bad rows n beside f z (is_required rows n) refl r)
+  refused_bad why (RefusedField.formless h z r) =
+      sym (tests.form_bad rows n beside f (width_of rows n beside) refl h z (has_form rows n beside f) refl r)
 
 -- where a field starts, behind those in front of it and their semicolons
 pub starts_behind : (rows : List Row) (place : ℕ) (front : List (List ℕ)) →
-    placeBehind (tested rows) behind place front ≡ place + length (joined front)
+    place_behind (tested rows) behind place front ≡ place + length (joined front)
 starts_behind rows place [] = omega arith
 starts_behind rows place (f ∷ front) = omega (arith, starts_behind rows (behind place f) front, length-append f (joined front))

@@ -30,12 +30,12 @@ use Rattle.line.specs.declared.scan.TextAnswer.TheVariants.{Ends, Refused as NoT
 use Rattle.line.specs.declared.read.LineAnswer.{LineAnswer}
 use Rattle.line.specs.declared.read.LineAnswer.TheVariants.{Refused}
 use Rattle.line.proofs.Splits.{split_some, join_split}
-use Rattle.line.proofs.Plain.{split_plain, parts-bytes}
-use Rattle.line.proofs.Ends.{ended, ends-well, text-there}
+use Rattle.line.proofs.Plain.{split_plain, parts_bytes}
+use Rattle.line.proofs.Ends.{ended, ends_well_lem, text_there}
 use Rattle.line.proofs.Accepting.{text_ends}
 use Rattle.grammar.proofs.Needs.{lacks_some}
 use Rattle.refused.specs.Line.{NoEnd, Stands, RefusedLine, RefusedAt}
-use Rattle.refused.proofs.Texts.{of-text, text-unknown, text-order, text-count, text-lacks, text-bad}
+use Rattle.refused.proofs.Texts.{of_text_lem, text_unknown, text_order, text_count, text_lacks, text_bad}
 
 -- what stands behind the text of a line
 no_end_fails : (behind : List ℕ) → NoEnd behind → Fails text_byte behind
@@ -74,9 +74,9 @@ module _ (told : Told) (file : List ℕ) (offset : ℕ) where
       }
 
   -- a line that does not end
-  open-line : ends_well file (line_end file offset) ≡ false →
+  open_line : ends_well file (line_end file offset) ≡ false →
       RefusedLine told offset (drop offset file) (because NoLineEnd (line_end file offset))
-  open-line w =
+  open_line w =
       let r = front text_byte offset (drop offset file) in
       let d : drop (line_end file offset) file ≡ r.behind =
       ap (λ (i : ℕ). drop i file) r.ends ∙ sym (drop-drop (length r.run) offset file) ∙ ap (drop (length r.run)) r.whole
@@ -85,9 +85,9 @@ module _ (told : Told) (file : List ℕ) (offset : ℕ) where
       (RefusedLine.no_line_end r.run r.behind r.whole r.passes (ill_end file (line_end file offset) r.behind d r.fails w))
 
   -- 1, then 2
-  text-refused : (refusal : Refusal) → text_answer file offset ≡ NoText refusal → RefusedAt told file offset refusal
+  text_refused : (refusal : Refusal) → text_answer file offset ≡ NoText refusal → RefusedAt told file offset refusal
   unfolding text_answer
-  text-refused refusal e =
+  text_refused refusal e =
       let end = line_end file offset in
       let found = if not (ends_well file end) then NoText (because NoLineEnd end) else Ends end in
       choice (ltb file_limit (length file)) (NoText (because FileTooLong file_limit))
@@ -97,70 +97,70 @@ module _ (told : Told) (file : List ℕ) (offset : ℕ) where
       (λ u q. is q (RefusedAt.past_the_file (ltb-false file_limit (length file) t) (ltb-true (length file) offset u)))
       (λ u. choice (not (ends_well file end)) (NoText (because NoLineEnd end)) (Ends end) (NoText refusal)
       (λ w q. is q (RefusedAt.line_Refused (because NoLineEnd end) (ltb-false file_limit (length file) t) (ltb-false (length file) offset u)
-      (open-line (not-true (ends_well file end) w))))
+      (open_line (not-true (ends_well file end) w))))
       (λ w q. absurd (no_pass text_verdict refl refl (sym q)))))
       e
     where
       is : {other : Refusal} → NoText other ≡ NoText refusal → RefusedAt told file offset other → RefusedAt told file offset refusal
       is q g = subst (RefusedAt told file offset) (refused_same q) g
 
-  pub answer-refused : (refusal : Refusal) → line_answer told file offset ≡ Refused refusal → RefusedAt told file offset refusal
+  pub answer_refused : (refusal : Refusal) → line_answer told file offset ≡ Refused refusal → RefusedAt told file offset refusal
   unfolding line_answer
-  answer-refused refusal e = go (text_answer file offset) refl e
+  answer_refused refusal e = go (text_answer file offset) refl e
     where
       go : (a : TextAnswer) → text_answer file offset ≡ a → on_text a told file offset ≡ Refused refusal → RefusedAt told file offset refusal
-      go (NoText other) q e = subst (RefusedAt told file offset) (line_same e) (text-refused other q)
+      go (NoText other) q e = subst (RefusedAt told file offset) (line_same e) (text_refused other q)
       go (Ends end) q e =
           let t = text_ends file offset end q in
           let text = text_at file offset in
           let e' : of_text told offset text ≡ Refused refusal =
           ap (λ (i : ℕ). of_text told offset (take (i - offset) (drop offset file))) (sym t.is) ∙ e in
           RefusedAt.line_Refused refusal t.short t.inside
-          (of-text told offset (drop offset file) refusal (name_of text) (fields_of text) (stands t.well)
+          (of_text_lem told offset (drop offset file) refusal (name_of text) (fields_of text) (stands t.well)
           (ap (of_text told offset) (join_split text) ∙ e'))
 
   module _ (small : length file ≤ file_limit) (in-file : offset ≤ length file) where
-    text-answer : (name : List ℕ) (fs : List (List ℕ)) → Stands (drop offset file) name fs → (a : LineAnswer) →
+    text_answer_lem : (name : List ℕ) (fs : List (List ℕ)) → Stands (drop offset file) name fs → (a : LineAnswer) →
         of_text told offset (name ++ joined fs) ≡ a → line_answer told file offset ≡ a
     unfolding line_answer text_answer
-    text-answer name fs g a e =
-        let p = parts-bytes name fs g.clean in
+    text_answer_lem name fs g a e =
+        let p = parts_bytes name fs g.clean in
         rw (
           le-ltb file_limit (length file) small,
           le-ltb (length file) offset in-file,
-          ends-well file offset (name ++ joined fs) g.behind p g.there,
-          text-there file offset (name ++ joined fs) g.behind p g.there,
+          ends_well_lem file offset (name ++ joined fs) g.behind p g.there,
+          text_there file offset (name ++ joined fs) g.behind p g.there,
         ) e
 
-    open-answer : (text behind : List ℕ) → drop offset file ≡ text ++ behind → all text_byte text ≡ true → NoEnd behind →
+    open_answer : (text behind : List ℕ) → drop offset file ≡ text ++ behind → all text_byte text ≡ true → NoEnd behind →
         line_answer told file offset ≡ Refused (because NoLineEnd (offset + length text))
     unfolding line_answer text_answer
-    open-answer text behind d p n =
+    open_answer text behind d p n =
         let e : line_end file offset ≡ offset + length text =
         ap (λ (l : List ℕ). first_failing (λ _ b. text_byte b) offset l) d ∙ run_to text_byte offset text behind p (no_end_fails behind n) in
         let q : drop (line_end file offset) file ≡ behind =
         ap (λ (i : ℕ). drop i file) e ∙ sym (drop-drop (length text) offset file) ∙ ap (drop (length text)) d ∙ drop-append_seam text behind in
         rw (le-ltb file_limit (length file) small, le-ltb (length file) offset in-file, ill file (line_end file offset) behind q n, e)
 
-    pub line-answer : (refusal : Refusal) → RefusedLine told offset (drop offset file) refusal →
+    pub line_answer_lem : (refusal : Refusal) → RefusedLine told offset (drop offset file) refusal →
         line_answer told file offset ≡ Refused refusal
-    line-answer refusal (RefusedLine.no_line_end text behind d p n) = open-answer text behind d p n
-    line-answer refusal (RefusedLine.unknown_record name fs g n) = text-answer name fs g _ (text-unknown told offset name fs g.clean n)
-    line-answer refusal (RefusedLine.out_of_order kind fs g m) = text-answer (type_of kind) fs g _ (text-order told offset kind fs g.clean m)
-    line-answer refusal (RefusedLine.field_count kind fs g m c) =
-        text-answer (type_of kind) fs g _ (text-count told offset kind fs g.clean m c)
-    line-answer refusal (RefusedLine.bad_field kind front f more w g b) =
-        text-answer (type_of kind) (front ++ f ∷ more) g.stands _ (text-bad told offset (drop offset file) kind front f more w g b)
-    line-answer refusal (RefusedLine.feature_lacks fs g k l) =
-        text-answer (type_of Feature) fs g.stands _
-        (text-lacks told offset Feature fs g.stands.clean g.comes g.counted k ((lacks_some fs).1 l))
+    line_answer_lem refusal (RefusedLine.no_line_end text behind d p n) = open_answer text behind d p n
+    line_answer_lem refusal (RefusedLine.unknown_record name fs g n) = text_answer_lem name fs g _ (text_unknown told offset name fs g.clean n)
+    line_answer_lem refusal (RefusedLine.out_of_order kind fs g m) = text_answer_lem (type_of kind) fs g _ (text_order told offset kind fs g.clean m)
+    line_answer_lem refusal (RefusedLine.field_count kind fs g m c) =
+        text_answer_lem (type_of kind) fs g _ (text_count told offset kind fs g.clean m c)
+    line_answer_lem refusal (RefusedLine.bad_field kind front f more w g b) =
+        text_answer_lem (type_of kind) (front ++ f ∷ more) g.stands _ (text_bad told offset (drop offset file) kind front f more w g b)
+    line_answer_lem refusal (RefusedLine.feature_lacks fs g k l) =
+        text_answer_lem (type_of Feature) fs g.stands _
+        (text_lacks told offset Feature fs g.stands.clean g.comes g.counted k ((lacks_some fs).1 l))
 
-  pub refused-answer : (refusal : Refusal) → RefusedAt told file offset refusal → line_answer told file offset ≡ Refused refusal
+  pub refused_answer : (refusal : Refusal) → RefusedAt told file offset refusal → line_answer told file offset ≡ Refused refusal
   unfolding line_answer text_answer
-  refused-answer refusal (RefusedAt.file_too_long h) = rw (lt-ltb file_limit (length file) h)
-  refused-answer refusal (RefusedAt.past_the_file h l) = rw (le-ltb file_limit (length file) h, lt-ltb (length file) offset l)
-  refused-answer refusal (RefusedAt.line_Refused other h l g) = line-answer h l other g
+  refused_answer refusal (RefusedAt.file_too_long h) = rw (lt-ltb file_limit (length file) h)
+  refused_answer refusal (RefusedAt.past_the_file h l) = rw (le-ltb file_limit (length file) h, lt-ltb (length file) offset l)
+  refused_answer refusal (RefusedAt.line_Refused other h l g) = line_answer_lem h l other g
 
   -- a line is refused, by this number and at this place, exactly when its own bytes and fields say so
   pub line_refused_exactly : (refusal : Refusal) → (line_answer told file offset ≡ Refused refusal) ↔ RefusedAt told file offset refusal
-  line_refused_exactly refusal = (answer-refused refusal, refused-answer refusal)
+  line_refused_exactly refusal = (answer_refused refusal, refused_answer refusal)

@@ -66,8 +66,8 @@ reachable_at (k ∷ front) l ls a = reachable_at front l ls a.1
 
 module _ (file countries others : List ℕ) (words : ℕ) (even : is_paired countries ≡ true) (paired : is_paired others ≡ true)
     (reachable : SendersReachable file) where
-  begins-with : (ls : List FileLine) (left : List ℕ) → Begins countries file ls left → Begins others file ls left
-  begins-with ls left b =
+  begins_with : (ls : List FileLine) (left : List ℕ) → Begins countries file ls left → Begins others file ls left
+  begins_with ls left b =
       record {
         in_limit = b.in_limit;
         paired = paired;
@@ -78,35 +78,35 @@ module _ (file countries others : List ℕ) (words : ℕ) (even : is_paired coun
         contacts = kept_reachable others ls (reachable ls left b.there b.lines);
       }
 
-  next-with : (ls : List FileLine) (l : FileLine) (left : List ℕ) → NextLine countries file ls l left → NextLine others file ls l left
-  next-with ls l left n = record { begins = begins-with ls (line_bytes l ++ left) n.begins; ok = n.ok; comes = n.comes }
+  next_with : (ls : List FileLine) (l : FileLine) (left : List ℕ) → NextLine countries file ls l left → NextLine others file ls l left
+  next_with ls l left n = record { begins = begins_with ls (line_bytes l ++ left) n.begins; ok = n.ok; comes = n.comes }
 
-  never-away : (ls : List FileLine) (left : List ℕ) → Begins countries file ls left → Unreachable ls → ⊥
-  never-away ls left b u =
+  never_away : (ls : List FileLine) (left : List ℕ) → Begins countries file ls left → Unreachable ls → ⊥
+  never_away ls left b u =
       u.lacks (reachable_at u.front u.sender u.under (subst AllReachable u.there (reachable ls left b.there b.lines)) u.sends)
 
-  refused-with : (refusal : Refusal) → RefusedFile file (lent_with countries words) refusal → RefusedFile file (lent_with others words) refusal
-  refused-with refusal (RefusedFile.file_too_long h) = RefusedFile.file_too_long h
-  refused-with refusal (RefusedFile.countries_odd h odd) = clash even odd
-  refused-with refusal (RefusedFile.line_Refused ls left other b room some r) =
-      RefusedFile.line_Refused ls left other (begins-with ls left b) room some r
-  refused-with refusal (RefusedFile.contact_missing ls l left n room k listed u) = absurd (never-away ls (line_bytes l ++ left) n.begins u)
-  refused-with refusal (RefusedFile.identcode_repeated ls l left n room k twice) =
-      RefusedFile.identcode_repeated ls l left (next-with ls l left n) room k twice
-  refused-with refusal (RefusedFile.List-full ls l left b full) = RefusedFile.List-full ls l left (begins-with (ls ++ (l ∷ [])) left b) full
-  refused-with refusal (RefusedFile.file_ends ls b room e) = RefusedFile.file_ends ls (begins-with ls [] b) room e
+  refused_with : (refusal : Refusal) → RefusedFile file (lent_with countries words) refusal → RefusedFile file (lent_with others words) refusal
+  refused_with refusal (RefusedFile.file_too_long h) = RefusedFile.file_too_long h
+  refused_with refusal (RefusedFile.countries_odd h odd) = clash even odd
+  refused_with refusal (RefusedFile.line_Refused ls left other b room some r) =
+      RefusedFile.line_Refused ls left other (begins_with ls left b) room some r
+  refused_with refusal (RefusedFile.contact_missing ls l left n room k listed u) = absurd (never_away ls (line_bytes l ++ left) n.begins u)
+  refused_with refusal (RefusedFile.identcode_repeated ls l left n room k twice) =
+      RefusedFile.identcode_repeated ls l left (next_with ls l left n) room k twice
+  refused_with refusal (RefusedFile.List-full ls l left b full) = RefusedFile.List-full ls l left (begins_with (ls ++ (l ∷ [])) left b) full
+  refused_with refusal (RefusedFile.file_ends ls b room e) = RefusedFile.file_ends ls (begins_with ls [] b) room e
 
-  means-with : (answer : FileAnswer) (list : List ℕ) → Means file (lent_with countries words) answer list →
+  means_with : (answer : FileAnswer) (list : List ℕ) → Means file (lent_with countries words) answer list →
       Means file (lent_with others words) answer list
-  means-with (Accepted totals) list g =
+  means_with (Accepted totals) list g =
       accepts_with countries others file words totals list g paired
       (kept_reachable others g.lines
       (reachable g.lines [] (g.allowed.bytes ∙ sym (append-nil (file_bytes g.lines)))
       (subst (λ (v : Version). LinesOk (profile v) g.lines) (sym (version_found g.allowed)) g.allowed.lines)))
-  means-with (Refused refusal) list g = (refused-with refusal g.0, g.1)
+  means_with (Refused refusal) list g = (refused_with refusal g.0, g.1)
 
   pub same_answer : (answer : FileAnswer) (list : List ℕ) → Judges file (lent_with countries words) answer list →
       Judges file (lent_with others words) answer list
   same_answer answer list j =
       (judge_exactly file (lent_with others words) answer list).1
-      (means-with answer list ((judge_exactly file (lent_with countries words) answer list).0 j))
+      (means_with answer list ((judge_exactly file (lent_with countries words) answer list).0 j))

@@ -82,34 +82,34 @@ remembered ls u =
     ap (contacts_after true) u.there ∙ after_both u.front (u.sender ∷ u.under) true ∙ past u.under now u.nearest ∙ e
 
 module _ (countries : List ℕ) (ls : List FileLine) where
-  pub away-lacks : (l : FileLine) → l.kind ≡ Shipment → is_listed countries (field_no l.fields 20) ≡ true → Unreachable ls →
+  pub away_lacks : (l : FileLine) → l.kind ≡ Shipment → is_listed countries (field_no l.fields 20) ≡ true → Unreachable ls →
       lacks_contact l.kind (parts_of l) countries (contacts_after true ls) ≡ true
   unfolding lacks_contact
-  away-lacks l k listed u =
+  away_lacks l k listed u =
       ap (λ (kind : Record). lacks_contact kind (type_of kind ∷ l.fields) countries (contacts_after true ls)) k
       ∙ rw (remembered ls u) listed
 
-  lacks-away : (kind : Record) (fs : List (List ℕ)) → lacks_contact kind (type_of kind ∷ fs) countries (contacts_after true ls) ≡ true →
+  lacks_away : (kind : Record) (fs : List (List ℕ)) → lacks_contact kind (type_of kind ∷ fs) countries (contacts_after true ls) ≡ true →
       (kind ≡ Shipment) × (is_listed countries (field_no fs 20) ≡ true) × Unreachable ls
   unfolding lacks_contact
-  lacks-away Header fs e = absurd (false≢true e)
-  lacks-away Sender fs e = absurd (false≢true e)
-  lacks-away Shipment fs e =
+  lacks_away Header fs e = absurd (false≢true e)
+  lacks_away Sender fs e = absurd (false≢true e)
+  lacks_away Shipment fs e =
       let listed = is_listed countries (field_no fs 20) in
       let away = and_left (not (contacts_after true ls)) listed e in (
         refl,
         and_right (not (contacts_after true ls)) listed e,
         ⊎_elim (λ g. clash refl g.1) (λ u. u) (remembers ls true (not-true (contacts_after true ls) away)),
       )
-  lacks-away Parcel fs e = absurd (false≢true e)
-  lacks-away Product fs e = absurd (false≢true e)
-  lacks-away Feature fs e = absurd (false≢true e)
+  lacks_away Parcel fs e = absurd (false≢true e)
+  lacks_away Product fs e = absurd (false≢true e)
+  lacks_away Feature fs e = absurd (false≢true e)
 
-  pub lacks-told : (l : FileLine) → lacks_contact l.kind (parts_of l) countries (contacts_after true ls) ≡ true →
+  pub lacks_told : (l : FileLine) → lacks_contact l.kind (parts_of l) countries (contacts_after true ls) ≡ true →
       (l.kind ≡ Shipment) × (is_listed countries (field_no l.fields 20) ≡ true) × Unreachable ls
-  lacks-told l e = lacks-away l.kind l.fields e
+  lacks_told l e = lacks_away l.kind l.fields e
 
   -- a parcel lacks none
-  pub parcel-spared : (l : FileLine) → l.kind ≡ Parcel → lacks_contact l.kind (parts_of l) countries (contacts_after true ls) ≡ false
+  pub parcel_spared : (l : FileLine) → l.kind ≡ Parcel → lacks_contact l.kind (parts_of l) countries (contacts_after true ls) ≡ false
   unfolding lacks_contact
-  parcel-spared l k = ap (λ (kind : Record). lacks_contact kind (type_of kind ∷ l.fields) countries (contacts_after true ls)) k
+  parcel_spared l k = ap (λ (kind : Record). lacks_contact kind (type_of kind ∷ l.fields) countries (contacts_after true ls)) k

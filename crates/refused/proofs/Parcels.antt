@@ -55,8 +55,8 @@ module _ (version : Version) (due : Due) (at : ℕ) (left : List ℕ) (code : Li
 
   module _ (counted : Counted told left Parcel (code ∷ more)) (filled : Filled code) (narrow : length code ≤ width_in_table (profile version Parcel) 1)
       (fails : checked_identcode code ≡ Accepted → ⊥) where
-    code-refused : RefusedLine told at left (because FieldForm (at + 4))
-    code-refused =
+    code_refused : RefusedLine told at left (because FieldForm (at + 4))
+    code_refused =
         RefusedLine.bad_field Parcel [] code more FieldForm counted
         (record {
           before = tt;
@@ -64,8 +64,8 @@ module _ (version : Version) (due : Due) (at : ℕ) (left : List ℕ) (code : Li
               (parcel_form version (type_of Parcel) code ∙ not_accepted (checked_identcode code) fails);
         })
 
-    something-left : left ≡ [] → ⊥
-    something-left e =
+    something_left : left ≡ [] → ⊥
+    something_left e =
         let line = joined (code ∷ more) ++ bytes "\r\n" ++ counted.stands.behind in
         omega (arith, ap length (sym e ∙ counted.stands.there), length-append (type_of Parcel) line)
 
@@ -76,7 +76,7 @@ pub failing_code : (version : Version) (due : Due) (s : List ℕ) (at : ℕ) (co
 failing_code version due s at code more short inside counted filled narrow fails =
     (line_refused_exactly (told version due at (drop at s) code more) s at (because FieldForm (at + 4))).1
     (RefusedAt.line_Refused (because FieldForm (at + 4)) short inside
-    (code-refused version due at (drop at s) code more counted filled narrow fails))
+    (code_refused version due at (drop at s) code more counted filled narrow fails))
 
 pub failing_file : (s : List ℕ) (lent : Lent) (ls : List FileLine) (left code : List ℕ) (more : List (List ℕ)) →
     Begins lent.countries s ls left → length ls ≤ lent.words → Counted (told_behind s ls) left Parcel (code ∷ more) → Filled code →
@@ -86,5 +86,5 @@ failing_file s lent ls left code more begins room counted filled narrow fails =
     let at = length (file_bytes ls) in
     let due = due_behind First ls in
     RefusedFile.line_Refused ls left (because FieldForm (at + 4)) begins room
-    (something-left (version_of s) due at left code more counted filled narrow fails)
-    (code-refused (version_of s) due at left code more counted filled narrow fails)
+    (something_left (version_of s) due at left code more counted filled narrow fails)
+    (code_refused (version_of s) due at left code more counted filled narrow fails)

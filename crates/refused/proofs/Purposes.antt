@@ -24,13 +24,13 @@ use Rattle.purpose.specs.declared.source.Sourced.TheVariants.{From, Nowhere}
 use Rattle.purpose.specs.declared.write.PurposeAnswer.TheVariants.{Refused}
 use Rattle.allowed.specs.Allowed.{FileLine, AllowedFile, line_starts}
 use Rattle.allowed.specs.Sentence.{LineNo, CashLine}
-use Rattle.allowed.proofs.Files.{accepted-allowed, starts_count}
+use Rattle.allowed.proofs.Files.{accepted_allowed, starts_count}
 use Rattle.allowed.proofs.Placed.{line_there}
-use Rattle.allowed.proofs.Paying.{cash_told, cash-source}
+use Rattle.allowed.proofs.Paying.{cash_told, cash_source}
 use Rattle.allowed.proofs.Naming.{whole}
 use Rattle.refused.specs.Purpose.{RefusedPurpose}
-use Rattle.refused.proofs.Refusing.{judged-refused}
-use Rattle.refused.proofs.Reaching.{refused-judged}
+use Rattle.refused.proofs.Refusing.{judged_refused}
+use Rattle.refused.proofs.Reaching.{refused_judged}
 
 -- the line with a number is a 006 line, or there is no source
 source_cash : {countries : List ℕ} (s : List ℕ) (ls : List FileLine) (g : AllowedFile countries s ls) (n : ℕ) (x : Sourced) →
@@ -49,33 +49,33 @@ said : FileAnswer → List ℕ → Judged
 said answer starts = record { answer = answer; starts = starts }
 
 module _ (s : List ℕ) (n : ℕ) (lent : Lent) (room : ℕ) where
-  answer-of : (ls : List FileLine) → AllowedFile lent.countries s ls → length ls ≤ lent.words →
+  answer_of : (ls : List FileLine) → AllowedFile lent.countries s ls → length ls ≤ lent.words →
       purpose_answer s n lent room ≡ on_source (source_of s (line_starts 0 ls) n) s room
   unfolding on_file
-  answer-of ls g few = ap (λ (j : Judged). on_file j.answer (source_of s j.starts n) s room) (whole s lent ls g few)
+  answer_of ls g few = ap (λ (j : Judged). on_file j.answer (source_of s j.starts n) s room) (whole s lent ls g few)
 
-  purpose-answer : (refusal : Refusal) → RefusedPurpose s n lent room refusal → purpose_answer s n lent room ≡ Refused refusal
+  purpose_answer_lem : (refusal : Refusal) → RefusedPurpose s n lent room refusal → purpose_answer s n lent room ≡ Refused refusal
   unfolding on_file on_source
-  purpose-answer refusal (RefusedPurpose.file_refused other g) = rw (refused-judged s lent other g)
-  purpose-answer refusal (RefusedPurpose.not_there ls g few none) =
-      answer-of ls g few
+  purpose_answer_lem refusal (RefusedPurpose.file_refused other g) = rw (refused_judged s lent other g)
+  purpose_answer_lem refusal (RefusedPurpose.not_there ls g few none) =
+      answer_of ls g few
       ∙ ⊎_elim (λ e. ap (λ (x : Sourced). on_source x s room) e) (λ k. absurd (none k.0 k.1 k.2))
       (source_cash s ls g n (source_of s (line_starts 0 ls) n) refl)
-  purpose-answer refusal (RefusedPurpose.too_short ls l g few h c short) =
-      answer-of ls g few ∙ ap (λ (x : Sourced). on_source x s room) (cash-source s ls g n l h c) ∙ rw (lt-ltb room purpose_long short)
+  purpose_answer_lem refusal (RefusedPurpose.too_short ls l g few h c short) =
+      answer_of ls g few ∙ ap (λ (x : Sourced). on_source x s room) (cash_source s ls g n l h c) ∙ rw (lt-ltb room purpose_long short)
 
   module _ (refusal : Refusal) where
     is : (other : Refusal) → RefusedPurpose s n lent room other → Refused other ≡ Refused refusal → RefusedPurpose s n lent room refusal
     is other g e = let same : other ≡ refusal = cc in subst (RefusedPurpose s n lent room) same g
 
-    answer-purpose : purpose_answer s n lent room ≡ Refused refusal → RefusedPurpose s n lent room refusal
+    answer_purpose : purpose_answer s n lent room ≡ Refused refusal → RefusedPurpose s n lent room refusal
     unfolding said on_file on_source
-    answer-purpose e = go (judged s lent).answer refl e
+    answer_purpose e = go (judged s lent).answer refl e
       where
         on : (ls : List FileLine) → AllowedFile lent.countries s ls → length ls ≤ lent.words → (x : Sourced) → source_of s (line_starts 0 ls) n ≡ x →
             on_source x s room ≡ Refused refusal → RefusedPurpose s n lent room refusal
         on ls g few Nowhere ex q =
-            is (because NotThere 0) (RefusedPurpose.not_there ls g few (λ l h c. apart (sym (cash-source s ls g n l h c) ∙ ex))) q
+            is (because NotThere 0) (RefusedPurpose.not_there ls g few (λ l h c. apart (sym (cash_source s ls g n l h c) ∙ ex))) q
         on ls g few (From source) ex q =
             choice (ltb room purpose_long) (Refused (because OutputTooShort 0)) _ (Refused refusal)
             (λ t r. ⊎_elim (λ z. apart z)
@@ -85,9 +85,9 @@ module _ (s : List ℕ) (n : ℕ) (lent : Lent) (room : ℕ) where
 
         go : (a : FileAnswer) → (judged s lent).answer ≡ a → on_file a (source_of s (judged s lent).starts n) s room ≡ Refused refusal →
             RefusedPurpose s n lent room refusal
-        go (RefusedAnswer other) ea q = is other (RefusedPurpose.file_refused other (judged-refused s lent other ea)) q
+        go (RefusedAnswer other) ea q = is other (RefusedPurpose.file_refused other (judged_refused s lent other ea)) q
         go (Accepted totals) ea q =
-            let r = accepted-allowed s lent totals (judged s lent).starts (ap (λ (a : FileAnswer). said a (judged s lent).starts) ea) in
+            let r = accepted_allowed s lent totals (judged s lent).starts (ap (λ (a : FileAnswer). said a (judged s lent).starts) ea) in
             on r.lines r.allowed r.room (source_of s (line_starts 0 r.lines) n) refl
             (ap (λ (x : List ℕ). on_source (source_of s x n) s room) (sym r.list) ∙ q)
 
@@ -96,6 +96,6 @@ pub purpose_refused_exactly : (s : List ℕ) (n : ℕ) (lent : Lent) (output : L
     Purposes s n lent output (Refused refusal) list after ↔
     (RefusedPurpose s n lent (length output) refusal × (list ≡ replicate lent.words 0) × (after ≡ output))
 purpose_refused_exactly s n lent output refusal list after = (
-  λ p. (answer-purpose s n lent (length output) refusal (sym p.0), p.1, p.2),
-  λ g. (sym (purpose-answer s n lent (length output) refusal g.0), g.1, g.2),
+  λ p. (answer_purpose s n lent (length output) refusal (sym p.0), p.1, p.2),
+  λ g. (sym (purpose_answer_lem s n lent (length output) refusal g.0), g.1, g.2),
 )

@@ -24,11 +24,11 @@ use Rattle.file.specs.declared.whole.FileAnswer.TheVariants.{Refused}
 use Rattle.allowed.specs.Allowed.{FileLine, line_bytes, file_bytes, identcodes}
 use Rattle.allowed.proofs.Files.{line_some}
 use Rattle.refused.specs.File.{Begins, RefusedFile}
-use Rattle.refused.proofs.Lines.{line-answer}
-use Rattle.refused.proofs.Beginning.{Next, next_at, left-long}
-use Rattle.refused.proofs.Standing.{Here, line_of, there, inside, here-line, before-end, behind-line}
-use Rattle.refused.proofs.Standing.{step-lacks, step-repeats, step-full, step-on, repeats_code}
-use Rattle.refused.proofs.Missing.{away-lacks, parcel-spared}
+use Rattle.refused.proofs.Lines.{line_answer_lem}
+use Rattle.refused.proofs.Beginning.{Next, next_at, left_long}
+use Rattle.refused.proofs.Standing.{Here, line_of, there, inside, here_line, before_end, behind_line}
+use Rattle.refused.proofs.Standing.{step_lacks, step_repeats, step_full, step_on, repeats_code}
+use Rattle.refused.proofs.Missing.{away_lacks, parcel_spared}
 
 module _ (s : List ℕ) (lent : Lent) where
   -- the judge reaches the end of the lines with which a file begins
@@ -41,15 +41,15 @@ module _ (s : List ℕ) (lent : Lent) where
     same : file_from (length s + 1) s lent [] (begin (version_of s)) ≡ file_from turns s lent starts state
 
   module _ (ls : List FileLine) (l : FileLine) (left : List ℕ) (n : Next lent.countries s ls l left) where
-    reach-one : length ls < lent.words → Reached ls → Reached (ls ++ (l ∷ []))
+    reach_one : length ls < lent.words → Reached ls → Reached (ls ++ (l ∷ []))
     unfolding line_of
-    reach-one room r = go r.turns r.enough r.same
+    reach_one room r = go r.turns r.enough r.same
       where
         h : Here s ls r.starts r.state
         h = r.here
 
         inner : r.state.at < length s
-        inner = before-end s ls r.starts r.state h lent l left n.follows
+        inner = before_end s ls r.starts r.state h lent l left n.follows
 
         go : (turns : ℕ) → length s < turns + r.state.at →
             file_from (length s + 1) s lent [] (begin (version_of s)) ≡ file_from turns s lent r.starts r.state → Reached (ls ++ (l ∷ []))
@@ -60,12 +60,12 @@ module _ (s : List ℕ) (lent : Lent) where
               starts = r.starts ++ (r.state.at ∷ []);
               state = behind s r.state (line_of r.state.at l);
               enough = omega (arith, line_some l);
-              here = behind-line s ls r.starts r.state h lent l left n.follows;
+              here = behind_line s ls r.starts r.state h lent l left n.follows;
               same =
                   same
                   ∙ rw (
                     lt-ltb r.state.at (length s) inner,
-                    step-on s ls r.starts r.state h lent l left n.follows n.reached n.fresh (omega (arith, h.count)),
+                    step_on s ls r.starts r.state h lent l left n.follows n.reached n.fresh (omega (arith, h.count)),
                   );
             }
 
@@ -75,7 +75,7 @@ module _ (s : List ℕ) (lent : Lent) where
   reach [] done left b room r = subst Reached (sym (append-nil done)) r
   reach (l ∷ todo) done left b room r =
       let n = next_at lent.countries s done l todo left b in
-      let one = reach-one done l (file_bytes todo ++ left) n (omega arith) r in
+      let one = reach_one done l (file_bytes todo ++ left) n (omega arith) r in
       subst Reached (append_snoc done l todo)
       (reach todo (done ++ (l ∷ [])) left (subst (λ (x : List FileLine). Begins lent.countries s x left) (sym (append_snoc done l todo)) b)
       (omega (arith, length-append done (l ∷ []))) one)
@@ -97,10 +97,10 @@ module _ (s : List ℕ) (lent : Lent) where
   from_begin in_limit paired = rw (le-ltb file_limit (length s) in_limit, paired)
 
   -- a step that stops there
-  stops-there : (turns : ℕ) (starts : List ℕ) (state : State) (refusal : Refusal) → length s < turns + state.at → state.at < length s →
+  stops_there : (turns : ℕ) (starts : List ℕ) (state : State) (refusal : Refusal) → length s < turns + state.at → state.at < length s →
       step_answer s lent starts state ≡ Stopped refusal → (file_from turns s lent starts state).answer ≡ Refused refusal
-  stops-there zero starts state refusal enough some e = absurd (omega arith)
-  stops-there (suc turns) starts state refusal enough some e = rw (lt-ltb state.at (length s) some, e)
+  stops_there zero starts state refusal enough some e = absurd (omega arith)
+  stops_there (suc turns) starts state refusal enough some e = rw (lt-ltb state.at (length s) some, e)
 
   ends_there : (turns : ℕ) (starts : List ℕ) (state : State) → length s ≤ state.at → may_end state.due ≡ false →
       (file_from turns s lent starts state).answer ≡ Refused (because FileEnds (length s))
@@ -108,53 +108,53 @@ module _ (s : List ℕ) (lent : Lent) where
   ends_there (suc turns) starts state h e = rw (le-ltb state.at (length s) h, e)
 
   -- the answer at the place reached
-  answer-there : (ls : List FileLine) (r : Reached ls) → length s ≤ file_limit → is_paired lent.countries ≡ true → (refusal : Refusal) →
+  answer_there : (ls : List FileLine) (r : Reached ls) → length s ≤ file_limit → is_paired lent.countries ≡ true → (refusal : Refusal) →
       r.state.at < length s →
       step_answer s lent r.starts r.state ≡ Stopped refusal → (judged s lent).answer ≡ Refused refusal
-  answer-there ls r in_limit paired refusal some e =
-      ap (λ (j : Judged). j.answer) (from_begin in_limit paired ∙ r.same) ∙ stops-there r.turns r.starts r.state refusal r.enough some e
+  answer_there ls r in_limit paired refusal some e =
+      ap (λ (j : Judged). j.answer) (from_begin in_limit paired ∙ r.same) ∙ stops_there r.turns r.starts r.state refusal r.enough some e
 
-  pub refused-judged : (refusal : Refusal) → RefusedFile s lent refusal → (judged s lent).answer ≡ Refused refusal
+  pub refused_judged : (refusal : Refusal) → RefusedFile s lent refusal → (judged s lent).answer ≡ Refused refusal
   unfolding judged step_answer on_line
-  refused-judged refusal (RefusedFile.file_too_long h) = rw (lt-ltb file_limit (length s) h)
-  refused-judged refusal (RefusedFile.countries_odd h odd) = rw (le-ltb file_limit (length s) h, odd)
-  refused-judged refusal (RefusedFile.line_Refused ls left other b room some g) =
+  refused_judged refusal (RefusedFile.file_too_long h) = rw (lt-ltb file_limit (length s) h)
+  refused_judged refusal (RefusedFile.countries_odd h odd) = rw (le-ltb file_limit (length s) h, odd)
+  refused_judged refusal (RefusedFile.line_Refused ls left other b room some g) =
       let r = reached ls left b room in
       let h = r.here in
-      let e = line-answer (told_by r.state) s r.state.at b.in_limit (inside s ls r.starts r.state h left b) other
-      (here-line s ls r.starts r.state h left b other g) in
-      answer-there ls r b.in_limit b.paired other (left-some left some (omega (arith, h.place, left-long s ls left b))) (rw e)
+      let e = line_answer_lem (told_by r.state) s r.state.at b.in_limit (inside s ls r.starts r.state h left b) other
+      (here_line s ls r.starts r.state h left b other g) in
+      answer_there ls r b.in_limit b.paired other (left_some left some (omega (arith, h.place, left_long s ls left b))) (rw e)
     where
-      left-some : (left : List ℕ) → (left ≡ [] → ⊥) → {at : ℕ} → length s ≡ at + length left → at < length s
-      left-some [] n e = absurd (n refl)
-      left-some (x ∷ left) n e = omega arith
-  refused-judged refusal (RefusedFile.contact_missing ls l left f room k listed away) =
+      left_some : (left : List ℕ) → (left ≡ [] → ⊥) → {at : ℕ} → length s ≡ at + length left → at < length s
+      left_some [] n e = absurd (n refl)
+      left_some (x ∷ left) n e = omega arith
+  refused_judged refusal (RefusedFile.contact_missing ls l left f room k listed away) =
       let r = reached ls (line_bytes l ++ left) f.begins room in
       let h = r.here in
-      answer-there ls r f.begins.in_limit f.begins.paired (because ContactMissing r.state.at)
-      (before-end s ls r.starts r.state h lent l left f)
-      (step-lacks s ls r.starts r.state h lent l left f (away-lacks lent.countries ls l k listed away))
+      answer_there ls r f.begins.in_limit f.begins.paired (because ContactMissing r.state.at)
+      (before_end s ls r.starts r.state h lent l left f)
+      (step_lacks s ls r.starts r.state h lent l left f (away_lacks lent.countries ls l k listed away))
       ∙ ap (λ (x : ℕ). Refused (because ContactMissing x)) h.place
-  refused-judged refusal (RefusedFile.identcode_repeated ls l left f room k e) =
+  refused_judged refusal (RefusedFile.identcode_repeated ls l left f room k e) =
       let r = reached ls (line_bytes l ++ left) f.begins room in
       let h = r.here in
       let at-line = there s ls r.starts r.state h (line_bytes l ++ left) f.begins in
       let t = repeats_code (version_of s) l.kind s r.starts r.state.at (identcodes ls) l.fields left h.seen k at-line f.ok ∙ e in
       let p : r.state.at + 4 ≡ length (file_bytes ls ++ bytes "040;") = omega (arith, h.place, length-append (file_bytes ls) (bytes "040;")) in
-      answer-there ls r f.begins.in_limit f.begins.paired (because IdentcodeRepeated (r.state.at + 4))
-      (before-end s ls r.starts r.state h lent l left f)
-      (step-repeats s ls r.starts r.state h lent l left f (parcel-spared lent.countries ls l k) t)
+      answer_there ls r f.begins.in_limit f.begins.paired (because IdentcodeRepeated (r.state.at + 4))
+      (before_end s ls r.starts r.state h lent l left f)
+      (step_repeats s ls r.starts r.state h lent l left f (parcel_spared lent.countries ls l k) t)
       ∙ ap (λ (x : ℕ). Refused (because IdentcodeRepeated x)) p
-  refused-judged refusal (RefusedFile.List-full ls l left b full) =
+  refused_judged refusal (RefusedFile.List-full ls l left b full) =
       let n = next_at lent.countries s ls l [] left b in
       let r = reached ls (line_bytes l ++ left) n.follows.begins (omega arith) in
       let h = r.here in
-      answer-there ls r b.in_limit b.paired (because ListFull r.state.at)
-      (before-end s ls r.starts r.state h lent l left n.follows)
-      (step-full s ls r.starts r.state h lent l left n.follows n.reached n.fresh (omega (arith, h.count)))
+      answer_there ls r b.in_limit b.paired (because ListFull r.state.at)
+      (before_end s ls r.starts r.state h lent l left n.follows)
+      (step_full s ls r.starts r.state h lent l left n.follows n.reached n.fresh (omega (arith, h.count)))
       ∙ ap (λ (x : ℕ). Refused (because ListFull x)) h.place
-  refused-judged refusal (RefusedFile.file_ends ls b room e) =
+  refused_judged refusal (RefusedFile.file_ends ls b room e) =
       let r = reached ls [] b room in
       let h = r.here in
       ap (λ (j : Judged). j.answer) (from_begin b.in_limit b.paired ∙ r.same)
-      ∙ ends_there r.turns r.starts r.state (omega (arith, h.place, left-long s ls [] b)) (ap may_end h.next ∙ e)
+      ∙ ends_there r.turns r.starts r.state (omega (arith, h.place, left_long s ls [] b)) (ap may_end h.next ∙ e)

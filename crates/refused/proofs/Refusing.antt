@@ -41,14 +41,14 @@ use Rattle.file.proofs.Lists.{word_left, word_none}
 use Rattle.allowed.specs.Allowed.{FileLine, file_bytes, identcodes}
 use Rattle.allowed.proofs.Files.{line_some}
 use Rattle.allowed.proofs.Contacts.{parts_of, contacts_after}
-use Rattle.allowed.proofs.Codes.{fresh-not}
+use Rattle.allowed.proofs.Codes.{fresh_not}
 use Rattle.refused.specs.Line.{RefusedLine, RefusedAt}
 use Rattle.refused.specs.File.{Begins, NextLine, RefusedFile}
-use Rattle.refused.proofs.Lines.{answer-refused}
-use Rattle.refused.proofs.Beginning.{Next, begins_more, left-long}
-use Rattle.refused.proofs.Standing.{Here, line_of, there, inside, line-here, behind-line}
+use Rattle.refused.proofs.Lines.{answer_refused}
+use Rattle.refused.proofs.Beginning.{Next, begins_more, left_long}
+use Rattle.refused.proofs.Standing.{Here, line_of, there, inside, line_here, behind_line}
 use Rattle.refused.proofs.Standing.{asks, repeats_parcel, repeats_code}
-use Rattle.refused.proofs.Missing.{lacks-told}
+use Rattle.refused.proofs.Missing.{lacks_told}
 
 -- a refusal at an offset in a file that is not too long is one of the line there
 in_line_lem : (told : Told) (s : List ℕ) (at : ℕ) → length s ≤ file_limit → at ≤ length s → (refusal : Refusal) → RefusedAt told s at refusal →
@@ -96,7 +96,7 @@ module _ (s : List ℕ) (lent : Lent) where
 
         missing : lacks ≡ true → Refused (because ContactMissing state.at) ≡ Refused refusal → RefusedFile s lent refusal
         missing m e =
-            let away = lacks-told lent.countries ls l m in
+            let away = lacks_told lent.countries ls l m in
             is (because ContactMissing state.at) e
             (subst (λ (x : ℕ). RefusedFile s lent (because ContactMissing x)) (sym h.place)
             (RefusedFile.contact_missing ls l g.rest follows room away.0 away.1 away.2))
@@ -120,7 +120,7 @@ module _ (s : List ℕ) (lent : Lent) where
               record {
                 follows = follows;
                 reached = reached;
-                fresh = fresh-not s starts (identcodes ls) state.at l.fields g.rest h.seen (sound state.version) line.kind
+                fresh = fresh_not s starts (identcodes ls) state.at l.fields g.rest h.seen (sound state.version) line.kind
                     g.stands g.allowed fresh;
               }
 
@@ -138,22 +138,22 @@ module _ (s : List ℕ) (lent : Lent) where
               ap (λ (x : Line). (on (behind s state x)).answer) same ∙ e in
               more (ls ++ (l ∷ [])) g.rest (starts ++ (state.at ∷ [])) (behind s state (line_of state.at l))
               (omega (arith, line_some l)) (begins_more lent.countries s ls l g.rest next) (omega (arith, h.count, length-append ls (l ∷ [])))
-              (behind-line s ls starts state h lent l g.rest follows) e'
+              (behind_line s ls starts state h lent l g.rest follows) e'
             where
               same_line : {count count' next next' : ℕ} → count ≡ count' → next ≡ next' →
                   ◌≡◌ {A = Line} (record { kind = line.kind; count = count; next = next }) (record { kind = line.kind; count = count'; next = next' })
               same_line c n = rw (c, n)
 
-      step-refused : (a : LineAnswer) → line_answer (told_by state) s state.at ≡ a →
+      step_refused : (a : LineAnswer) → line_answer (told_by state) s state.at ≡ a →
           (on_step (on_line a s lent starts state) on).answer ≡ Refused refusal →
           RefusedFile s lent refusal
       unfolding on_line listing
-      step-refused (RefusedAnswer other) ea e =
+      step_refused (RefusedAnswer other) ea e =
           let r = in_line_lem (told_by state) s state.at b.in_limit (inside s ls starts state h left b) other
-          (answer-refused (told_by state) s state.at other ea) in
-          is other e (RefusedFile.line_Refused ls left other b room (λ z. omega (arith, h.place, left-long s ls left b, ap length z))
-          (line-here s ls starts state h left b other r))
-      step-refused (AcceptedLine line) ea e =
+          (answer_refused (told_by state) s state.at other ea) in
+          is other e (RefusedFile.line_Refused ls left other b room (λ z. omega (arith, h.place, left_long s ls left b, ap length z))
+          (line_here s ls starts state h left b other r))
+      step_refused (AcceptedLine line) ea e =
           go (lacks_contact line.kind (split (text_at s state.at)) lent.countries state.contacts)
           (repeats line.kind s starts state.at) (has_word lent.words state.lines)
           (sym (asks s ls starts state h lent.countries line (fields_of (text_at s state.at)) (g line ea))) refl refl e
@@ -168,10 +168,10 @@ module _ (s : List ℕ) (lent : Lent) where
           go false false false v r f q = full line ea v r (word_none lent.words state.lines f) q
           go false false true v r f q = goes_on line ea v r (word_left lent.words state.lines f) q
 
-    at-end : (ls : List FileLine) (left : List ℕ) (starts : List ℕ) (state : State) → Begins lent.countries s ls left → length ls ≤ lent.words →
+    at_end : (ls : List FileLine) (left : List ℕ) (starts : List ℕ) (state : State) → Begins lent.countries s ls left → length ls ≤ lent.words →
         Here s ls starts state →
         length s ≤ state.at → (ended s starts state).answer ≡ Refused refusal → RefusedFile s lent refusal
-    at-end ls left starts state b room h e q = go (may_end state.due) refl q
+    at_end ls left starts state b room h e q = go (may_end state.due) refl q
       where
         go : (t : Bool) → may_end state.due ≡ t →
             (if t then passed starts state else record { answer = Refused (because FileEnds (length s)); starts = [] }).answer ≡ Refused refusal →
@@ -179,26 +179,26 @@ module _ (s : List ℕ) (lent : Lent) where
         go true m q = absurd (no_pass file_verdict refl refl (sym q))
         go false m q =
             is (because FileEnds (length s)) q
-            (RefusedFile.file_ends ls (subst (Begins lent.countries s ls) (no_bytes left (omega (arith, h.place, left-long s ls left b))) b) room
+            (RefusedFile.file_ends ls (subst (Begins lent.countries s ls) (no_bytes left (omega (arith, h.place, left_long s ls left b))) b) room
             (ap may_end (sym h.next) ∙ m))
 
-    from-refused : (turns : ℕ) → Refuses turns
+    from_refused : (turns : ℕ) → Refuses turns
     unfolding step_answer
-    from-refused zero ls left starts state enough b room h e = absurd (omega (arith, inside s ls starts state h left b))
-    from-refused (suc turns) ls left starts state enough b room h e =
-        go (ltb state.at (length s)) refl (from-refused turns) e
+    from_refused zero ls left starts state enough b room h e = absurd (omega (arith, inside s ls starts state h left b))
+    from_refused (suc turns) ls left starts state enough b room h e =
+        go (ltb state.at (length s)) refl (from_refused turns) e
       where
         go : (t : Bool) → ltb state.at (length s) ≡ t → Refuses turns →
             (if t then on_step (step_answer s lent starts state) (λ next. file_from turns s lent (starts ++ (state.at ∷ [])) next)
             else ended s starts state).answer ≡ Refused refusal → RefusedFile s lent refusal
         go true t more q =
-            step-refused turns more ls left starts state enough b room h (ltb-true state.at (length s) t)
+            step_refused turns more ls left starts state enough b room h (ltb-true state.at (length s) t)
             (line_answer (told_by state) s state.at) refl q
-        go false t more q = at-end ls left starts state b room h (ltb-false state.at (length s) t) q
+        go false t more q = at_end ls left starts state b room h (ltb-false state.at (length s) t) q
 
-    pub judged-refused : (judged s lent).answer ≡ Refused refusal → RefusedFile s lent refusal
+    pub judged_refused : (judged s lent).answer ≡ Refused refusal → RefusedFile s lent refusal
     unfolding judged
-    judged-refused e = go (ltb file_limit (length s)) (is_paired lent.countries) refl refl e
+    judged_refused e = go (ltb file_limit (length s)) (is_paired lent.countries) refl refl e
       where
         go : (t p : Bool) → ltb file_limit (length s) ≡ t → is_paired lent.countries ≡ p →
             (if t then record { answer = Refused (because FileTooLong file_limit); starts = [] }
@@ -207,7 +207,7 @@ module _ (s : List ℕ) (lent : Lent) where
         go true p t ep q = is (because FileTooLong file_limit) q (RefusedFile.file_too_long (ltb-true file_limit (length s) t))
         go false false t ep q = is (because CountriesOdd 0) q (RefusedFile.countries_odd (ltb-false file_limit (length s) t) ep)
         go false true t ep q =
-            from-refused (length s + 1) [] s [] (begin (version_of s)) (omega arith)
+            from_refused (length s + 1) [] s [] (begin (version_of s)) (omega arith)
             (record {
               in_limit = ltb-false file_limit (length s) t;
               paired = ep;

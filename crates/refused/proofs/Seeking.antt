@@ -20,9 +20,9 @@ use Rattle.line.specs.declared.read.LineAnswer.{LineAnswer}
 use Rattle.line.specs.declared.read.LineAnswer.TheVariants.{Accepted, Refused as RefusedLineAnswer}
 use Rattle.line.specs.declared.find.FieldAnswer.TheVariants.{Refused}
 use Rattle.grammar.proofs.Lines.{accepted_reads}
-use Rattle.grammar.proofs.Finding.{field-not-there, field_refused}
+use Rattle.grammar.proofs.Finding.{field_not_there, field_refused}
 use Rattle.refused.specs.Line.{RefusedFind}
-use Rattle.refused.proofs.Lines.{answer-refused, refused-answer}
+use Rattle.refused.proofs.Lines.{answer_refused, refused_answer}
 
 pub field_refused_exactly : (rules : Rules) (file : List ℕ) (offset n : ℕ) (refusal : Refusal) →
     (field_answer rules file offset n ≡ Refused refusal) ↔ RefusedFind rules file offset n refusal
@@ -35,7 +35,7 @@ field_refused_exactly rules file offset n refusal = (λ e. forth (line_answer (a
 
     forth : (a : LineAnswer) → line_answer (alone rules) file offset ≡ a → in_line a file offset n ≡ Refused refusal →
         RefusedFind rules file offset n refusal
-    forth (RefusedLineAnswer other) ea e = is other (RefusedFind.line_Refused other (answer-refused (alone rules) file offset other ea)) e
+    forth (RefusedLineAnswer other) ea e = is other (RefusedFind.line_Refused other (answer_refused (alone rules) file offset other ea)) e
     forth (Accepted line) ea e =
         let g = accepted_reads (alone rules) file offset line ea in
         choice (eqb n 0 || ltb line.count n) (Refused (because NotThere 0)) _ (Refused refusal)
@@ -46,5 +46,5 @@ field_refused_exactly rules file offset n refusal = (λ e. forth (line_answer (a
 
     back : (refusal : Refusal) → RefusedFind rules file offset n refusal → field_answer rules file offset n ≡ Refused refusal
     back refusal (RefusedFind.line_Refused other g) =
-        field_refused rules file offset n other (refused-answer (alone rules) file offset other g)
-    back refusal (RefusedFind.no_such_field line fs g h) = field-not-there g n h
+        field_refused rules file offset n other (refused_answer (alone rules) file offset other g)
+    back refusal (RefusedFind.no_such_field line fs g h) = field_not_there g n h

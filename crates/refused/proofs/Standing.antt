@@ -23,7 +23,7 @@ use Rattle.line.specs.Render.{render}
 use Rattle.line.specs.Told.{Told}
 use Rattle.line.specs.declared.read.Line.{Line}
 use Rattle.grammar.specs.Grammar.{LineOk, Reads}
-use Rattle.grammar.proofs.Lines.{reads-accepted, read-parts}
+use Rattle.grammar.proofs.Lines.{reads_accepted, read_parts}
 use Rattle.file.specs.Identcode.{repeats}
 use Rattle.file.specs.Lent.{Lent}
 use Rattle.file.specs.Contact.{contacts_behind, lacks_contact}
@@ -34,10 +34,10 @@ use Rattle.file.proofs.Lists.{left_word, no_word}
 use Rattle.allowed.specs.Allowed.{FileLine, line_bytes, file_bytes, codes_on, identcodes, one_of_codes}
 use Rattle.allowed.proofs.Files.{line_some}
 use Rattle.allowed.proofs.Contacts.{parts_of, contacts_after, after_more}
-use Rattle.allowed.proofs.Codes.{Seen, seen_more, Fresh, not-fresh, code_here}
+use Rattle.allowed.proofs.Codes.{Seen, seen_more, Fresh, not_fresh, code_here}
 use Rattle.refused.specs.Line.{RefusedLine}
 use Rattle.refused.specs.File.{due_behind, told_behind, Begins, NextLine}
-use Rattle.refused.proofs.Beginning.{bytes_more, codes_more, due_more, left_there, left-long}
+use Rattle.refused.proofs.Beginning.{bytes_more, codes_more, due_more, left_there, left_long}
 
 -- the judge behind these lines
 pub record Here (s : List ℕ) (ls : List FileLine) (starts : List ℕ) (state : State) : Type 0 where
@@ -58,7 +58,7 @@ module _ (s : List ℕ) (ls : List FileLine) (starts : List ℕ) (state : State)
       lacks_contact line.kind (split (text_at s state.at)) countries state.contacts ≡
       lacks_contact line.kind (type_of line.kind ∷ fs) countries (contacts_after true ls)
   asks countries line fs g =
-      ap (λ (parts : List (List ℕ)). lacks_contact line.kind parts countries state.contacts) (read-parts g)
+      ap (λ (parts : List (List ℕ)). lacks_contact line.kind parts countries state.contacts) (read_parts g)
       ∙ ap (lacks_contact line.kind (type_of line.kind ∷ fs) countries) h.contacts
 
   told_is : told_by state ≡ told_behind s ls
@@ -71,19 +71,19 @@ module _ (s : List ℕ) (ls : List FileLine) (starts : List ℕ) (state : State)
     there = ap (λ (i : ℕ). drop i s) h.place ∙ left_there s ls left b
 
     pub inside : state.at ≤ length s
-    inside = omega (arith, h.place, left-long s ls left b)
+    inside = omega (arith, h.place, left_long s ls left b)
 
     -- what is refused as a line there
-    pub line-here : (refusal : Refusal) → RefusedLine (told_by state) state.at (drop state.at s) refusal →
+    pub line_here : (refusal : Refusal) → RefusedLine (told_by state) state.at (drop state.at s) refusal →
         RefusedLine (told_behind s ls) (length (file_bytes ls)) left refusal
-    line-here refusal r =
+    line_here refusal r =
         let r₁ = subst (λ (t : Told). RefusedLine t state.at (drop state.at s) refusal) told_is r in
         let r₂ = subst (λ (x : List ℕ). RefusedLine (told_behind s ls) state.at x refusal) there r₁ in
         subst (λ (i : ℕ). RefusedLine (told_behind s ls) i left refusal) h.place r₂
 
-    pub here-line : (refusal : Refusal) → RefusedLine (told_behind s ls) (length (file_bytes ls)) left refusal →
+    pub here_line : (refusal : Refusal) → RefusedLine (told_behind s ls) (length (file_bytes ls)) left refusal →
         RefusedLine (told_by state) state.at (drop state.at s) refusal
-    here-line refusal r =
+    here_line refusal r =
         let r₁ = subst (λ (i : ℕ). RefusedLine (told_behind s ls) i left refusal) (sym h.place) r in
         let r₂ = subst (λ (x : List ℕ). RefusedLine (told_behind s ls) state.at x refusal) (sym there) r₁ in
         subst (λ (t : Told). RefusedLine t state.at (drop state.at s) refusal) (sym told_is) r₂
@@ -105,12 +105,12 @@ module _ (s : List ℕ) (ls : List FileLine) (starts : List ℕ) (state : State)
           next = refl;
         }
 
-    pub before-end : state.at < length s
-    before-end = omega (arith, h.place, left-long s ls (line_bytes l ++ left) f.begins, length-append (line_bytes l) left, line_some l)
+    pub before_end : state.at < length s
+    before_end = omega (arith, h.place, left_long s ls (line_bytes l ++ left) f.begins, length-append (line_bytes l) left, line_some l)
 
-    pub behind-line : Here s (ls ++ (l ∷ [])) (starts ++ (state.at ∷ [])) (behind s state (line_of state.at l))
+    pub behind_line : Here s (ls ++ (l ∷ [])) (starts ++ (state.at ∷ [])) (behind s state (line_of state.at l))
     unfolding line_of
-    behind-line =
+    behind_line =
         let more = bytes_more ls l [] in
         record {
           place =
@@ -129,7 +129,7 @@ module _ (s : List ℕ) (ls : List FileLine) (starts : List ℕ) (state : State)
               subst (Seen s (starts ++ (state.at ∷ []))) (sym (codes_more ls l))
               (seen_more (sound (version_of s)) s starts (identcodes ls) state.at l.kind l.fields left h.seen stands f.ok);
           contacts =
-              ap (λ (parts : List (List ℕ)). contacts_behind l.kind parts state.contacts) (read-parts reads)
+              ap (λ (parts : List (List ℕ)). contacts_behind l.kind parts state.contacts) (read_parts reads)
               ∙ ap (contacts_behind l.kind (parts_of l)) h.contacts ∙ sym (after_more true ls l);
         }
 
@@ -142,27 +142,27 @@ module _ (s : List ℕ) (ls : List FileLine) (starts : List ℕ) (state : State)
     asked = asks lent.countries (line_of state.at l) l.fields reads
 
     -- its step, by cases
-    pub step-lacks : lacks ≡ true → step_answer s lent starts state ≡ Stopped (because ContactMissing state.at)
+    pub step_lacks : lacks ≡ true → step_answer s lent starts state ≡ Stopped (because ContactMissing state.at)
     unfolding step_answer on_line line_of
-    step-lacks e = rw (reads-accepted reads, asked, e)
+    step_lacks e = rw (reads_accepted reads, asked, e)
 
     module _ (reached : lacks ≡ false) where
-      pub step-repeats : repeats l.kind s starts state.at ≡ true →
+      pub step_repeats : repeats l.kind s starts state.at ≡ true →
           step_answer s lent starts state ≡ Stopped (because IdentcodeRepeated (state.at + 4))
       unfolding step_answer on_line listing line_of
-      step-repeats r = rw (reads-accepted reads, asked, reached, r)
+      step_repeats r = rw (reads_accepted reads, asked, reached, r)
 
       module _ (fresh : Fresh (identcodes ls) (codes_on l.kind l.fields)) where
         new : repeats l.kind s starts state.at ≡ false
-        new = not-fresh s starts (identcodes ls) state.at l.fields left h.seen (sound (version_of s)) l.kind stands f.ok fresh
+        new = not_fresh s starts (identcodes ls) state.at l.fields left h.seen (sound (version_of s)) l.kind stands f.ok fresh
 
-        pub step-full : lent.words ≤ state.lines → step_answer s lent starts state ≡ Stopped (because ListFull state.at)
+        pub step_full : lent.words ≤ state.lines → step_answer s lent starts state ≡ Stopped (because ListFull state.at)
         unfolding step_answer on_line listing line_of
-        step-full full = rw (reads-accepted reads, asked, reached, new, no_word lent.words state.lines full)
+        step_full full = rw (reads_accepted reads, asked, reached, new, no_word lent.words state.lines full)
 
-        pub step-on : state.lines < lent.words → step_answer s lent starts state ≡ On (behind s state (line_of state.at l))
+        pub step_on : state.lines < lent.words → step_answer s lent starts state ≡ On (behind s state (line_of state.at l))
         unfolding step_answer on_line listing line_of
-        step-on r = rw (reads-accepted reads, asked, reached, new, left_word lent.words state.lines r)
+        step_on r = rw (reads_accepted reads, asked, reached, new, left_word lent.words state.lines r)
 
 -- a repeated identcode
 pub repeats_parcel : (kind : Record) (s starts : List ℕ) (at : ℕ) → repeats kind s starts at ≡ true → kind ≡ Parcel

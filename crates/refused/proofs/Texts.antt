@@ -30,14 +30,14 @@ use Rattle.line.specs.declared.walk.Walk.{Walk}
 use Rattle.line.specs.declared.walk.Walk.TheVariants.{Fine, Stopped}
 use Rattle.line.specs.declared.read.LineAnswer.TheVariants.{Refused}
 use Rattle.line.proofs.Splits.{all_in_front}
-use Rattle.line.proofs.Plain.{parts-split}
-use Rattle.line.proofs.Passing.{fine-each, each-fine}
+use Rattle.line.proofs.Plain.{parts_split}
+use Rattle.line.proofs.Passing.{fine_each, each_fine}
 use Rattle.grammar.specs.Grammar.{FieldsOk}
 use Rattle.grammar.proofs.Needs.{lacks_feature}
-use Rattle.grammar.proofs.Fields.{each-fields, fields-each}
+use Rattle.grammar.proofs.Fields.{each_fields, fields_each}
 use Rattle.refused.specs.Line.{Stands, FirstBad, Counted, RefusedLine}
-use Rattle.line.proofs.Stopping.{stopped-stops, stops-stopped}
-use Rattle.refused.proofs.Fields.{bad-refused, refused-bad, starts_behind}
+use Rattle.line.proofs.Stopping.{stopped_stops, stops_stopped}
+use Rattle.refused.proofs.Fields.{bad_refused, refused_bad, starts_behind}
 
 unknown : {kind : Record} → Unknown ≡ Known kind → ⊥
 unknown e = let z : ◌≡◌ {A = ℕ} 0 1 = cc in omega arith
@@ -64,16 +64,16 @@ module _ (told : Told) (offset : ℕ) (left : List ℕ) (refusal : Refusal) wher
     abbrev text : List ℕ
     text = type_of kind ++ joined fs
 
-    fields-plain : all_in plain fs ≡ true
-    fields-plain = and_right (all plain (type_of kind)) (all_in plain fs) g.clean
+    fields_plain : all_in plain fs ≡ true
+    fields_plain = and_right (all plain (type_of kind)) (all_in plain fs) g.clean
 
     abbrev walks : Walk
     walks = walk (told.rules kind) 1 (offset + length (type_of kind) + 1) (type_of kind) fs
 
-    of-walk : may_come told.due kind ≡ true → count_fits kind (length fs) ≡ true → after_walk walks kind offset text ≡ Refused refusal →
+    of_walk : may_come told.due kind ≡ true → count_fits kind (length fs) ≡ true → after_walk walks kind offset text ≡ Refused refusal →
         RefusedLine told offset left refusal
     unfolding after_walk
-    of-walk m c e = go walks refl e
+    of_walk m c e = go walks refl e
       where
         good : Counted told left kind fs
         good = record { stands = g; comes = m; counted = c }
@@ -82,13 +82,13 @@ module _ (told : Told) (offset : ℕ) (left : List ℕ) (refusal : Refusal) wher
         go (Stopped other) ew ea =
             let rows = told.rules kind in
             let place = offset + length (type_of kind) + 1 in
-            let r = stopped-stops (tested rows) behind 1 place (type_of kind) fs other ew in
+            let r = stopped_stops (tested rows) behind 1 place (type_of kind) fs other ew in
             let there = starts_behind rows place r.front ∙ starts_there kind offset r.front in
             let first : FirstBad rows (type_of kind) r.front r.field r.why = record {
               before =
-                  each-fields rows 1 (type_of kind) r.front
-                  (all_in_front plain r.front (r.field ∷ r.more) (sym (ap (all_in plain) r.parts) ∙ fields-plain)) r.before;
-              here = bad-refused rows (1 + length r.front) _ r.field r.why r.here;
+                  each_fields rows 1 (type_of kind) r.front
+                  (all_in_front plain r.front (r.field ∷ r.more) (sym (ap (all_in plain) r.parts) ∙ fields_plain)) r.before;
+              here = bad_refused rows (1 + length r.front) _ r.field r.why r.here;
             } in
             same_line other
             (subst (RefusedLine told offset left) (sym (r.is ∙ ap (because r.why) there))
@@ -98,29 +98,29 @@ module _ (told : Told) (offset : ℕ) (left : List ℕ) (refusal : Refusal) wher
             choice (lacks kind (split text)) (Refused (because FeatureLacks offset)) _ (Refused refusal)
             (λ l q. let known =
             lacks_feature (λ (k : Record). Counted told left k fs × FieldsOk (told.rules k) 1 (type_of k) fs) kind fs
-            (ap (lacks kind) (sym (parts-split (type_of kind) fs g.clean)) ∙ l) (
+            (ap (lacks kind) (sym (parts_split (type_of kind) fs g.clean)) ∙ l) (
               good,
-              each-fields (told.rules kind) 1 (type_of kind) fs fields-plain
-                  (fine-each (tested (told.rules kind)) behind 1 (offset + length (type_of kind) + 1) (type_of kind) fs ew),
+              each_fields (told.rules kind) 1 (type_of kind) fs fields_plain
+                  (fine_each (tested (told.rules kind)) behind 1 (offset + length (type_of kind) + 1) (type_of kind) fs ew),
             ) in
             same_line (because FeatureLacks offset) (RefusedLine.feature_lacks fs known.0.0 known.0.1 known.1) q)
             (λ l q. absurd (no_pass line_verdict refl refl (sym q)))
             ea
 
-    of-kind : may_come told.due kind ≡ true → of_kind told.rules kind offset text ≡ Refused refusal →
+    of_kind_lem : may_come told.due kind ≡ true → of_kind told.rules kind offset text ≡ Refused refusal →
         RefusedLine told offset left refusal
     unfolding of_kind
-    of-kind m e =
+    of_kind_lem m e =
         choice (not (count_fits kind (length fs))) (Refused (because FieldCount offset)) (after_walk walks kind offset text) (Refused refusal)
         (λ n q. same_line (because FieldCount offset) (RefusedLine.field_count kind fs g m (not-true (count_fits kind (length fs)) n)) q)
-        (λ n q. of-walk m (not-false (count_fits kind (length fs)) n) q)
-        (rw (parts-split (type_of kind) fs g.clean) at e)
+        (λ n q. of_walk m (not-false (count_fits kind (length fs)) n) q)
+        (rw (parts_split (type_of kind) fs g.clean) at e)
 
   -- a refused text
-  pub of-text : (name : List ℕ) (fs : List (List ℕ)) → Stands left name fs → of_text told offset (name ++ joined fs) ≡ Refused refusal →
+  pub of_text_lem : (name : List ℕ) (fs : List (List ℕ)) → Stands left name fs → of_text told offset (name ++ joined fs) ≡ Refused refusal →
       RefusedLine told offset left refusal
   unfolding of_text of_named
-  of-text name fs g e = go (named name) refl (rw (parts-split name fs g.clean) at e)
+  of_text_lem name fs g e = go (named name) refl (rw (parts_split name fs g.clean) at e)
     where
       go : (m : Named) → named name ≡ m → of_named m told offset (name ++ joined fs) ≡ Refused refusal → RefusedLine told offset left refusal
       go Unknown en q =
@@ -133,54 +133,54 @@ module _ (told : Told) (offset : ℕ) (left : List ℕ) (refusal : Refusal) wher
           choice (not (may_come told.due kind)) (Refused (because OutOfOrder offset)) (of_kind told.rules kind offset (type_of kind ++ joined fs))
           (Refused refusal)
           (λ n r. same_line (because OutOfOrder offset) (RefusedLine.out_of_order kind fs h (not-true (may_come told.due kind) n)) r)
-          (λ n r. of-kind kind fs h (not-false (may_come told.due kind) n) r) q'
+          (λ n r. of_kind_lem kind fs h (not-false (may_come told.due kind) n) r) q'
 
 -- and the other way round
 module _ (told : Told) (offset : ℕ) where
-  pub text-unknown : (name : List ℕ) (fs : List (List ℕ)) → all_in plain (name ∷ fs) ≡ true → ((kind : Record) → name ≡ type_of kind → ⊥) →
+  pub text_unknown : (name : List ℕ) (fs : List (List ℕ)) → all_in plain (name ∷ fs) ≡ true → ((kind : Record) → name ≡ type_of kind → ⊥) →
       of_text told offset (name ++ joined fs) ≡ Refused (because UnknownRecord offset)
   unfolding of_text of_named
-  text-unknown name fs p none = rw (parts-split name fs p, unnamed name none)
+  text_unknown name fs p none = rw (parts_split name fs p, unnamed name none)
 
   module _ (kind : Record) (fs : List (List ℕ)) (p : all_in plain (type_of kind ∷ fs) ≡ true) where
-    pub text-order : may_come told.due kind ≡ false → of_text told offset (type_of kind ++ joined fs) ≡ Refused (because OutOfOrder offset)
+    pub text_order : may_come told.due kind ≡ false → of_text told offset (type_of kind ++ joined fs) ≡ Refused (because OutOfOrder offset)
     unfolding of_text of_named
-    text-order m = rw (parts-split (type_of kind) fs p, type_named kind, m)
+    text_order m = rw (parts_split (type_of kind) fs p, type_named kind, m)
 
     module _ (m : may_come told.due kind ≡ true) where
-      pub text-count : count_fits kind (length fs) ≡ false →
+      pub text_count : count_fits kind (length fs) ≡ false →
           of_text told offset (type_of kind ++ joined fs) ≡ Refused (because FieldCount offset)
       unfolding of_text of_named of_kind
-      text-count c = rw (parts-split (type_of kind) fs p, type_named kind, m, parts-split (type_of kind) fs p, c)
+      text_count c = rw (parts_split (type_of kind) fs p, type_named kind, m, parts_split (type_of kind) fs p, c)
 
       module _ (c : count_fits kind (length fs) ≡ true) where
-        text-stops : (refusal : Refusal) → walk (told.rules kind) 1 (offset + length (type_of kind) + 1) (type_of kind) fs ≡ Stopped refusal →
+        text_stops : (refusal : Refusal) → walk (told.rules kind) 1 (offset + length (type_of kind) + 1) (type_of kind) fs ≡ Stopped refusal →
             of_text told offset (type_of kind ++ joined fs) ≡ Refused refusal
         unfolding of_text of_named of_kind after_walk
-        text-stops refusal w = simp (parts-split (type_of kind) fs p, type_named kind, m, c, w)
+        text_stops refusal w = simp (parts_split (type_of kind) fs p, type_named kind, m, c, w)
 
-        pub text-lacks : FieldsOk (told.rules kind) 1 (type_of kind) fs → lacks kind (type_of kind ∷ fs) ≡ true →
+        pub text_lacks : FieldsOk (told.rules kind) 1 (type_of kind) fs → lacks kind (type_of kind ∷ fs) ≡ true →
             of_text told offset (type_of kind ++ joined fs) ≡ Refused (because FeatureLacks offset)
         unfolding of_text of_named of_kind after_walk
-        text-lacks g l =
+        text_lacks g l =
             simp (
-              parts-split (type_of kind) fs p,
+              parts_split (type_of kind) fs p,
               type_named kind,
               m,
               c,
-              each-fine (tested (told.rules kind)) behind 1 (offset + length (type_of kind) + 1) (type_of kind) fs
-                  (fields-each (told.rules kind) 1 (type_of kind) fs g),
+              each_fine (tested (told.rules kind)) behind 1 (offset + length (type_of kind) + 1) (type_of kind) fs
+                  (fields_each (told.rules kind) 1 (type_of kind) fs g),
               l,
             )
 
   -- the first bad field
-  pub text-bad : (left : List ℕ) (kind : Record) (front : List (List ℕ)) (f : List ℕ) (more : List (List ℕ)) (why : Reason) →
+  pub text_bad : (left : List ℕ) (kind : Record) (front : List (List ℕ)) (f : List ℕ) (more : List (List ℕ)) (why : Reason) →
       Counted told left kind (front ++ f ∷ more) → FirstBad (told.rules kind) (type_of kind) front f why →
       of_text told offset (type_of kind ++ joined (front ++ f ∷ more)) ≡ Refused (because why (offset + length (text_of kind front ++ bytes ";")))
-  text-bad left kind front f more why g b =
+  text_bad left kind front f more why g b =
       let rows = told.rules kind in
       let place = offset + length (type_of kind) + 1 in
-      text-stops kind (front ++ f ∷ more) g.stands.clean g.comes g.counted (because why (offset + length (text_of kind front ++ bytes ";")))
-      (stops-stopped (tested rows) behind 1 place (type_of kind) front f more why (fields-each rows 1 (type_of kind) front b.before)
-      (refused-bad rows (1 + length front) _ f why b.here)
+      text_stops kind (front ++ f ∷ more) g.stands.clean g.comes g.counted (because why (offset + length (text_of kind front ++ bytes ";")))
+      (stops_stopped (tested rows) behind 1 place (type_of kind) front f more why (fields_each rows 1 (type_of kind) front b.before)
+      (refused_bad rows (1 + length front) _ f why b.here)
       ∙ ap (λ (p : ℕ). Stopped (because why p)) (starts_behind rows place front ∙ starts_there kind offset front))

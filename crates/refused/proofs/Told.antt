@@ -10,7 +10,7 @@ use Rattle.records.specs.Version.{version_numbered, under_version, UnderVersion}
 use Rattle.records.specs.declared.version.Version.{Version}
 use Rattle.records.specs.declared.version.VersionTold.{VersionTold}
 use Rattle.records.specs.declared.version.VersionTold.TheVariants.{Either, Neither}
-use Rattle.records.proofs.Versions.{under-is, under-passes}
+use Rattle.records.proofs.Versions.{under_is, under_passes}
 use Rattle.refused.specs.Line.{RefusedTold}
 
 pub same_version : {v w : Version} → Either v ≡ Either w → v ≡ w
@@ -24,8 +24,8 @@ pub told_exactly : {A : Type 0} (told : ℕ) (refused : Refusal → A) (answer :
     (holds : Version → Type 0) → ((version : Version) → (answer version ≡ a) ↔ holds version) →
     (under_version (version_numbered told) refused answer ≡ a) ↔ UnderVersion told holds
 told_exactly told refused answer a never holds exactly = (
-  λ e. let u = under-passes told refused answer a never e in (u.0, (u.1.0, (exactly u.0).0 u.1.1)),
-  λ u. under-is told refused answer u.0 u.1.0 ∙ (exactly u.0).1 u.1.1,
+  λ e. let u = under_passes told refused answer a never e in (u.0, (u.1.0, (exactly u.0).0 u.1.1)),
+  λ u. under_is told refused answer u.0 u.1.0 ∙ (exactly u.0).1 u.1.1,
 )
 
 module _ (told : ℕ) (under : Version → Refusal → Type 0) where
@@ -41,14 +41,14 @@ module _ (told : ℕ) (under : Version → Refusal → Type 0) where
     given refusal (RefusedTold.unknown_version et) = rw et
     given refusal (RefusedTold.told_under_version version other et g) = rw et ((exactly version refusal).1 g)
 
-    pub told-refused-exactly : (refusal : Refusal) →
+    pub told_refused_exactly : (refusal : Refusal) →
         (under_version (version_numbered told) refused answer ≡ refused refusal) ↔ RefusedTold told under refusal
-    told-refused-exactly refusal = (answered refusal (version_numbered told) refl, given refusal)
+    told_refused_exactly refusal = (answered refusal (version_numbered told) refl, given refusal)
 
   module _ (passes : Version → Type 0) where
-    pub told-always-one : ((version : Version) → passes version ⊎ ((refusal : Refusal) × under version refusal)) →
+    pub told_always_one : ((version : Version) → passes version ⊎ ((refusal : Refusal) × under version refusal)) →
         UnderVersion told passes ⊎ ((refusal : Refusal) × RefusedTold told under refusal)
-    told-always-one either = go (version_numbered told) refl
+    told_always_one either = go (version_numbered told) refl
       where
         one : (version : Version) → version_numbered told ≡ Either version → passes version ⊎ ((refusal : Refusal) × under version refusal) →
             UnderVersion told passes ⊎ ((refusal : Refusal) × RefusedTold told under refusal)
@@ -59,8 +59,8 @@ module _ (told : ℕ) (under : Version → Refusal → Type 0) where
         go Neither et = inr (because UnknownVersion 0, RefusedTold.unknown_version et)
         go (Either version) et = one version et (either version)
 
-    pub told-never-both : ((version : Version) (refusal : Refusal) → passes version → under version refusal → ⊥) → (refusal : Refusal) →
+    pub told_never_both : ((version : Version) (refusal : Refusal) → passes version → under version refusal → ⊥) → (refusal : Refusal) →
         UnderVersion told passes → RefusedTold told under refusal → ⊥
-    told-never-both never refusal p (RefusedTold.unknown_version et) = no_version (sym et ∙ p.1.0)
-    told-never-both never refusal p (RefusedTold.told_under_version version other et g) =
+    told_never_both never refusal p (RefusedTold.unknown_version et) = no_version (sym et ∙ p.1.0)
+    told_never_both never refusal p (RefusedTold.told_under_version version other et g) =
         never version refusal (subst passes (same_version (sym p.1.0 ∙ et)) p.1.1) g

@@ -29,7 +29,7 @@ use Rattle.line.specs.Render.{render, plain}
 use Rattle.line.specs.Need.{lacks}
 use Rattle.line.specs.declared.walk.Walk.{Walk}
 use Rattle.line.specs.declared.walk.Walk.TheVariants.{Fine, Stopped}
-use Rattle.line.proofs.Passing.{fine-each, each-fine}
+use Rattle.line.proofs.Passing.{fine_each, each_fine}
 use Rattle.grammar.specs.Grammar.{FieldsOk}
 use Rattle.grammar.proofs.Needs.{lacks_not, lacks_feature, lacks_some}
 use Rattle.grammar.proofs.Back.{walked_fields, fields_walked}
@@ -40,36 +40,36 @@ use Rattle.writer.specs.declared.write.WriteAnswer.TheVariants.{Written, Refused
 use Rattle.writer.proofs.Ends.{between_count}
 use Rattle.refused.specs.Line.{RefusedTold}
 use Rattle.refused.specs.Write.{RefusedToWrite, Handed, RefusedWrite}
-use Rattle.line.proofs.Stopping.{placeBehind, stopped-stops, stops-stopped}
-use Rattle.refused.proofs.Told.{told-refused-exactly}
-use Rattle.refused.proofs.Fields.{bad_same, bad-refused, refused-bad}
+use Rattle.line.proofs.Stopping.{place_behind, stopped_stops, stops_stopped}
+use Rattle.refused.proofs.Told.{told_refused_exactly}
+use Rattle.refused.proofs.Fields.{bad_same, bad_refused, refused_bad}
 
 module _ (rows : List Row) (n : ℕ) (beside f : List ℕ) where
-  not-empty : (g : List ℕ) → all plain g ≡ false → length g ≡ 0 → ⊥
-  not-empty [] e z = clash refl e
-  not-empty (b ∷ g) e z = omega arith
+  not_empty : (g : List ℕ) → all plain g ≡ false → length g ≡ 0 → ⊥
+  not_empty [] e z = clash refl e
+  not_empty (b ∷ g) e z = omega arith
 
-  write-bad : (why : Reason) → tested_to_write rows n beside f ≡ Bad why → RefusedToWrite rows n beside f why
+  write_bad : (why : Reason) → tested_to_write rows n beside f ≡ Bad why → RefusedToWrite rows n beside f why
   unfolding tested_to_write
-  write-bad why e = go (tested rows n beside f) refl e
+  write_bad why e = go (tested rows n beside f) refl e
     where
       go : (t : Tested) → tested rows n beside f ≡ t → if_plain t f ≡ Bad why → RefusedToWrite rows n beside f why
-      go (Bad w) et q = RefusedToWrite.as_read why (bad-refused rows n beside f why (et ∙ q))
+      go (Bad w) et q = RefusedToWrite.as_read why (bad_refused rows n beside f why (et ∙ q))
       go Good et q =
           choice (all plain f) Good (Bad FieldForm) (Bad why) (λ t r. absurd (tests.bad (sym r)))
           (λ t r. subst (RefusedToWrite rows n beside f) (bad_same r) (RefusedToWrite.not_plain (tests.good_passed rows n beside f et).fits t)) q
 
-  bad-write : (why : Reason) → RefusedToWrite rows n beside f why → tested_to_write rows n beside f ≡ Bad why
+  bad_write : (why : Reason) → RefusedToWrite rows n beside f why → tested_to_write rows n beside f ≡ Bad why
   unfolding tested_to_write
-  bad-write why (RefusedToWrite.as_read w g) = rw (refused-bad rows n beside f w g)
-  bad-write why (RefusedToWrite.not_plain h p) =
+  bad_write why (RefusedToWrite.as_read w g) = rw (refused_bad rows n beside f w g)
+  bad_write why (RefusedToWrite.not_plain h p) =
       ⊎_elim
-      (λ t. rw (← tests.form-good rows n beside f (width_of rows n beside) refl h (not-empty f p) (has_form rows n beside f) refl t, p))
-      (λ t. rw (← tests.form-bad rows n beside f (width_of rows n beside) refl h (not-empty f p) (has_form rows n beside f) refl t))
+      (λ t. rw (← tests.form_good rows n beside f (width_of rows n beside) refl h (not_empty f p) (has_form rows n beside f) refl t, p))
+      (λ t. rw (← tests.form_bad rows n beside f (width_of rows n beside) refl h (not_empty f p) (has_form rows n beside f) refl t))
       (true_or_false (has_form rows n beside f))
 
 -- the number of the field behind these
-number_behind : (rows : List Row) (n : ℕ) (front : List (List ℕ)) → placeBehind (tested_to_write rows) next_number n front ≡ n + length front
+number_behind : (rows : List Row) (n : ℕ) (front : List (List ℕ)) → place_behind (tested_to_write rows) next_number n front ≡ n + length front
 number_behind rows n [] = omega arith
 number_behind rows n (f ∷ front) = omega (arith, number_behind rows (suc n) front)
 
@@ -85,9 +85,9 @@ module _ (rules : Rules) (number : ℕ) (text ends : List ℕ) (size fill : ℕ)
       abbrev fs : List (List ℕ)
       fs = between text ends
 
-      of-fields : FieldsOk (rules kind) 1 (type_of kind) fs → of_fields kind fs size fill ≡ Refused refusal → Goal
+      of_fields_lem : FieldsOk (rules kind) 1 (type_of kind) fs → of_fields kind fs size fill ≡ Refused refusal → Goal
       unfolding of_fields
-      of-fields ok e =
+      of_fields_lem ok e =
           choice (lacks kind (type_of kind ∷ fs)) (Refused (because FeatureLacks 0)) _ (Refused refusal)
           (λ t q. let known = lacks_feature (λ (k : Record). Handed number text ends k fs × FieldsOk (rules k) 1 (type_of k) fs) kind fs t (h, ok) in
           is (because FeatureLacks 0) (RefusedWrite.feature_lacks fs known.0.0 known.0.1 known.1) q)
@@ -99,20 +99,20 @@ module _ (rules : Rules) (number : ℕ) (text ends : List ℕ) (size fill : ℕ)
             served = (lacks_not kind fs).0 t;
           }) (leb-false (fill + length (render kind fs)) size u)) q)) e
 
-      of-walk : (w : Walk) → walked (rules kind) 1 (type_of kind) fs ≡ w → after_walk w kind fs size fill ≡ Refused refusal → Goal
-      of-walk (Stopped other) ew e =
+      of_walk : (w : Walk) → walked (rules kind) 1 (type_of kind) fs ≡ w → after_walk w kind fs size fill ≡ Refused refusal → Goal
+      of_walk (Stopped other) ew e =
           let rows = rules kind in
-          let r = stopped-stops (tested_to_write rows) next_number 1 1 (type_of kind) fs other ew in
+          let r = stopped_stops (tested_to_write rows) next_number 1 1 (type_of kind) fs other ew in
           is other
           (subst (RefusedWrite rules number text ends size fill) (sym (r.is ∙ ap (because r.why) (number_behind rows 1 r.front)))
           (RefusedWrite.bad_field kind r.front r.field r.more r.why (subst (Handed number text ends kind) r.parts h)
-          (walked_fields rows 1 (type_of kind) r.front r.before) (write-bad rows (1 + length r.front) _ r.field r.why r.here))) e
-      of-walk Fine ew e =
-          of-fields (walked_fields (rules kind) 1 (type_of kind) fs (fine-each (tested_to_write (rules kind)) next_number 1 1 (type_of kind) fs ew)) e
+          (walked_fields rows 1 (type_of kind) r.front r.before) (write_bad rows (1 + length r.front) _ r.field r.why r.here))) e
+      of_walk Fine ew e =
+          of_fields_lem (walked_fields (rules kind) 1 (type_of kind) fs (fine_each (tested_to_write (rules kind)) next_number 1 1 (type_of kind) fs ew)) e
 
-    pub answer-write : answer_under rules number text ends size fill ≡ Refused refusal → Goal
+    pub answer_write : answer_under rules number text ends size fill ≡ Refused refusal → Goal
     unfolding answer_under of_record
-    answer-write e = go (record_numbered number) refl e
+    answer_write e = go (record_numbered number) refl e
       where
         go : (m : Named) → record_numbered number ≡ m → of_record rules m text ends size fill ≡ Refused refusal → Goal
         go Unknown em q = is (because UnknownRecord 0) (RefusedWrite.unknown_record em) q
@@ -122,7 +122,7 @@ module _ (rules : Rules) (number : ℕ) (text ends : List ℕ) (size fill : ℕ)
             (λ t. choice (not (count_fits kind (length ends))) (Refused (because FieldCount 0)) _ (Refused refusal)
             (λ u r. is (because FieldCount 0)
             (RefusedWrite.field_count kind em (not-false (ends_hold ends (length text)) t) (not-true (count_fits kind (length ends)) u)) r)
-            (λ u r. of-walk kind (record {
+            (λ u r. of_walk kind (record {
               known = em;
               held = not-false (ends_hold ends (length text)) t;
               counted = not-false (count_fits kind (length ends)) u;
@@ -130,31 +130,31 @@ module _ (rules : Rules) (number : ℕ) (text ends : List ℕ) (size fill : ℕ)
             }) (walked (rules kind) 1 (type_of kind) (between text ends)) refl r)) q
 
   -- and the other way round
-  handed-answer : (kind : Record) (fs : List (List ℕ)) → Handed number text ends kind fs → (w : Walk) →
+  handed_answer : (kind : Record) (fs : List (List ℕ)) → Handed number text ends kind fs → (w : Walk) →
       walked (rules kind) 1 (type_of kind) fs ≡ w →
       answer_under rules number text ends size fill ≡ after_walk w kind fs size fill
   unfolding answer_under of_record
-  handed-answer kind fs h w e = rw (h.known, h.held, h.counted, h.fields, e)
+  handed_answer kind fs h w e = rw (h.known, h.held, h.counted, h.fields, e)
 
-  fine-walk : (kind : Record) (fs : List (List ℕ)) → FieldsOk (rules kind) 1 (type_of kind) fs →
+  fine_walk : (kind : Record) (fs : List (List ℕ)) → FieldsOk (rules kind) 1 (type_of kind) fs →
       walked (rules kind) 1 (type_of kind) fs ≡ Fine
-  fine-walk kind fs g = each-fine (tested_to_write (rules kind)) next_number 1 1 (type_of kind) fs (fields_walked (rules kind) 1 (type_of kind) fs g)
+  fine_walk kind fs g = each_fine (tested_to_write (rules kind)) next_number 1 1 (type_of kind) fs (fields_walked (rules kind) 1 (type_of kind) fs g)
 
-  pub write-answer : (refusal : Refusal) → RefusedWrite rules number text ends size fill refusal →
+  pub write_answer_lem : (refusal : Refusal) → RefusedWrite rules number text ends size fill refusal →
       answer_under rules number text ends size fill ≡ Refused refusal
   unfolding answer_under of_record of_fields
-  write-answer refusal (RefusedWrite.unknown_record e) = rw e
-  write-answer refusal (RefusedWrite.field_ends kind k e) = rw (k, e)
-  write-answer refusal (RefusedWrite.field_count kind k h e) = rw (k, h, e)
-  write-answer refusal (RefusedWrite.bad_field kind front f more why h b g) =
+  write_answer_lem refusal (RefusedWrite.unknown_record e) = rw e
+  write_answer_lem refusal (RefusedWrite.field_ends kind k e) = rw (k, e)
+  write_answer_lem refusal (RefusedWrite.field_count kind k h e) = rw (k, h, e)
+  write_answer_lem refusal (RefusedWrite.bad_field kind front f more why h b g) =
       let rows = rules kind in
-      handed-answer kind (front ++ f ∷ more) h (Stopped (because why (1 + length front)))
-      (stops-stopped (tested_to_write rows) next_number 1 1 (type_of kind) front f more why (fields_walked rows 1 (type_of kind) front b)
-      (bad-write rows (1 + length front) _ f why g) ∙ ap (λ (p : ℕ). Stopped (because why p)) (number_behind rows 1 front))
-  write-answer refusal (RefusedWrite.feature_lacks fs h g l) =
-      handed-answer Feature fs h Fine (fine-walk Feature fs g) ∙ rw ((lacks_some fs).1 l)
-  write-answer refusal (RefusedWrite.too_short kind fs h g s) =
-      handed-answer kind fs h Fine (fine-walk kind fs g.fields) ∙ rw ((lacks_not kind fs).1 g.served, lt-leb (fill + length (render kind fs)) size s)
+      handed_answer kind (front ++ f ∷ more) h (Stopped (because why (1 + length front)))
+      (stops_stopped (tested_to_write rows) next_number 1 1 (type_of kind) front f more why (fields_walked rows 1 (type_of kind) front b)
+      (bad_write rows (1 + length front) _ f why g) ∙ ap (λ (p : ℕ). Stopped (because why p)) (number_behind rows 1 front))
+  write_answer_lem refusal (RefusedWrite.feature_lacks fs h g l) =
+      handed_answer Feature fs h Fine (fine_walk Feature fs g) ∙ rw ((lacks_some fs).1 l)
+  write_answer_lem refusal (RefusedWrite.too_short kind fs h g s) =
+      handed_answer kind fs h Fine (fine_walk kind fs g.fields) ∙ rw ((lacks_not kind fs).1 g.served, lt-leb (fill + length (render kind fs)) size s)
 
 write_told : {a b : Refusal} → Refused a ≡ Refused b → a ≡ b
 write_told e = cc
@@ -172,11 +172,11 @@ write_refused_exactly told number text ends output fill refusal after = (
     exactly : (write_answer told number text ends (length output) fill ≡ Refused refusal) ↔
         RefusedTold told (λ version. RefusedWrite (profile version) number text ends (length output) fill) refusal
     exactly =
-        told-refused-exactly told (λ version. RefusedWrite (profile version) number text ends (length output) fill) Refused
+        told_refused_exactly told (λ version. RefusedWrite (profile version) number text ends (length output) fill) Refused
         (λ version. answer_under (profile version) number text ends (length output) fill) (λ a b e. write_told e)
         (λ version why. (
-          answer-write (profile version) number text ends (length output) fill why,
-          write-answer (profile version) number text ends (length output) fill why,
+          answer_write (profile version) number text ends (length output) fill why,
+          write_answer_lem (profile version) number text ends (length output) fill why,
         )) refusal
 
     stays : (m : Named) → written_to (Refused refusal) m (between text ends) output fill ≡ output

@@ -24,14 +24,14 @@ module _ (numbers answers : List ℕ) (n : ℕ) (long : length numbers ≡ 15 * 
   many : how_many numbers ≡ n
   many = rw long (omega arith)
 
-  pub day-answers : day_answers numbers ≡ tabled (told numbers) 0 n
+  pub day_answers_lem : day_answers numbers ≡ tabled (told numbers) 0 n
   unfolding day_answers
-  day-answers = rw many
+  day_answers_lem = rw many
 
-  pub day-written : (day : DayAnswer) (after : List ℕ) → ChecksDay numbers answers day after →
+  pub day_written : (day : DayAnswer) (after : List ℕ) → ChecksDay numbers answers day after →
       after ≡ written answers 0 (day_answers numbers)
   unfolding day_answer answers_after
-  day-written day after e =
+  day_written day after e =
       let m : length numbers % 15 ≡ 0 = rw long (omega arith) in
       let q : day ≡ Answered (zeros (day_answers numbers)) =
       e.0 ∙ rw (eq-eqb (length numbers % 15) 0 m, le-ltb (length answers) (how_many numbers) (omega (arith, many))) in
@@ -48,20 +48,20 @@ module _ (text answers : List ℕ) (room : ℕ) (answered : told_of.Answered) (n
   long : length (take (15 * answered.lines) numbers) ≡ 15 * answered.lines
   long = length-take-le (15 * answered.lines) numbers (omega (arith, lays.2))
 
-  marks-long : length (take answered.lines marks) ≡ answered.lines
-  marks-long = length-take-le answered.lines marks (omega (arith, lays.2))
+  marks_long : length (take answered.lines marks) ≡ answered.lines
+  marks_long = length-take-le answered.lines marks (omega (arith, lays.2))
 
-  checked-is : checked ≡ written answers 0 (tabled (told (take (15 * answered.lines) numbers)) 0 answered.lines)
-  checked-is = day-written (take (15 * answered.lines) numbers) answers answered.lines long few day checked checks
-      ∙ ap (λ s. written answers 0 s) (day-answers (take (15 * answered.lines) numbers) answers answered.lines long few)
+  checked_is : checked ≡ written answers 0 (tabled (told (take (15 * answered.lines) numbers)) 0 answered.lines)
+  checked_is = day_written (take (15 * answered.lines) numbers) answers answered.lines long few day checked checks
+      ∙ ap (λ s. written answers 0 s) (day_answers_lem (take (15 * answered.lines) numbers) answers answered.lines long few)
 
-  pub checked-long : length (take answered.lines marks) ≤ length checked
-  checked-long =
+  pub checked_long : length (take answered.lines marks) ≤ length checked
+  checked_long =
       omega (
         arith,
-        marks-long,
+        marks_long,
         few,
-        ap length checked-is,
+        ap length checked_is,
         length-append (tabled (told (take (15 * answered.lines) numbers)) 0 answered.lines)
             (drop (0 + length (tabled (told (take (15 * answered.lines) numbers)) 0 answered.lines)) answers),
         tabled_long (told (take (15 * answered.lines) numbers)) 0 answered.lines,
@@ -80,27 +80,27 @@ module _ (text answers : List ℕ) (room : ℕ) (answered : told_of.Answered) (n
       let table = tabled (told (take (15 * answered.lines) numbers)) 0 answered.lines in
       let tl = tabled_long (told (take (15 * answered.lines) numbers)) 0 answered.lines in
       let c : get_or checked k 0 ≡ told numbers k =
-      ap (λ s. get_or s k 0) checked-is
+      ap (λ s. get_or s k 0) checked_is
       ∙ get_or-append table (drop (0 + length table) answers) 0 k (omega (arith, tl))
       ∙ tabled_at (told (take (15 * answered.lines) numbers)) answered.lines k 0 h
       ∙ ap (λ s. number_told (number_verdict (checked_number s))) (same_number k h)
       in
       rw (get_or-take answered.lines marks k 0 h, c)
 
-  pub answers-lines : (out : List ℕ) → out ≡ overruled (take answered.lines marks) checked → AnswersLines text answers answered out
-  answers-lines out eo =
+  pub answers_lines : (out : List ℕ) → out ≡ overruled (take answered.lines marks) checked → AnswersLines text answers answered out
+  answers_lines out eo =
       let rule : ℕ → ℕ = λ i. ruled (get_or (take answered.lines marks) i 0) (get_or checked i 0) in
       let first = tabled (told (take (15 * answered.lines) numbers)) 0 answered.lines in
       let first_long = tabled_long (told (take (15 * answered.lines) numbers)) 0 answered.lines in
       let last = tabled (answer_at numbers marks) 0 answered.lines in
       let lastLong = tabled_long (answer_at numbers marks) 0 answered.lines in
       let alike : tabled rule 0 (length (take answered.lines marks)) ≡ last =
-      ap (λ k. tabled rule 0 k) marks-long
+      ap (λ k. tabled rule 0 k) marks_long
       ∙ tabled_alike rule (answer_at numbers marks) 0 answered.lines (λ k h. rw zero-add (same_answer k h))
       in
       let all : out ≡ written answers 0 (map line_answer (take room (whole_lines text))) =
       eo ∙ ap (λ s. written checked 0 s) alike
-      ∙ ap (λ s. written s 0 last) checked-is
+      ∙ ap (λ s. written s 0 last) checked_is
       ∙ written_again answers first last (first_long ∙ sym lastLong) (omega (arith, first_long, few))
       ∙ ap (λ s. written answers 0 s) (sym lays.1)
       in

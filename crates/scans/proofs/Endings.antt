@@ -9,17 +9,17 @@ use Rattle.scans.specs.Laying.{mark_of, laid}
 
 -- how long it is
 module _ (line : List ℕ) where
-  pub empty-line : length line ≡ 0 → 0 ≡ length (number_on line)
+  pub empty_line : length line ≡ 0 → 0 ≡ length (number_on line)
   unfolding number_on
-  empty-line e = rw (no_bytes line e)
+  empty_line e = rw (no_bytes line e)
 
-  pub with-return : get_or line (length line - 1) 0 ≡ 13 → length line - 1 ≡ length (number_on line)
+  pub with_return : get_or line (length line - 1) 0 ≡ 13 → length line - 1 ≡ length (number_on line)
   unfolding number_on
-  with-return e = rw (eq-eqb (get_or line (length line - 1) 0) 13 e) (sym (length-take-le (length line - 1) line (omega arith)))
+  with_return e = rw (eq-eqb (get_or line (length line - 1) 0) 13 e) (sym (length-take-le (length line - 1) line (omega arith)))
 
-  pub without-return : (get_or line (length line - 1) 0 ≡ 13 → ⊥) → length line ≡ length (number_on line)
+  pub without_return : (get_or line (length line - 1) 0 ≡ 13 → ⊥) → length line ≡ length (number_on line)
   unfolding number_on
-  without-return e = rw (ne_eqb (get_or line (length line - 1) 0) 13 e)
+  without_return e = rw (ne_eqb (get_or line (length line - 1) 0) 13 e)
 
   -- it is the line's front
   pub number_front : number_on line ≡ take (length (number_on line)) line
@@ -33,8 +33,8 @@ module _ (line : List ℕ) where
 
   -- laid at its place, or not
   module _ (numbers : List ℕ) (place k : ℕ) (is : k ≡ length (number_on line)) where
-    pub lays-none : (k ≡ 15 → ⊥) → (16 ≡ mark_of line) × (numbers ≡ laid numbers place line)
-    lays-none n = let e : eqb (length (number_on line)) 15 ≡ false = ne_eqb (length (number_on line)) 15 (λ q. n (is ∙ q)) in (rw e, rw e)
+    pub lays_none : (k ≡ 15 → ⊥) → (16 ≡ mark_of line) × (numbers ≡ laid numbers place line)
+    lays_none n = let e : eqb (length (number_on line)) 15 ≡ false = ne_eqb (length (number_on line)) 15 (λ q. n (is ∙ q)) in (rw e, rw e)
 
     pub lays_one : k ≡ 15 → (front after : List ℕ) → front ≡ take 15 (drop 0 line) → after ≡ placed numbers place front →
         (0 ≡ mark_of line) × (after ≡ laid numbers place line)

@@ -2,7 +2,7 @@
 use Rattle.std.proofs.Common.{◌≡◌, ℕ, ◌+◌, ◌-◌, ◌<◌, ◌≤◌, min, List, length, take, drop, sym, refl, ap, ◌∙◌, ⊎_elim, arith, length-drop, length-take, take_all, take-take, take_at}
 use Rattle.text.specs.Placed.{written, placed}
 use Rattle.text.proofs.Numbers.{le_or_lt}
-use Rattle.text.proofs.Placing.{placed-there}
+use Rattle.text.proofs.Placing.{placed_there}
 use Rattle.scans.specs.Scans.{kept, Keeps}
 
 -- a run that is clipped to so many bytes, and goes by way of an array that has room for it
@@ -10,13 +10,13 @@ pub clipped_short : (s rest : List ℕ) (d m most : ℕ) → m ≡ min d most �
 clipped_short s rest d m most em er = omega (arith, ap length er, length-take m s)
 
 module _ (held after rest : List ℕ) (wide : length rest ≤ length held) (ea : after ≡ placed held 0 rest) where
-  held-front : take (length rest) after ≡ rest
-  held-front =
-      rw (ea, placed-there held 0 rest (omega (arith, wide)))
+  held_front : take (length rest) after ≡ rest
+  held_front =
+      rw (ea, placed_there held 0 rest (omega (arith, wide)))
       (take_at rest (drop (0 + length rest) held) (length rest) refl)
 
-  pub held-long : length rest ≡ length (take (length rest) after)
-  held-long = ap length (sym held-front)
+  pub held_long : length rest ≡ length (take (length rest) after)
+  held_long = ap length (sym held_front)
 
 -- each premise is a callee's promise
 module _ (buffer : List ℕ) (from to d m : ℕ) (rest : List ℕ)
@@ -37,7 +37,7 @@ module _ (buffer : List ℕ) (from to d m : ℕ) (rest : List ℕ)
   keeps held after out wide ea eo =
       let fits : length rest ≤ length buffer = omega (arith, ap length er, length-take m (drop from buffer), length-drop from buffer) in (
         ap length rest_kept,
-        eo ∙ ap (λ s. placed buffer 0 s) (held-front held after rest wide ea)
-            ∙ placed-there buffer 0 rest (omega (arith, fits)) ∙ ap (λ s. written buffer 0 s) rest_kept,
+        eo ∙ ap (λ s. placed buffer 0 s) (held_front held after rest wide ea)
+            ∙ placed_there buffer 0 rest (omega (arith, fits)) ∙ ap (λ s. written buffer 0 s) rest_kept,
         clipped_short (drop from buffer) rest d m 17 em er,
       )

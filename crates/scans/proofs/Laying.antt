@@ -5,8 +5,8 @@ use Rattle.text.specs.Tabled.{tabled}
 use Rattle.scans.specs.Scans.{whole_lines, line_answer, bytes_of, answered_of}
 use Rattle.scans.specs.Laying.{mark_of, laid, answer_at, Lays}
 use Rattle.scans.proofs.Tabling.{tabled_more, tabled_alike}
-use Rattle.scans.proofs.Splitting.{feed-behind, next-line, no_line}
-use Rattle.scans.proofs.Slots.{laid-long, answer-stays, answer-there}
+use Rattle.scans.proofs.Splitting.{feed_behind, next_line, no_line}
+use Rattle.scans.proofs.Slots.{laid_long, answer_stays, answer_there}
 
 pub bytes_both : (a b : List (List ℕ)) → bytes_of (a ++ b) ≡ bytes_of a + bytes_of b
 bytes_both [] b = sym (zero-add (bytes_of b))
@@ -50,28 +50,28 @@ module _ {text : List ℕ} {room : ℕ} {numbers marks : List ℕ} {at i : ℕ} 
       let n : length (take i (whole_lines text)) ≡ i = length-take-le i (whole_lines text) s.enough in
       (rw (e, n, ← s.taken), rw e s.told, l, s.few, s.here)
 
-  pub laying-full : i ≤ room → room ≤ i → Lays text room (record { lines = i; next = at }) numbers marks
-  laying-full l h = let n : room ≡ i = omega arith in done l (ap (λ k. take k (whole_lines text)) n)
+  pub laying_full : i ≤ room → room ≤ i → Lays text room (record { lines = i; next = at }) numbers marks
+  laying_full l h = let n : room ≡ i = omega arith in done l (ap (λ k. take k (whole_lines text)) n)
 
   module _ (end : ℕ) (is : end ≡ line_feed text at) where
-    pub laying-ends : i < room → end ≡ length text → Lays text room (record { lines = i; next = at }) numbers marks
-    laying-ends l h =
+    pub laying_ends : i < room → end ≡ length text → Lays text room (record { lines = i; next = at }) numbers marks
+    laying_ends l h =
         let d : drop i (whole_lines text) ≡ [] = sym s.left ∙ no_line text at end is s.here h in
         let n : length (whole_lines text) - i ≡ 0 = sym (length-drop i (whole_lines text)) ∙ ap length d in
         done (omega arith) (take_all room (whole_lines text) (omega arith) ∙ sym (take_all i (whole_lines text) (omega arith)))
 
-    pub laying-inside : at ≤ end
-    laying-inside = feed-behind text at end is s.here
+    pub laying_inside : at ≤ end
+    laying_inside = feed_behind text at end is s.here
 
     -- a turn: each premise is a fact that the loop has
-    pub laying-on : (m : ℕ) (after : List ℕ) → i < room → end < length text →
+    pub laying_on : (m : ℕ) (after : List ℕ) → i < room → end < length text →
         m ≡ mark_of (take (end - at) (drop at text)) → after ≡ laid numbers (15 * i) (take (end - at) (drop at text)) →
         Laying text room after (set marks i m) (end + 1) (i + 1)
-    laying-on m after l h em ea =
+    laying_on m after l h em ea =
         let line = take (end - at) (drop at text) in
         let lines = whole_lines text in
-        let back = feed-behind text at end is s.here in
-        let cut : drop i lines ≡ line ∷ whole_lines (drop (end + 1) text) = sym s.left ∙ next-line text at end is s.here h in
+        let back = feed_behind text at end is s.here in
+        let cut : drop i lines ≡ line ∷ whole_lines (drop (end + 1) text) = sym s.left ∙ next_line text at end is s.here h in
         let inside : i < length lines = omega (arith, sym (length-drop i lines) ∙ ap length cut) in
         let cons = drop-cons lines i [] inside in
         let at_i : get_or lines i [] ≡ line = cc in
@@ -81,7 +81,7 @@ module _ {text : List ℕ} {room : ℕ} {numbers marks : List ℕ} {at i : ℕ} 
         let fits : 15 * i + 15 ≤ length numbers = omega (arith, s.wide) in
         let marks-on : i < length marks = omega (arith, s.marked) in
         record {
-          wide = omega (arith, laid-long numbers marks line i m after fits marks-on em ea, s.wide);
+          wide = omega (arith, laid_long numbers marks line i m after fits marks-on em ea, s.wide);
           marked = omega (arith, length-set marks i m, s.marked);
           here = omega arith;
           few = omega (arith, s.few);
@@ -92,8 +92,8 @@ module _ {text : List ℕ} {room : ℕ} {numbers marks : List ℕ} {at i : ℕ} 
               (map_both (take i lines) (line ∷ [])
               ∙ ap (λ l. l ++ (line_answer line ∷ []))
               (s.told ∙ sym (tabled_alike (answer_at after (set marks i m)) (answer_at numbers marks) 0 i
-              (λ k h. rw zero-add (answer-stays numbers marks line i m after fits marks-on em ea k h))))
+              (λ k h. rw zero-add (answer_stays numbers marks line i m after fits marks-on em ea k h))))
               ∙ ap (λ a. tabled (answer_at after (set marks i m)) 0 i ++ (a ∷ []))
-              (sym (answer-there numbers marks line i m after fits marks-on em ea))
+              (sym (answer_there numbers marks line i m after fits marks-on em ea))
               ∙ sym (tabled_more (answer_at after (set marks i m)) 0 i ∙ rw zero-add));
         }

@@ -199,9 +199,9 @@ module _ (a b : List ℕ) where
   plain : all in_line (take 17 (rest_of a)) ≡ true
   plain = take_plain 17 (rest_of a) (rest_plain [] a refl)
 
-  pieces-answered :
+  pieces_answered :
       map line_answer (whole_lines a) ++ map line_answer (whole_lines (take 17 (rest_of a) ++ b)) ≡ map line_answer (whole_lines (a ++ b))
-  pieces-answered =
+  pieces_answered =
       ap (λ l. map line_answer (whole_lines a) ++ l)
       (ap (λ l. map line_answer l) (lines_run [] (take 17 (rest_of a)) b plain)
       ∙ lines_alike (take 17 (rest_of a)) (rest_of a) b (take-take 17 17 (rest_of a) (omega arith)))
@@ -227,7 +227,7 @@ behind done (piece ∷ pieces) =
     let waiting = take 17 (rest_of done) in
     sym (append_assoc (map line_answer (whole_lines done)) (map line_answer (whole_lines (waiting ++ piece)))
     (bench_answers (take 17 (rest_of (waiting ++ piece))) pieces))
-    ∙ ap (λ l. l ++ bench_answers (take 17 (rest_of (waiting ++ piece))) pieces) (pieces-answered done piece)
+    ∙ ap (λ l. l ++ bench_answers (take 17 (rest_of (waiting ++ piece))) pieces) (pieces_answered done piece)
     ∙ ap (λ k. map line_answer (whole_lines (done ++ piece)) ++ bench_answers k pieces) (pieces_kept done piece)
     ∙ behind (done ++ piece) pieces
     ∙ ap input_answers (append_assoc done piece (joined pieces))

@@ -1,7 +1,7 @@
 -- Answers printed one behind the other.
 use Rattle.std.proofs.Common.{◌≡◌, ℕ, suc, ◌+◌, ◌*◌, ◌/◌, ◌%◌, ◌<◌, ◌≤◌, List, [], ◌∷◌, ◌++◌, length, get_or, take, sym, refl, ap, ◌∙◌, append_assoc, append-nil, zero-add, add-one, arith, length-append, take_all, take-suc, le-ltb, lt-ltb}
 use Rattle.text.specs.Placed.{placed}
-use Rattle.text.proofs.Placing.{placed_on, placed-none, placed-long}
+use Rattle.text.proofs.Placing.{placed_on, placed_none, placed_long}
 use Rattle.scans.specs.Scans.{printed_one, printed, Prints}
 
 -- one answer
@@ -28,20 +28,20 @@ pub record Printing (answers before output : List ℕ) (fill i : ℕ) : Type 0 w
 
 pub printing_none : (answers before : List ℕ) → length answers ≤ length before / 3 → Printing answers before before 0 0
 printing_none answers before h =
-    record { room = h; inside = omega arith; few = omega arith; filled = refl; is = sym (placed-none before 0 []) }
+    record { room = h; inside = omega arith; few = omega arith; filled = refl; is = sym (placed_none before 0 []) }
 
 module _ {answers before output : List ℕ} {fill i : ℕ} (p : Printing answers before output fill i) where
-  pub printing-long : length output ≡ length before
-  printing-long = ap length p.is ∙ placed-long before 0 (printed (take i answers))
+  pub printing_long : length output ≡ length before
+  printing_long = ap length p.is ∙ placed_long before 0 (printed (take i answers))
 
-  pub printing-room : i < length answers → fill + 3 ≤ length output
-  printing-room h = omega (arith, p.few, p.room, printing-long)
+  pub printing_room : i < length answers → fill + 3 ≤ length output
+  printing_room h = omega (arith, p.few, p.room, printing_long)
 
   -- a turn: each premise is a fact that the loop has
-  pub printing-on : (next : ℕ) (after : List ℕ) → i < length answers →
+  pub printing_on : (next : ℕ) (after : List ℕ) → i < length answers →
       next ≡ fill + length (printed_one (get_or answers i 0)) → next ≤ fill + 3 →
       after ≡ placed output fill (printed_one (get_or answers i 0)) → Printing answers before after next (i + 1)
-  printing-on next after h en l ea =
+  printing_on next after h en l ea =
       let one = printed_one (get_or answers i 0) in
       let done = printed (take i answers) in
       let more : printed (take (suc i) answers) ≡ done ++ one =
@@ -57,21 +57,21 @@ module _ {answers before output : List ℕ} {fill i : ℕ} (p : Printing answers
             ∙ placed_on before 0 done one (omega (arith, p.filled, p.few, en, l, p.room)));
       }
 
-  pub printing-done : length answers ≤ i →
+  pub printing_done : length answers ≤ i →
       (fill ≡ length (printed answers)) × (fill ≤ length output) × (output ≡ placed before 0 (printed answers))
-  printing-done h =
+  printing_done h =
       let all : take i answers ≡ answers = take_all i answers h in (
         p.filled ∙ ap (λ l. length (printed l)) all,
-        omega (arith, p.few, p.inside, p.room, printing-long),
+        omega (arith, p.few, p.inside, p.room, printing_long),
         p.is ∙ ap (λ l. placed before 0 (printed l)) all,
       )
 
 -- with room or without
 module _ (answers output : List ℕ) where
-  pub prints-none : length output / 3 < length answers → Prints answers output 0 output
-  prints-none h = let t = lt-ltb (length output / 3) (length answers) h in (rw t, rw t, omega arith)
+  pub prints_none : length output / 3 < length answers → Prints answers output 0 output
+  prints_none h = let t = lt-ltb (length output / 3) (length answers) h in (rw t, rw t, omega arith)
 
-  pub prints-all : (count : ℕ) (after : List ℕ) → length answers ≤ length output / 3 →
+  pub prints_all : (count : ℕ) (after : List ℕ) → length answers ≤ length output / 3 →
       (count ≡ length (printed answers)) × (count ≤ length after) × (after ≡ placed output 0 (printed answers)) →
       Prints answers output count after
-  prints-all count after h e = let t = le-ltb (length output / 3) (length answers) h in (rw t e.0, rw t e.2, e.1)
+  prints_all count after h e = let t = le-ltb (length output / 3) (length answers) h in (rw t e.0, rw t e.2, e.1)

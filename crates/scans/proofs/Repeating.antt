@@ -37,8 +37,8 @@ module _ {text : List ℕ} {before : Tally} {at : ℕ} {counts : Tally} (s : Goi
       (s.there ∙ ap bytes_of whole, s.counted ∙ ap (λ l. tallied before (map line_answer l)) whole)
 
   -- the text ends here
-  pub going-through : length text ≤ at → (at ≡ bytes_of (whole_lines text)) × (counts ≡ tallied before (map line_answer (whole_lines text)))
-  going-through h = all_done (sym left ∙ ap whole_lines (drop_of_length-le text h))
+  pub going_through : length text ≤ at → (at ≡ bytes_of (whole_lines text)) × (counts ≡ tallied before (map line_answer (whole_lines text)))
+  going_through h = all_done (sym left ∙ ap whole_lines (drop_of_length-le text h))
 
   -- one call more, on the part from here to the text's end
   module _ (answers : List ℕ) (answered : Answered) (after : List ℕ)
@@ -50,23 +50,23 @@ module _ {text : List ℕ} {before : Tally} {at : ℕ} {counts : Tally} (s : Goi
     abbrev due : List (List ℕ)
     due = due_lines (drop at text) (length answers)
 
-    lines-due : answered.lines ≡ length due
+    lines_due : answered.lines ≡ length due
     unfolding answered_of
-    lines-due = ap (λ (a : Answered). a.lines) e.0
+    lines_due = ap (λ (a : Answered). a.lines) e.0
 
-    bytes-due : answered.next ≡ bytes_of due
+    bytes_due : answered.next ≡ bytes_of due
     unfolding answered_of
-    bytes-due = ap (λ (a : Answered). a.next) e.0
+    bytes_due = ap (λ (a : Answered). a.next) e.0
 
     front : take answered.lines after ≡ map line_answer due
     front =
         ap (λ l. take answered.lines l) e.1
-        ∙ take_at (map line_answer due) (drop (0 + length (map line_answer due)) answers) answered.lines (map_long due ∙ sym lines-due)
+        ∙ take_at (map line_answer due) (drop (0 + length (map line_answer due)) answers) answered.lines (map_long due ∙ sym lines_due)
 
     -- no line was left
-    pub going-ends : 0 < length answers → answered.lines ≡ 0 →
+    pub going_ends : 0 < length answers → answered.lines ≡ 0 →
         (at ≡ bytes_of (whole_lines text)) × (counts ≡ tallied before (map line_answer (whole_lines text)))
-    going-ends room n = all_done (sym left ∙ none (at_once (length answers)) (omega arith) (whole_lines (drop at text)) (sym lines-due ∙ n))
+    going_ends room n = all_done (sym left ∙ none (at_once (length answers)) (omega arith) (whole_lines (drop at text)) (sym lines_due ∙ n))
       where
         none : (k : ℕ) → 0 < k → (lines : List (List ℕ)) → length (take k lines) ≡ 0 → lines ≡ []
         none k h [] z = refl
@@ -82,7 +82,7 @@ module _ {text : List ℕ} {before : Tally} {at : ℕ} {counts : Tally} (s : Goi
         record {
           many = s.many + k;
           there =
-              omega (arith, s.there, bytes-due, ap bytes_of same, bytes_both (take s.many lines) due);
+              omega (arith, s.there, bytes_due, ap bytes_of same, bytes_both (take s.many lines) due);
           counted =
               en ∙ ap (λ l. tallied counts l) front ∙ ap (λ t. tallied t (map line_answer due)) s.counted
               ∙ sym (tally_both before (map line_answer (take s.many lines)) (map line_answer due))

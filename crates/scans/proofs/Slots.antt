@@ -2,7 +2,7 @@
 use Rattle.std.proofs.Common.{◌≡◌, ℕ, ◌+◌, ◌*◌, ◌<◌, ◌≤◌, Bool, true, false, eqb, List, ◌++◌, length, take, drop, set, sym, refl, ap, ◌∙◌, append_assoc, arith, take-append-drop, length-take-le, get_or-set_other, get_or-set_same, take_at, drop_at, eqb-true}
 use Rattle.text.specs.Choice.{if◌then◌else◌}
 use Rattle.text.specs.Placed.{written, placed}
-use Rattle.text.proofs.Placing.{placed-there, placed-long}
+use Rattle.text.proofs.Placing.{placed_there, placed_long}
 use Rattle.refusal.specs.Table.{number_told}
 use Rattle.check_characters.specs.Number.{number_verdict, checked_number}
 use Rattle.check_characters.specs.Day.{number_at}
@@ -11,8 +11,8 @@ use Rattle.scans.specs.Scans.{number_on, line_answer}
 use Rattle.scans.specs.Laying.{mark_of, laid, ruled, answer_at}
 
 module _ (numbers number : List ℕ) (i : ℕ) (l : 15 * i + length number ≤ length numbers) where
-  pub number-stays : (k : ℕ) → k < i → number_at (written numbers (15 * i) number) k ≡ number_at numbers k
-  number-stays k h =
+  pub number_stays : (k : ℕ) → k < i → number_at (written numbers (15 * i) number) k ≡ number_at numbers k
+  number_stays k h =
       let n : length (take (15 * i) numbers) ≡ 15 * i = length-take-le (15 * i) numbers (omega arith) in
       let f : 15 * k + 15 ≤ length (take (15 * i) numbers) = omega arith in
       ap (λ s. number_at s k) (append_assoc (take (15 * i) numbers) number (drop (15 * i + length number) numbers))
@@ -20,8 +20,8 @@ module _ (numbers number : List ℕ) (i : ℕ) (l : 15 * i + length number ≤ l
       ∙ sym (number_front (take (15 * i) numbers) (drop (15 * i) numbers) k f)
       ∙ ap (λ s. number_at s k) (take-append-drop (15 * i) numbers)
 
-  pub number-there : length number ≡ 15 → number_at (written numbers (15 * i) number) i ≡ number
-  number-there e =
+  pub number_there : length number ≡ 15 → number_at (written numbers (15 * i) number) i ≡ number
+  number_there e =
       let n : length (take (15 * i) numbers) ≡ 15 * i = length-take-le (15 * i) numbers (omega arith) in
       ap (λ s. number_at s i) (append_assoc (take (15 * i) numbers) number (drop (15 * i + length number) numbers))
       ∙ ap (λ s. take 15 s) (drop_at (take (15 * i) numbers) (number ++ drop (15 * i + length number) numbers) (15 * i) n)
@@ -30,11 +30,11 @@ module _ (numbers number : List ℕ) (i : ℕ) (l : 15 * i + length number ≤ l
 -- a line laid out: each premise is a fact that the loop has
 module _ (numbers marks line : List ℕ) (i m : ℕ) (after : List ℕ) (fits : 15 * i + 15 ≤ length numbers) (is : i < length marks)
     (em : m ≡ mark_of line) (ea : after ≡ laid numbers (15 * i) line) where
-  pub laid-long : length after ≡ length numbers
-  laid-long = ap length ea ∙ go (eqb (length (number_on line)) 15)
+  pub laid_long : length after ≡ length numbers
+  laid_long = ap length ea ∙ go (eqb (length (number_on line)) 15)
     where
       go : (t : Bool) → length (if t then placed numbers (15 * i) (number_on line) else numbers) ≡ length numbers
-      go true = placed-long numbers (15 * i) (number_on line)
+      go true = placed_long numbers (15 * i) (number_on line)
       go false = refl
 
   stays : (k : ℕ) → k < i → number_at after k ≡ number_at numbers k
@@ -44,17 +44,17 @@ module _ (numbers marks line : List ℕ) (i m : ℕ) (after : List ℕ) (fits : 
           number_at (if t then placed numbers (15 * i) (number_on line) else numbers) k ≡ number_at numbers k
       go true e =
           let n : length (number_on line) ≡ 15 = eqb-true (length (number_on line)) 15 e in
-          ap (λ s. number_at s k) (placed-there numbers (15 * i) (number_on line) (omega arith))
-          ∙ number-stays numbers (number_on line) i (omega arith) k h
+          ap (λ s. number_at s k) (placed_there numbers (15 * i) (number_on line) (omega arith))
+          ∙ number_stays numbers (number_on line) i (omega arith) k h
       go false e = refl
 
-  pub answer-stays : (k : ℕ) → k < i → answer_at after (set marks i m) k ≡ answer_at numbers marks k
+  pub answer_stays : (k : ℕ) → k < i → answer_at after (set marks i m) k ≡ answer_at numbers marks k
   unfolding answer_at
-  answer-stays k h = rw (stays k h, get_or-set_other marks i k m 0 (λ e. omega arith))
+  answer_stays k h = rw (stays k h, get_or-set_other marks i k m 0 (λ e. omega arith))
 
-  pub answer-there : answer_at after (set marks i m) i ≡ line_answer line
+  pub answer_there : answer_at after (set marks i m) i ≡ line_answer line
   unfolding answer_at line_answer
-  answer-there = rw (get_or-set_same marks i m 0 is, em, ea) (go (eqb (length (number_on line)) 15) refl)
+  answer_there = rw (get_or-set_same marks i m 0 is, em, ea) (go (eqb (length (number_on line)) 15) refl)
     where
       go : (t : Bool) → eqb (length (number_on line)) 15 ≡ t →
           ruled (if t then 0 else 16)
@@ -63,6 +63,6 @@ module _ (numbers marks line : List ℕ) (i m : ℕ) (after : List ℕ) (fits : 
       go true e =
           let n : length (number_on line) ≡ 15 = eqb-true (length (number_on line)) 15 e in
           ap (λ s. number_told (number_verdict (checked_number s)))
-          (ap (λ s. number_at s i) (placed-there numbers (15 * i) (number_on line) (omega arith))
-          ∙ number-there numbers (number_on line) i (omega arith) n)
+          (ap (λ s. number_at s i) (placed_there numbers (15 * i) (number_on line) (omega arith))
+          ∙ number_there numbers (number_on line) i (omega arith) n)
       go false e = refl

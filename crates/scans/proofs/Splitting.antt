@@ -28,12 +28,12 @@ module _ (text : List ℕ) (at end : ℕ) (is : end ≡ line_feed text at) (l : 
   ends : end ≡ at + length ahead.run
   ends = omega (arith, is, ahead.ends, long)
 
-  pub feed-behind : at ≤ end
-  feed-behind = omega (arith, ends)
+  pub feed_behind : at ≤ end
+  feed_behind = omega (arith, ends)
 
-  pub next-line : end < length text →
+  pub next_line : end < length text →
       whole_lines (drop at text) ≡ take (end - at) (drop at text) ∷ whole_lines (drop (end + 1) text)
-  next-line h = go ahead.behind ahead.whole ahead.fails (omega (arith, long, ends))
+  next_line h = go ahead.behind ahead.whole ahead.fails (omega (arith, long, ends))
     where
       n : length ahead.run ≡ end - at
       n = omega (arith, ends)

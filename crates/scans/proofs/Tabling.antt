@@ -18,8 +18,8 @@ tabled_alike f g i (suc n) e =
 
 -- one entry more: each premise is a fact that the loop has
 module _ (f : ℕ → ℕ) (before out : List ℕ) (i : ℕ) (is : out ≡ written before 0 (tabled f 0 i)) (l : i < length before) where
-  pub table-rest : get_or out i 0 ≡ get_or before i 0
-  table-rest =
+  pub table_rest : get_or out i 0 ≡ get_or before i 0
+  table_rest =
       let n : 0 + length (tabled f 0 i) ≡ i = omega (arith, tabled_long f 0 i) in
       rw (is, n, drop-cons before i 0 l) (get_or_at (tabled f 0 i) (get_or before i 0) (drop (suc i) before) 0 i (tabled_long f 0 i))
 

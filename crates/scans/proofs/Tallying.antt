@@ -18,13 +18,13 @@ unfolding with_answer
 with_answer_lem t answer l p n s c el ep en es ec = rw (el, ep, en, es, ec)
 
 module _ (s : List ℕ) (i : ℕ) (t z : Tally) where
-  pub tally-on : (next : Tally) → i < length s → next ≡ with_answer t (get_or s i 0) → tallied t (drop i s) ≡ z → tallied next (drop (i + 1) s) ≡ z
-  tally-on next h e f =
+  pub tally_on : (next : Tally) → i < length s → next ≡ with_answer t (get_or s i 0) → tallied t (drop i s) ≡ z → tallied next (drop (i + 1) s) ≡ z
+  tally_on next h e f =
       let g : tallied t (drop i s) ≡ tallied next (drop (i + 1) s) = rw (add-one, e, drop-cons s i 0) in
       sym g ∙ f
 
-  pub tally-ends : length s ≤ i → tallied t (drop i s) ≡ z → t ≡ z
-  tally-ends h f = sym (rw (drop_of_length-le s h)) ∙ f
+  pub tally_ends : length s ≤ i → tallied t (drop i s) ≡ z → t ≡ z
+  tally_ends h f = sym (rw (drop_of_length-le s h)) ∙ f
 
 -- answers behind others
 pub tally_both : (t : Tally) (a b : List ℕ) → tallied t (a ++ b) ≡ tallied (tallied t a) b

@@ -16,22 +16,22 @@ use Rattle.refusal.specs.Table.{because}
 use Rattle.refusal.proofs.Verdicts.{no_pass}
 use Rattle.text.specs.Choice.{if◌then◌else◌}
 use Rattle.text.specs.Byte.{digit, capital}
-use Rattle.text.proofs.Choices.{and_left, and_right, or_cases, came-then, came-else, clash}
-use Rattle.text.proofs.Bytes.{digit-range, capital-range, capital-low}
+use Rattle.text.proofs.Choices.{and_left, and_right, or_cases, came_then, came_else, clash}
+use Rattle.text.proofs.Bytes.{digit_range, capital_range, capital_low}
 use Rattle.text.proofs.Finite.{every_at, tells, told_apart}
 use Rattle.check_characters.specs.Symbol.{value_of}
 use Rattle.check_characters.specs.Iban.{allowed_in_iban, wrong_in_iban, digits_of, spread, decimal_from, moved, iban_number}
 use Rattle.check_characters.specs.Answer.{check_verdict}
 use Rattle.check_characters.specs.Iban.{check_digits, barred, sound_of, checked_iban}
 use Rattle.check_characters.specs.declared.answer.CheckAnswer.TheVariants.{Accepted, Refused}
-use Rattle.check_characters.proofs.Symbols.{value_le, value-digit, value-capital}
+use Rattle.check_characters.proofs.Symbols.{value_le, value_digit, value_capital}
 use Rattle.check_characters.proofs.Digits.{decimal_append, spread_append, weight, weighed, mod_scale}
 use Rattle.slips.specs.Slips.{AgreeBut, OneClass, swapped}
 use Rattle.slips.specs.Exactly.{SoundIban}
-use Rattle.slips.proofs.Shaping.{shaped-all, all-shaped}
-use Rattle.slips.proofs.Places.{in_pieces, agree-there, pair-at, swap_alike}
+use Rattle.slips.proofs.Shaping.{shaped_all, all_shaped}
+use Rattle.slips.proofs.Places.{in_pieces, agree_there, pair_at, swap_alike}
 use Rattle.slips.proofs.Remainders.{after, remainder_from, remainder_spread, remainder_append, weight_tells}
-use Rattle.slips.proofs.Remainders.{cancel, tell-remainders, tell-order, tell_value}
+use Rattle.slips.proofs.Remainders.{cancel, tell_remainders, tell_order, tell_value}
 
 pub accepted_sound : (s : List ℕ) → checked_iban s ≡ Accepted → SoundIban s
 unfolding checked_iban sound_of
@@ -39,15 +39,15 @@ accepted_sound s e =
     let inside = leb 15 (length s) && leb (length s) 34 in
     let wrong = ltb (wrong_in_iban s) (length s) in
     let tail = if sound_of s then Accepted else Refused (because WrongCheck 2) in
-    let a = came-else (not inside) (Refused (because WrongLength 0)) (if wrong then Refused (because WrongSymbol (wrong_in_iban s)) else tail)
+    let a = came_else (not inside) (Refused (because WrongLength 0)) (if wrong then Refused (because WrongSymbol (wrong_in_iban s)) else tail)
     Accepted (no_pass check_verdict refl refl) e in
-    let b = came-else wrong (Refused (because WrongSymbol (wrong_in_iban s))) tail Accepted (no_pass check_verdict refl refl) a.1 in
-    let c = came-then (sound_of s) Accepted (Refused (because WrongCheck 2)) Accepted (no_pass check_verdict refl refl) b.1 in
+    let b = came_else wrong (Refused (because WrongSymbol (wrong_in_iban s))) tail Accepted (no_pass check_verdict refl refl) a.1 in
+    let c = came_then (sound_of s) Accepted (Refused (because WrongCheck 2)) Accepted (no_pass check_verdict refl refl) b.1 in
     let long = not-false inside a.0 in
     record {
       long = leb-true 15 (length s) (and_left (leb 15 (length s)) (leb (length s) 34) long);
       short = leb-true (length s) 34 (and_right (leb 15 (length s)) (leb (length s) 34) long);
-      shaped = shaped-all allowed_in_iban s (ltb-false (wrong_in_iban s) (length s) b.0);
+      shaped = shaped_all allowed_in_iban s (ltb-false (wrong_in_iban s) (length s) b.0);
       unbarred = not-true (barred (check_digits s)) (and_left (not (barred (check_digits s))) (eqb (iban_number s % 97) 1) c.0);
       one = eqb-true (iban_number s % 97) 1 (and_right (not (barred (check_digits s))) (eqb (iban_number s % 97) 1) c.0);
     }
@@ -58,7 +58,7 @@ sound_accepted s g =
     simp (
       le-leb 15 (length s) g.long,
       le-leb (length s) 34 g.short,
-      le-ltb (wrong_in_iban s) (length s) (all-shaped allowed_in_iban s g.shaped),
+      le-ltb (wrong_in_iban s) (length s) (all_shaped allowed_in_iban s g.shaped),
       g.unbarred,
       eq-eqb (iban_number s % 97) 1 g.one,
     )
@@ -69,10 +69,10 @@ record Alike (a b : ℕ) : Type 0 where
   one : value_of a ≡ value_of b → a ≡ b
 
 light : (a : ℕ) → digit a ≡ true → weight a ≡ 10
-light a d = rw (capital-low a (omega (arith, digit-range a d)))
+light a d = rw (capital_low a (omega (arith, digit_range a d)))
 
 no_digit : (a : ℕ) → capital a ≡ true → digit a ≡ false
-no_digit a c = let r = capital-range a c in simp (le-leb 48 a (omega arith), lt-leb a 57 (omega arith))
+no_digit a c = let r = capital_range a c in simp (le-leb 48 a (omega arith), lt-leb a 57 (omega arith))
 
 alike : (a b : ℕ) → OneClass a b → Alike a b
 alike a b = ⊎_elim digits letters
@@ -83,10 +83,10 @@ alike a b = ⊎_elim digits letters
           weights = light a d.0 ∙ sym (light b d.1);
           one = λ e. omega (
             arith,
-            digit-range a d.0,
-            digit-range b d.1,
-            value-digit a (digit a) refl d.0,
-            value-digit b
+            digit_range a d.0,
+            digit_range b d.1,
+            value_digit a (digit a) refl d.0,
+            value_digit b
                 (digit b) refl d.1,
           );
         }
@@ -97,11 +97,11 @@ alike a b = ⊎_elim digits letters
           weights = rw (c.0, c.1);
           one = λ e. omega (
             arith,
-            capital-range a c.0,
-            capital-range b c.1,
-            value-capital a (digit a) refl (capital a) refl
+            capital_range a c.0,
+            capital_range b c.1,
+            value_capital a (digit a) refl (capital a) refl
                 (no_digit a c.0) c.0,
-            value-capital b (digit b) refl (capital b) refl (no_digit b c.1) c.1,
+            value_capital b (digit b) refl (capital b) refl (no_digit b c.1) c.1,
           );
         }
 
@@ -109,12 +109,12 @@ below : (b : ℕ) → value_of b < 36
 below b = omega (arith, value_le b)
 
 digit_below : (b : ℕ) → digit b ≡ true → value_of b < 10
-digit_below b d = omega (arith, digit-range b d, value-digit b (digit b) refl d)
+digit_below b d = omega (arith, digit_range b d, value_digit b (digit b) refl d)
 
 -- the walk goes back one to one
 remainder_back : (s : List ℕ) (r q : ℕ) → r < 97 → q < 97 → remainder_from r s ≡ remainder_from q s → r ≡ q
 remainder_back [] r q l m e = e
-remainder_back (b ∷ s) r q l m e = tell-remainders (weight b) (weight_tells b) (value_of b) r q l m
+remainder_back (b ∷ s) r q l m e = tell_remainders (weight b) (weight_tells b) (value_of b) r q l m
     (remainder_back s (after r b) (after q b) (omega arith) (omega arith) e)
 
 -- one symbol more, and two in either order
@@ -126,7 +126,7 @@ after_two : (r a b : ℕ) → Alike a b → after (after r a) b ≡ after (after
 after_two r a b k e =
     let m = weight a in
     k.one
-    (tell-order m (weight_tells a) r (value_of a) (value_of b) (below a) (below b)
+    (tell_order m (weight_tells a) r (value_of a) (value_of b) (below a) (below b)
     (ap (λ (x : ℕ). (x * ((m * r + value_of a) % 97) + value_of b) % 97) k.weights ∙ e
     ∙ sym (ap (λ (x : ℕ). (m * ((x * r + value_of b) % 97) + value_of a) % 97) k.weights)))
 
@@ -174,7 +174,7 @@ one_symbol p a b q k ga gb =
 
 pub single_iban : (s t : List ℕ) (i : ℕ) → SoundIban s → SoundIban t → AgreeBut i s t → OneClass (get_or s i 0) (get_or t i 0) → s ≡ t
 single_iban s t i gs gt g k =
-    agree-there i s t g
+    agree_there i s t g
     (λ l. one_symbol (take i s) (get_or s i 0) (get_or t i 0) (drop (suc i) s) k (rw (split_at s i 0 l) at gs) (rw (in_pieces i s t g l) at gt))
 
 -- two neighbours that stay neighbours once the first four are moved
@@ -276,4 +276,4 @@ two_swapped (x ∷ y ∷ z ∷ w ∷ p) a b q k ga gb =
 pub swap_iban : (s : List ℕ) (i : ℕ) → i + 1 < length s → OneClass (get_or s i 0) (get_or s (i + 1) 0) → SoundIban s →
     SoundIban (swapped i s) → swapped i s ≡ s
 swap_iban s i h k g gt = swap_alike i s h (two_swapped (take i s) (get_or s i 0) (get_or s (i + 1) 0) (drop (i + 2) s) k
-    (rw (pair-at i s h) at g) gt)
+    (rw (pair_at i s h) at g) gt)

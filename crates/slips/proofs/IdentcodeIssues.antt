@@ -13,18 +13,18 @@ use Rattle.refusal.specs.Table.{because}
 use Rattle.refusal.proofs.Verdicts.{no_pass}
 use Rattle.text.specs.Byte.{digit}
 use Rattle.text.specs.Choice.{if◌then◌else◌}
-use Rattle.text.proofs.Choices.{came-else, and_both}
+use Rattle.text.proofs.Choices.{came_else, and_both}
 use Rattle.text.proofs.Runs.{all_append}
-use Rattle.text.proofs.Scans.{all-at, all_of}
+use Rattle.text.proofs.Scans.{all_at, all_of}
 use Rattle.text.proofs.Finite.{every_at}
 use Rattle.check_characters.specs.Answer.{room_for, issue_verdict}
 use Rattle.check_digits.specs.Identcode.{allowed_in_identcode, wrong_in_identcode, weighed, check_digit_of, issue_identcode_answer, IssuesIdentcode}
 use Rattle.check_characters.specs.declared.answer.IssueAnswer.{IssueAnswer}
 use Rattle.check_characters.specs.declared.answer.IssueAnswer.TheVariants.{Issued, Refused}
 use Rattle.check_characters.proofs.Issuing.{room_there, room_whole}
-use Rattle.check_digits.proofs.Identcodes.{digit_is, identcode-right}
+use Rattle.check_digits.proofs.Identcodes.{digit_is, identcode_right}
 use Rattle.slips.specs.Exactly.{Shaped, SoundIdentcode, body_of}
-use Rattle.slips.proofs.Shaping.{shaped-all, all-shaped}
+use Rattle.slips.proofs.Shaping.{shaped_all, all_shaped}
 use Rattle.slips.proofs.Written.{written_start, front_shaped, written_again}
 
 -- what an issued answer tells of the body
@@ -37,12 +37,12 @@ body_of_lem : (body : List ℕ) (room n : ℕ) → issue_identcode_answer body r
 unfolding issue_identcode_answer
 body_of_lem body room n e =
     let wrong = ltb (wrong_in_identcode body) (length body) in
-    let a = came-else (not (eqb (length body) 21)) (Refused (because WrongLength 0))
+    let a = came_else (not (eqb (length body) 21)) (Refused (because WrongLength 0))
     (if wrong then Refused (because WrongSymbol (wrong_in_identcode body)) else room_for 22 room) (Issued n) (no_pass issue_verdict refl refl) e in
-    let b = came-else wrong (Refused (because WrongSymbol (wrong_in_identcode body))) (room_for 22 room) (Issued n) (no_pass issue_verdict refl refl) a.1 in
+    let b = came_else wrong (Refused (because WrongSymbol (wrong_in_identcode body))) (room_for 22 room) (Issued n) (no_pass issue_verdict refl refl) a.1 in
     record {
       long = eqb-true (length body) 21 (not-false (eqb (length body) 21) a.0);
-      shaped = shaped-all allowed_in_identcode body (ltb-false (wrong_in_identcode body) (length body) b.0);
+      shaped = shaped_all allowed_in_identcode body (ltb-false (wrong_in_identcode body) (length body) b.0);
       whole = room_whole 22 room n b.1;
     }
 
@@ -65,7 +65,7 @@ module _ (body : List ℕ) (long : length body ≡ 21) (shaped : Shaped allowed_
       record {
         long = code_long;
         shaped =
-            all-at digit code
+            all_at digit code
             (all_append digit body (check_digit_of body ∷ []) (all_of digit body shaped)
             (and_both (digit (check_digit_of body)) true (ap digit (digit_is (weighed body)) ∙ check_is_digit (weighed body)) refl));
         closed = get_or_at body (check_digit_of body) [] 0 21 long ∙ ap check_digit_of (sym front);
@@ -89,8 +89,8 @@ sound_issued s out after answer g room h =
     answered : answer ≡ Issued (length s)
     answered =
         h.0
-        ∙ sym (identcode-right (body_of s) (length out) long (wrong_in_identcode (body_of s)) refl (Issued (length (body_of s) + 1))
-        (omega (arith, long, all-shaped allowed_in_identcode (body_of s) (front_shaped allowed_in_identcode s (length s - 1) g.shaped)))
+        ∙ sym (identcode_right (body_of s) (length out) long (wrong_in_identcode (body_of s)) refl (Issued (length (body_of s) + 1))
+        (omega (arith, long, all_shaped allowed_in_identcode (body_of s) (front_shaped allowed_in_identcode s (length s - 1) g.shaped)))
         (room_there (length (body_of s)) (length out) (omega (arith, long, g.long))))
         ∙ ap Issued (omega (arith, long, g.long))
 

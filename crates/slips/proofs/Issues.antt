@@ -13,7 +13,7 @@ use Rattle.refusal.specs.declared.Reason.TheVariants.{WrongLength, WrongSymbol}
 use Rattle.refusal.specs.Table.{because}
 use Rattle.refusal.proofs.Verdicts.{no_pass}
 use Rattle.text.specs.Byte.{symbol}
-use Rattle.text.proofs.Choices.{came-then, came-else, true_or_false}
+use Rattle.text.proofs.Choices.{came_then, came_else, true_or_false}
 use Rattle.text.proofs.Numbers.{le_or_lt}
 use Rattle.text.proofs.Finite.{every_at}
 use Rattle.check_characters.specs.Symbol.{value_of, symbol_of}
@@ -24,12 +24,12 @@ use Rattle.check_characters.specs.declared.number.Kind.{Kind}
 use Rattle.check_characters.specs.declared.number.Kind.TheVariants.{Tracking, Label}
 use Rattle.check_characters.specs.declared.answer.IssueAnswer.{IssueAnswer}
 use Rattle.check_characters.specs.declared.answer.IssueAnswer.TheVariants.{Issued, Refused}
-use Rattle.check_characters.proofs.Carries.{carry_of, carry_append, two_of_one, two-passes, check_value_lem}
-use Rattle.check_characters.proofs.Shapes.{has_last, tracking-check, label-check}
-use Rattle.check_characters.proofs.Issuing.{room_there, room_whole, issue-right, issue-tracking, issue-label}
+use Rattle.check_characters.proofs.Carries.{carry_of, carry_append, two_of_one, two_passes, check_value_lem}
+use Rattle.check_characters.proofs.Shapes.{has_last, tracking_check, label_check}
+use Rattle.check_characters.proofs.Issuing.{room_there, room_whole, issue_right, issue_tracking, issue_label}
 use Rattle.slips.specs.Exactly.{Shaped, SoundNumber, body_of}
-use Rattle.slips.proofs.Shaping.{shaped-all, all-shaped}
-use Rattle.slips.proofs.Written.{written_start, front_shaped, all-and-last, written_again}
+use Rattle.slips.proofs.Shaping.{shaped_all, all_shaped}
+use Rattle.slips.proofs.Written.{written_start, front_shaped, all_and_last, written_again}
 use Rattle.slips.proofs.Numbers.{one_symbol}
 
 -- what an issued answer tells of the body
@@ -41,11 +41,11 @@ pub record Body (k : Kind) (body : List ℕ) (n : ℕ) : Type 0 where
 body_as : (k : Kind) (body : List ℕ) (room n : ℕ) → length body + 1 ≡ length_of k → issue_as k body room ≡ Issued n → Body k body n
 unfolding issue_as
 body_as k body room n long e =
-    let w = came-else (ltb (wrong_in_number k body) (length body)) (Refused (because WrongSymbol (wrong_in_number k body)))
+    let w = came_else (ltb (wrong_in_number k body) (length body)) (Refused (because WrongSymbol (wrong_in_number k body)))
     (room_for (length_of k) room) (Issued n) (no_pass issue_verdict refl refl) e in
     record {
       long = long;
-      shaped = shaped-all (allowed_in_number k) body (ltb-false (wrong_in_number k body) (length body) w.0);
+      shaped = shaped_all (allowed_in_number k) body (ltb-false (wrong_in_number k body) (length body) w.0);
       whole = room_whole (length_of k) room n w.1;
     }
 
@@ -58,7 +58,7 @@ body_of_lem body room n e =
           (simp t at e),
     ))
     (λ (f : eqb (length body) 14 ≡ false).
-    let w = came-then (eqb (length body) 27) (issue_as Label body room) (Refused (because WrongLength 0)) (Issued n) (no_pass issue_verdict refl refl)
+    let w = came_then (eqb (length body) 27) (issue_as Label body room) (Refused (because WrongLength 0)) (Issued n) (no_pass issue_verdict refl refl)
     (simp f at e) in
     (Label, body_as Label body room n (omega (arith, eqb-true (length body) 27 w.0)) w.1))
     (true_or_false (eqb (length body) 14))
@@ -73,37 +73,37 @@ unfolding symbol_of
 symbol_symbol v l = every_at 36 (λ v. symbol (symbol_of v)) refl v l
 
 module _ (body : List ℕ) where
-  check-is : check_of body ≡ symbol_of ((37 - carry body) % 36)
+  check_is : check_of body ≡ symbol_of ((37 - carry body) % 36)
   unfolding check_of
-  check-is = ap symbol_of (check_value_lem (carry body) (carry_of body))
+  check_is = ap symbol_of (check_value_lem (carry body) (carry_of body))
 
-  pub check-symbol : symbol (check_of body) ≡ true
-  check-symbol = ap symbol check-is ∙ symbol_symbol ((37 - carry body) % 36) (omega arith)
+  pub check_symbol : symbol (check_of body) ≡ true
+  check_symbol = ap symbol check_is ∙ symbol_symbol ((37 - carry body) % 36) (omega arith)
 
-  pub check-closes : (carry body + value_of (check_of body)) % 36 ≡ 1
-  check-closes = let r = carry_of body in let v = ap value_of check-is ∙ symbol_value ((37 - carry body) % 36) (omega arith) in
+  pub check_closes : (carry body + value_of (check_of body)) % 36 ≡ 1
+  check_closes = let r = carry_of body in let v = ap value_of check_is ∙ symbol_value ((37 - carry body) % 36) (omega arith) in
       rw v (omega (arith, r.low, r.high))
 
 check_stands : (k : Kind) (i b : ℕ) → i + 1 ≡ length_of k → symbol b ≡ true → allowed_in_number k i b ≡ true
-check_stands Tracking i b e s = sym (tracking-check Tracking i b (symbol b) refl (omega arith) (omega arith) refl) ∙ s
-check_stands Label i b e s = sym (label-check Label i b (symbol b) refl (omega arith) (omega arith) refl) ∙ s
+check_stands Tracking i b e s = sym (tracking_check Tracking i b (symbol b) refl (omega arith) (omega arith) refl) ∙ s
+check_stands Label i b e s = sym (label_check Label i b (symbol b) refl (omega arith) (omega arith) refl) ∙ s
 
 with_check : (k : Kind) (body : List ℕ) → length body + 1 ≡ length_of k → Shaped (allowed_in_number k) body →
     SoundNumber k (body ++ (check_of body ∷ []))
 with_check k body long shaped =
     record {
       long = whole_long ∙ long;
-      shaped = λ i l. ⊎_elim (λ m. at-end i (omega (arith, whole_long)))
+      shaped = λ i l. ⊎_elim (λ m. at_end i (omega (arith, whole_long)))
           (λ m. rw (get_or-append body (check_of body ∷ []) 0 i m) (shaped i m)) (le_or_lt (length body) i);
-      closed = two-passes (body ++ (check_of body ∷ [])) (omega (arith, whole_long)) (carry_append 36 body (check_of body ∷ [])
-          ∙ two_of_one (carry body) (value_of (check_of body)) (check-closes body));
+      closed = two_passes (body ++ (check_of body ∷ [])) (omega (arith, whole_long)) (carry_append 36 body (check_of body ∷ [])
+          ∙ two_of_one (carry body) (value_of (check_of body)) (check_closes body));
     }
   where
     whole_long : length (body ++ (check_of body ∷ [])) ≡ length body + 1
     whole_long = length-append body (check_of body ∷ [])
 
-    at-end : (i : ℕ) → i ≡ length body → allowed_in_number k i (get_or (body ++ (check_of body ∷ [])) i 0) ≡ true
-    at-end i e = rw (get_or_at body (check_of body) [] 0 i (sym e)) (check_stands k i (check_of body) (rw e long) (check-symbol body))
+    at_end : (i : ℕ) → i ≡ length body → allowed_in_number k i (get_or (body ++ (check_of body ∷ [])) i 0) ≡ true
+    at_end i e = rw (get_or_at body (check_of body) [] 0 i (sym e)) (check_stands k i (check_of body) (rw e long) (check_symbol body))
 
 -- what is issued is sound
 pub issued_sound : (body out after : List ℕ) (n : ℕ) → Issues body out (Issued n) after → (k : Kind) × SoundNumber k (take n after)
@@ -114,8 +114,8 @@ issued_sound body out after n h =
 
 -- a sound number is what its body issues
 pub issues_as : (k : Kind) (body : List ℕ) (room : ℕ) → length body + 1 ≡ length_of k → issue_answer body room ≡ issue_as k body room
-issues_as Tracking body room e = issue-tracking body room (omega arith)
-issues_as Label body room e = issue-label body room (λ q. omega arith) (omega arith)
+issues_as Tracking body room e = issue_tracking body room (omega arith)
+issues_as Label body room e = issue_label body room (λ q. omega arith) (omega arith)
 
 pub sound_issued : (k : Kind) (s out after : List ℕ) (answer : IssueAnswer) → SoundNumber k s → length s ≤ length out →
     Issues (body_of s) out answer after
@@ -135,12 +135,12 @@ sound_issued k s out after answer g room h = (answered, rw answered at h.1 ∙ w
     answered =
         h.0
         ∙ issues_as k (body_of s) (length out) (whole ∙ g.long)
-        ∙ sym (issue-right k (body_of s) (length out) (wrong_in_number k (body_of s)) refl (Issued (length (body_of s) + 1))
-        (all-shaped (allowed_in_number k) (body_of s) shaped) (whole ∙ g.long)
+        ∙ sym (issue_right k (body_of s) (length out) (wrong_in_number k (body_of s)) refl (Issued (length (body_of s) + 1))
+        (all_shaped (allowed_in_number k) (body_of s) shaped) (whole ∙ g.long)
         (room_there (length (body_of s)) (length out) (omega (arith, whole))))
         ∙ ap Issued whole
 
     last : check_of (body_of s) ≡ get_or s (length s - 1) 0
     last =
         one_symbol k (body_of s) (check_of (body_of s)) (get_or s (length s - 1) 0) [] (with_check k (body_of s) (whole ∙ g.long) shaped)
-        (rw (all-and-last s some) at g)
+        (rw (all_and_last s some) at g)

@@ -18,15 +18,15 @@ module _ (i : ℕ) (s t : List ℕ) (g : AgreeBut i s t) where
       ∙ sym (get_or-set_other s i j (get_or t i 0) 0 e)) (eq_or_ne j i))
       ∙ set_split s i (get_or t i 0) l
 
-  pub agree-there : (i < length s → get_or s i 0 ≡ get_or t i 0) → s ≡ t
-  agree-there here = ext_get_or 0 s t g.long (λ j m. ⊎_elim (λ e. rw e (here (rw e at m))) (λ e. g.away j e) (eq_or_ne j i))
+  pub agree_there : (i < length s → get_or s i 0 ≡ get_or t i 0) → s ≡ t
+  agree_there here = ext_get_or 0 s t g.long (λ j m. ⊎_elim (λ e. rw e (here (rw e at m))) (λ e. g.away j e) (eq_or_ne j i))
 
 module _ (i : ℕ) (s : List ℕ) (h : i + 1 < length s) where
-  pub pair-at : s ≡ take i s ++ get_or s i 0 ∷ get_or s (i + 1) 0 ∷ drop (i + 2) s
-  pair-at =
+  pub pair_at : s ≡ take i s ++ get_or s i 0 ∷ get_or s (i + 1) 0 ∷ drop (i + 2) s
+  pair_at =
       split_at s i 0 (omega arith)
       ∙ ap (λ (l : List ℕ). take i s ++ get_or s i 0 ∷ l) (rw (add-two, add-one) (drop-cons s (suc i) 0 (rw add-one at h)))
 
   pub swap_alike : get_or s i 0 ≡ get_or s (i + 1) 0 → swapped i s ≡ s
-  swap_alike e = sym (pair-at ∙ ap (λ (x : ℕ). take i s ++ x ∷ get_or s (i + 1) 0 ∷ drop (i + 2) s) e
+  swap_alike e = sym (pair_at ∙ ap (λ (x : ℕ). take i s ++ x ∷ get_or s (i + 1) 0 ∷ drop (i + 2) s) e
       ∙ sym (ap (λ (x : ℕ). take i s ++ get_or s (i + 1) 0 ∷ x ∷ drop (i + 2) s) e))

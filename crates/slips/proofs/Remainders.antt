@@ -48,11 +48,11 @@ pub cancel : (c x y : ℕ) → (x + c) % 97 ≡ (y + c) % 97 → x % 97 ≡ y % 
 cancel c x y e = omega arith
 
 module _ (m : ℕ) (h : Tells m) where
-  pub tell-remainders : (v r q : ℕ) → r < 97 → q < 97 → (m * r + v) % 97 ≡ (m * q + v) % 97 → r ≡ q
-  tell-remainders v r q l k e = told_apart 97 (λ v w. m * v % 97) (λ v w. m * w % 97) h.remainders r q l k (cancel v (m * r) (m * q) e)
+  pub tell_remainders : (v r q : ℕ) → r < 97 → q < 97 → (m * r + v) % 97 ≡ (m * q + v) % 97 → r ≡ q
+  tell_remainders v r q l k e = told_apart 97 (λ v w. m * v % 97) (λ v w. m * w % 97) h.remainders r q l k (cancel v (m * r) (m * q) e)
 
-  pub tell-order : (r v w : ℕ) → v < 36 → w < 36 → (m * ((m * r + v) % 97) + w) % 97 ≡ (m * ((m * r + w) % 97) + v) % 97 → v ≡ w
-  tell-order r v w l k e =
+  pub tell_order : (r v w : ℕ) → v < 36 → w < 36 → (m * ((m * r + v) % 97) + w) % 97 ≡ (m * ((m * r + w) % 97) + v) % 97 → v ≡ w
+  tell_order r v w l k e =
       told_apart 36 (λ v w. (m * v + w) % 97) (λ v w. (m * w + v) % 97) h.order v w l k
       (cancel (m * (m * r)) (m * v + w) (m * w + v) (even v w ∙ mod_scale m (m * r + v) w ∙ e ∙ sym (mod_scale m (m * r + w) v)
       ∙ sym (even w v)))

@@ -6,12 +6,12 @@ use native.Mathlib.Nat.{zero-add}
 use native.Mathlib.Omega.{arith}
 use lib.ListN.{length}
 use Rattle.text.specs.Scan.{first_failing}
-use Rattle.text.proofs.Scans.{none-fails, all_pass}
+use Rattle.text.proofs.Scans.{none_fails, all_pass}
 use Rattle.slips.specs.Exactly.{Shaped}
 
 module _ (ok : ℕ → ℕ → Bool) (s : List ℕ) where
-  pub shaped-all : length s ≤ first_failing ok 0 s → Shaped ok s
-  shaped-all h i l = rw zero-add at (none-fails ok 0 s (omega arith) i l)
+  pub shaped_all : length s ≤ first_failing ok 0 s → Shaped ok s
+  shaped_all h i l = rw zero-add at (none_fails ok 0 s (omega arith) i l)
 
-  pub all-shaped : Shaped ok s → length s ≤ first_failing ok 0 s
-  all-shaped p = omega (arith, all_pass ok 0 s (λ j l. rw zero-add (p j l)))
+  pub all_shaped : Shaped ok s → length s ≤ first_failing ok 0 s
+  all_shaped p = omega (arith, all_pass ok 0 s (λ j l. rw zero-add (p j l)))

@@ -68,13 +68,13 @@ module _ (c x y : ℕ) (h : Carry c) (l : x < 36) (m : y < 36) (n : x ≡ y → 
   unlike : swaps c x y ≡ (follows c x y || follows c y x)
   unlike = swaps_may c x y h l m ∙ rw (ne_eqb x y n)
 
-  pub swap-follows : step (step c x) y ≡ step (step c y) x → OneFollows c x y
-  swap-follows e =
+  pub swap_follows : step (step c x) y ≡ step (step c y) x → OneFollows c x y
+  swap_follows e =
       ⊎_elim (λ f. inl (true_follows c x y f)) (λ f. inr (true_follows c y x f))
       (or_cases (follows c x y) (follows c y x) (sym unlike ∙ eq-eqb (step (step c x) y) (step (step c y) x) e))
 
-  pub follows-swap : OneFollows c x y → step (step c x) y ≡ step (step c y) x
-  follows-swap f = eqb-true (step (step c x) y) (step (step c y) x) (unlike
+  pub follows_swap : OneFollows c x y → step (step c x) y ≡ step (step c y) x
+  follows_swap f = eqb-true (step (step c x) y) (step (step c y) x) (unlike
       ∙ ⊎_elim (λ f. rw (follows_true c x y f)) (λ f. second (follows c x y) (follows_true c y x f)) f)
     where
       second : (t : Bool) → follows c y x ≡ true → (t || follows c y x) ≡ true

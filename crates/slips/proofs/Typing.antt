@@ -23,18 +23,18 @@ use Rattle.check_characters.specs.declared.carry.CarryAnswer.{CarryAnswer}
 use Rattle.check_characters.specs.declared.carry.CarryAnswer.TheVariants.{Next, Refused}
 use Rattle.check_characters.specs.declared.number.Kind.{Kind}
 use Rattle.check_characters.specs.declared.number.NumberAnswer.TheVariants.{Accepted}
-use Rattle.check_characters.proofs.Carries.{Carry, step_carry, carry_of, carry_append, two_of_one, one_of_two, passes-two, two-passes}
-use Rattle.check_characters.proofs.Keying.{next-step, next-no-symbol}
+use Rattle.check_characters.proofs.Carries.{Carry, step_carry, carry_of, carry_append, two_of_one, one_of_two, passes_two, two_passes}
+use Rattle.check_characters.proofs.Keying.{next_step, next_no_symbol}
 use Rattle.check_characters.proofs.Shapes.{has_last}
 use Rattle.slips.specs.Exactly.{Shaped}
 use Rattle.slips.specs.Typed.{typed_on, typed}
 use Rattle.slips.proofs.Numbers.{symbol_of_lem, value_one, below, accepted_sound, sound_accepted}
-use Rattle.slips.proofs.Issues.{check-symbol, check-closes}
+use Rattle.slips.proofs.Issues.{check_symbol, check_closes}
 
 typed_from : (c : ℕ) (keys : List ℕ) → Carry c → all symbol keys ≡ true → typed_on (Next c) keys ≡ Next (carry_from c keys)
 typed_from c [] h e = refl
 typed_from c (b ∷ keys) h e =
-    ap (λ (a : CarryAnswer). typed_on a keys) (next-step c b h (and_left (symbol b) (all symbol keys) e))
+    ap (λ (a : CarryAnswer). typed_on a keys) (next_step c b h (and_left (symbol b) (all symbol keys) e))
     ∙ typed_from (step c (value_of b)) keys (step_carry c (value_of b)) (and_right (symbol b) (all symbol keys) e)
 
 refused_stays : (refusal : Refusal) (keys : List ℕ) → typed_on (Refused refusal) keys ≡ Refused refusal
@@ -45,9 +45,9 @@ typed_stops : (c : ℕ) (keys : List ℕ) → Carry c → all symbol keys ≡ fa
 typed_stops c [] h e = clash refl e
 typed_stops c (b ∷ keys) h e =
     ⊎_elim (λ (t : symbol b ≡ true).
-    ap (λ (a : CarryAnswer). typed_on a keys) (next-step c b h t)
+    ap (λ (a : CarryAnswer). typed_on a keys) (next_step c b h t)
     ∙ typed_stops (step c (value_of b)) keys (step_carry c (value_of b)) (rw t at e))
-    (λ (f : symbol b ≡ false). ap (λ (a : CarryAnswer). typed_on a keys) (next-no-symbol c b h f) ∙ refused_stays (because WrongSymbol 0) keys)
+    (λ (f : symbol b ≡ false). ap (λ (a : CarryAnswer). typed_on a keys) (next_no_symbol c b h f) ∙ refused_stays (because WrongSymbol 0) keys)
     (true_or_false (symbol b))
 
 module _ (keys : List ℕ) where
@@ -78,8 +78,8 @@ module _ (keys : List ℕ) where
 
 -- one key behind a body of symbols
 module _ (body : List ℕ) (key : ℕ) where
-  carry-behind : carry (body ++ (key ∷ [])) ≡ step (carry body) (value_of key)
-  carry-behind = carry_append 36 body (key ∷ [])
+  carry_behind : carry (body ++ (key ∷ [])) ≡ step (carry body) (value_of key)
+  carry_behind = carry_append 36 body (key ∷ [])
 
 -- the check is the one key that leaves 2
 pub check_leaves_two : (body : List ℕ) (key : ℕ) → all symbol body ≡ true → (typed (body ++ (key ∷ [])) ≡ Next 2) ↔ (key ≡ check_of body)
@@ -89,33 +89,33 @@ check_leaves_two body key t = (there, back)
     there e =
         let r = (typed_exactly (body ++ (key ∷ [])) 2).0 e in
         let s = and_left (symbol key) true (all_apart symbol body (key ∷ []) r.0).1 in
-        let one = one_of_two (carry body) (value_of key) (sym (carry-behind body key) ∙ sym r.1) in
-        let closed = check-closes body in
+        let one = one_of_two (carry body) (value_of key) (sym (carry_behind body key) ∙ sym r.1) in
+        let closed = check_closes body in
         let value : value_of key ≡ value_of (check_of body) = omega (arith, one, closed, below key, below (check_of body)) in
-        value_one key (check_of body) s (check-symbol body) value
+        value_one key (check_of body) s (check_symbol body) value
 
     back : key ≡ check_of body → typed (body ++ (key ∷ [])) ≡ Next 2
     back e =
-        let s : symbol key ≡ true = ap symbol e ∙ check-symbol body in
+        let s : symbol key ≡ true = ap symbol e ∙ check_symbol body in
         let whole = all_append symbol body (key ∷ []) t (and_both (symbol key) true s refl) in
-        let one : (carry body + value_of key) % 36 ≡ 1 = rw e (check-closes body) in
-        (typed_exactly (body ++ (key ∷ [])) 2).1 (whole, sym (carry-behind body key ∙ two_of_one (carry body) (value_of key) one))
+        let one : (carry body + value_of key) % 36 ≡ 1 = rw e (check_closes body) in
+        (typed_exactly (body ++ (key ∷ [])) 2).1 (whole, sym (carry_behind body key ∙ two_of_one (carry body) (value_of key) one))
 
 -- a number of a kind's shape is accepted exactly when it leaves 2
 module _ (k : Kind) (s : List ℕ) where
-  shaped-symbols : length s ≡ length_of k → Shaped (allowed_in_number k) s → all symbol s ≡ true
-  shaped-symbols long shaped = all_of symbol s (λ j l. symbol_of_lem k j (get_or s j 0) (rw long at l) (shaped j l))
+  shaped_symbols : length s ≡ length_of k → Shaped (allowed_in_number k) s → all symbol s ≡ true
+  shaped_symbols long shaped = all_of symbol s (λ j l. symbol_of_lem k j (get_or s j 0) (rw long at l) (shaped j l))
 
-  pub accepted-typed : (checked_number s ≡ Accepted k) ↔ ((length s ≡ length_of k) × Shaped (allowed_in_number k) s × (typed s ≡ Next 2))
-  accepted-typed = (there, back)
+  pub accepted_typed : (checked_number s ≡ Accepted k) ↔ ((length s ≡ length_of k) × Shaped (allowed_in_number k) s × (typed s ≡ Next 2))
+  accepted_typed = (there, back)
     where
       there : checked_number s ≡ Accepted k → (length s ≡ length_of k) × Shaped (allowed_in_number k) s × (typed s ≡ Next 2)
       there e =
           let g = accepted_sound k s e in
-          let two = passes-two s (has_last k (length s) g.long) g.closed in
-          (g.long, g.shaped, (typed_exactly s 2).1 (shaped-symbols g.long g.shaped, sym two))
+          let two = passes_two s (has_last k (length s) g.long) g.closed in
+          (g.long, g.shaped, (typed_exactly s 2).1 (shaped_symbols g.long g.shaped, sym two))
 
       back : (length s ≡ length_of k) × Shaped (allowed_in_number k) s × (typed s ≡ Next 2) → checked_number s ≡ Accepted k
       back (long, shaped, e) =
           let two = ((typed_exactly s 2).0 e).1 in
-          sound_accepted k s (record { long = long; shaped = shaped; closed = two-passes s (has_last k (length s) long) (sym two) })
+          sound_accepted k s (record { long = long; shaped = shaped; closed = two_passes s (has_last k (length s) long) (sym two) })

@@ -23,8 +23,8 @@ pub front_shaped : (ok : ℕ → ℕ → Bool) (s : List ℕ) (m : ℕ) → Shap
 front_shaped ok s m shaped i l = let r = length-take m s in rw (get_or-take m s i 0 (omega arith)) (shaped i (omega arith))
 
 module _ (s : List ℕ) (some : 1 ≤ length s) where
-  pub all-and-last : s ≡ body_of s ++ (get_or s (length s - 1) 0 ∷ [])
-  all-and-last =
+  pub all_and_last : s ≡ body_of s ++ (get_or s (length s - 1) 0 ∷ [])
+  all_and_last =
       let e : suc (length s - 1) ≡ length s = omega arith in
       sym (take_all (suc (length s - 1)) s (omega arith)) ∙ take-suc s (length s - 1) 0 (omega arith)
 
@@ -35,4 +35,4 @@ module _ (s : List ℕ) (some : 1 ≤ length s) where
   written_again out check last =
       ap (λ (x : ℕ). body_of s ++ x ∷ drop (length s) out) last
       ∙ sym (append_snoc (body_of s) (get_or s (length s - 1) 0) (drop (length s) out))
-      ∙ ap (λ (x : List ℕ). x ++ drop (length s) out) (sym all-and-last)
+      ∙ ap (λ (x : List ℕ). x ++ drop (length s) out) (sym all_and_last)

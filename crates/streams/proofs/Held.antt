@@ -17,11 +17,11 @@ module _ (input : Input) (n : ℕ) (buffer : List ℕ) (is : input ≡ Input.Who
   counted : IsPrefixLen n buffer
   counted = rw is at held
 
-  pub input-fits : n ≤ length buffer
-  input-fits = counted.0
+  pub input_fits : n ≤ length buffer
+  input_fits = counted.0
 
-  pub input-long : n ≡ length (take n buffer)
-  input-long = counted.1
+  pub input_long : n ≡ length (take n buffer)
+  input_long = counted.1
 
 pub piece_fits : (piece : Piece) (n : ℕ) (buffer : List ℕ) → piece ≡ Piece.More n → HeldPiece piece buffer → n ≤ length buffer
 piece_fits piece n buffer is held = let counted : IsPrefixLen n buffer = rw is at held in counted.0

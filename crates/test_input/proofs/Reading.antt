@@ -10,7 +10,7 @@ use lib.Seq.{drop-cons}
 use borrow.Author.Tests.{not-true, not-false}
 use Rattle.text.specs.Byte.{digit}
 use Rattle.text.specs.Scan.{first_failing}
-use Rattle.text.proofs.Scans.{walk-stops, walk_ends}
+use Rattle.text.proofs.Scans.{walk_stops, walk_ends}
 use Rattle.test_input.specs.Input.{value_from, behind, given}
 
 -- v is written in front of the byte at the place i
@@ -22,29 +22,29 @@ module _ (s : List ℕ) (i v z : ℕ) where
       let g : digit (get_or s i 0) ≡ true = sym e ∙ not-false t q in
       rw (add-one, ed) (sym (rw (drop-cons s i 0 h, g)) ∙ f)
 
-  value-stops : (t : Bool) → i < length s → t ≡ digit (get_or s i 0) → not t ≡ true → value_from v (drop i s) ≡ z → v ≡ z
-  value-stops t h e q f = let g : digit (get_or s i 0) ≡ false = sym e ∙ not-true t q in sym (rw (drop-cons s i 0 h, g)) ∙ f
+  value_stops : (t : Bool) → i < length s → t ≡ digit (get_or s i 0) → not t ≡ true → value_from v (drop i s) ≡ z → v ≡ z
+  value_stops t h e q f = let g : digit (get_or s i 0) ≡ false = sym e ∙ not-true t q in sym (rw (drop-cons s i 0 h, g)) ∙ f
 
-  value-ends : length s ≤ i → value_from v (drop i s) ≡ z → v ≡ z
-  value-ends h f = sym (rw (drop_of_length-le s h)) ∙ f
+  value_ends : length s ≤ i → value_from v (drop i s) ≡ z → v ≡ z
+  value_ends h f = sym (rw (drop_of_length-le s h)) ∙ f
 
 -- a loop from start on that is at the place i
 module _ (s : List ℕ) (start i : ℕ) where
   module _ (v : ℕ) (ev : value_from v (drop i s) ≡ value_from 0 (drop start s))
       (f : first_failing (λ _ b. digit b) i (drop i s) ≡ first_failing (λ _ b. digit b) start (drop start s)) where
-    pub given-stops :
+    pub given_stops :
         (t : Bool) → i < length s → t ≡ digit (get_or s i 0) → not t ≡ true → record { value = v; next = i + 1 } ≡ given s start
     unfolding given
-    given-stops t h e q =
-        let w = walk-stops (λ _ b. digit b) s i (first_failing (λ _ b. digit b) start (drop start s)) t h e q f in
+    given_stops t h e q =
+        let w = walk_stops (λ _ b. digit b) s i (first_failing (λ _ b. digit b) start (drop start s)) t h e q f in
         let n : i + 1 ≡ behind s start = omega (arith, w) in
-        let x = value-stops s i v (value_from 0 (drop start s)) t h e q ev in
+        let x = value_stops s i v (value_from 0 (drop start s)) t h e q ev in
         rw (← x, ← n)
 
-    pub given-ends : length s ≤ i → record { value = v; next = length s } ≡ given s start
+    pub given_ends : length s ≤ i → record { value = v; next = length s } ≡ given s start
     unfolding given
-    given-ends h =
+    given_ends h =
         let w = walk_ends (λ _ b. digit b) s i (first_failing (λ _ b. digit b) start (drop start s)) h f in
         let n : length s ≡ behind s start = omega (arith, w) in
-        let x = value-ends s i v (value_from 0 (drop start s)) h ev in
+        let x = value_ends s i v (value_from 0 (drop start s)) h ev in
         rw (← x, ← n)

@@ -36,15 +36,15 @@ clash p q = absurd (true≢false (rw p at q))
 
 -- a choice came out as c, which one of its two arms can not be
 module _ {A : Type 0} (t : Bool) (a b c : A) where
-  pub came-then : (b ≡ c → ⊥) → (if t then a else b) ≡ c → (t ≡ true) × (a ≡ c)
-  came-then n = go t
+  pub came_then : (b ≡ c → ⊥) → (if t then a else b) ≡ c → (t ≡ true) × (a ≡ c)
+  came_then n = go t
     where
       go : (t : Bool) → (if t then a else b) ≡ c → (t ≡ true) × (a ≡ c)
       go true e = (refl, e)
       go false e = absurd (n e)
 
-  pub came-else : (a ≡ c → ⊥) → (if t then a else b) ≡ c → (t ≡ false) × (b ≡ c)
-  came-else n = go t
+  pub came_else : (a ≡ c → ⊥) → (if t then a else b) ≡ c → (t ≡ false) × (b ≡ c)
+  came_else n = go t
     where
       go : (t : Bool) → (if t then a else b) ≡ c → (t ≡ false) × (b ≡ c)
       go true e = absurd (n e)
@@ -57,30 +57,30 @@ choice false a b c then-arm else_arm e = else_arm refl e
 
 -- tests joined, as a row of early returns meets them: the first fails, or it holds and u is the answer of the rest
 module _ (c : Bool) where
-  pub test-fails : (t a : Bool) → t ≡ a → not t ≡ true → false ≡ (a && c)
-  test-fails t a e q = let g : a ≡ false = sym e ∙ not-true t q in simp g
+  pub test_fails : (t a : Bool) → t ≡ a → not t ≡ true → false ≡ (a && c)
+  test_fails t a e q = let g : a ≡ false = sym e ∙ not-true t q in simp g
 
-  pub test-holds : (u t a : Bool) → t ≡ a → not t ≡ false → u ≡ c → u ≡ (a && c)
-  test-holds u t a e q f = let g : a ≡ true = sym e ∙ not-false t q in simp g f
+  pub test_holds : (u t a : Bool) → t ≡ a → not t ≡ false → u ≡ c → u ≡ (a && c)
+  test_holds u t a e q f = let g : a ≡ true = sym e ∙ not-false t q in simp g f
 
-  pub test-refuses : (t a : Bool) → t ≡ a → t ≡ true → false ≡ (not a && c)
-  test-refuses t a e q = let g : a ≡ true = sym e ∙ q in simp g
+  pub test_refuses : (t a : Bool) → t ≡ a → t ≡ true → false ≡ (not a && c)
+  test_refuses t a e q = let g : a ≡ true = sym e ∙ q in simp g
 
-  pub test-spares : (u t a : Bool) → t ≡ a → t ≡ false → u ≡ c → u ≡ (not a && c)
-  test-spares u t a e q f = let g : a ≡ false = sym e ∙ q in simp g f
+  pub test_spares : (u t a : Bool) → t ≡ a → t ≡ false → u ≡ c → u ≡ (not a && c)
+  test_spares u t a e q f = let g : a ≡ false = sym e ∙ q in simp g f
 
   module _ (a b : ℕ) where
-    pub le-fails : b < a → false ≡ (leb a b && c)
-    le-fails h = simp (lt-leb a b)
+    pub le_fails : b < a → false ≡ (leb a b && c)
+    le_fails h = simp (lt-leb a b)
 
-    pub le-holds : (u : Bool) → a ≤ b → u ≡ c → u ≡ (leb a b && c)
-    le-holds u h f = simp (le-leb a b) f
+    pub le_holds : (u : Bool) → a ≤ b → u ≡ c → u ≡ (leb a b && c)
+    le_holds u h f = simp (le-leb a b) f
 
-    pub eq-fails : (a ≡ b → ⊥) → false ≡ (eqb a b && c)
-    eq-fails n = simp (ne_eqb a b n)
+    pub eq_fails : (a ≡ b → ⊥) → false ≡ (eqb a b && c)
+    eq_fails n = simp (ne_eqb a b n)
 
-    pub eq-holds : (u : Bool) → a ≡ b → u ≡ c → u ≡ (eqb a b && c)
-    eq-holds u e f = simp (eq-eqb a b e) f
+    pub eq_holds : (u : Bool) → a ≡ b → u ≡ c → u ≡ (eqb a b && c)
+    eq_holds u e f = simp (eq-eqb a b e) f
 
 pub test_held : (t a : Bool) → t ≡ a → not t ≡ false → a ≡ true
 test_held t a e q = sym e ∙ not-false t q
@@ -92,35 +92,35 @@ le_told a n x e = rw e
 -- a choice, as the code that makes it meets it: the test t or the comparison of two numbers, and x the answer of the arm taken
 module _ {A : Type 0} (x a b : A) where
   module _ (t c : Bool) (e : t ≡ c) where
-    pub takes-then : t ≡ true → x ≡ a → x ≡ (if c then a else b)
-    takes-then q f = let g : c ≡ true = sym e ∙ q in rw g f
+    pub takes_then : t ≡ true → x ≡ a → x ≡ (if c then a else b)
+    takes_then q f = let g : c ≡ true = sym e ∙ q in rw g f
 
-    pub takes-else : t ≡ false → x ≡ b → x ≡ (if c then a else b)
-    takes-else q f = let g : c ≡ false = sym e ∙ q in rw g f
+    pub takes_else : t ≡ false → x ≡ b → x ≡ (if c then a else b)
+    takes_else q f = let g : c ≡ false = sym e ∙ q in rw g f
 
-    pub not-takes-then : not t ≡ false → x ≡ a → x ≡ (if c then a else b)
-    not-takes-then q f = takes-then (not-false t q) f
+    pub not_takes_then : not t ≡ false → x ≡ a → x ≡ (if c then a else b)
+    not_takes_then q f = takes_then (not-false t q) f
 
-    pub not-takes-else : not t ≡ true → x ≡ b → x ≡ (if c then a else b)
-    not-takes-else q f = takes-else (not-true t q) f
+    pub not_takes_else : not t ≡ true → x ≡ b → x ≡ (if c then a else b)
+    not_takes_else q f = takes_else (not-true t q) f
 
   module _ (m n : ℕ) where
-    pub eq-takes-then : m ≡ n → x ≡ a → x ≡ (if eqb m n then a else b)
-    eq-takes-then e f = rw (eq-eqb m n e) f
+    pub eq_takes_then : m ≡ n → x ≡ a → x ≡ (if eqb m n then a else b)
+    eq_takes_then e f = rw (eq-eqb m n e) f
 
-    pub eq-takes-else : (m ≡ n → ⊥) → x ≡ b → x ≡ (if eqb m n then a else b)
-    eq-takes-else e f = rw (ne_eqb m n e) f
+    pub eq_takes_else : (m ≡ n → ⊥) → x ≡ b → x ≡ (if eqb m n then a else b)
+    eq_takes_else e f = rw (ne_eqb m n e) f
 
 -- tests joined by or, as a row of early returns meets them: the first holds, or it fails and u is the answer of the rest
 module _ (c : Bool) where
-  pub or-here : (t a : Bool) → t ≡ a → t ≡ true → true ≡ (a || c)
-  or-here t a e q = let g : a ≡ true = sym e ∙ q in simp g
+  pub or_here : (t a : Bool) → t ≡ a → t ≡ true → true ≡ (a || c)
+  or_here t a e q = let g : a ≡ true = sym e ∙ q in simp g
 
   pub or_next : (u t a : Bool) → t ≡ a → t ≡ false → u ≡ c → u ≡ (a || c)
   or_next u t a e q f = let g : a ≡ false = sym e ∙ q in simp g f
 
-  pub eq-or-here : (m n : ℕ) → m ≡ n → true ≡ (eqb m n || c)
-  eq-or-here m n e = simp (eq-eqb m n e)
+  pub eq_or_here : (m n : ℕ) → m ≡ n → true ≡ (eqb m n || c)
+  eq_or_here m n e = simp (eq-eqb m n e)
 
-  pub eq-or-next : (u : Bool) (m n : ℕ) → (m ≡ n → ⊥) → u ≡ c → u ≡ (eqb m n || c)
-  eq-or-next u m n e f = simp (ne_eqb m n e) f
+  pub eq_or_next : (u : Bool) (m n : ℕ) → (m ≡ n → ⊥) → u ≡ c → u ≡ (eqb m n || c)
+  eq_or_next u m n e f = simp (ne_eqb m n e) f

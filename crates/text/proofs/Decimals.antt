@@ -11,23 +11,23 @@ use lib.Seq.{drop-cons}
 use Rattle.text.specs.Byte.{digit}
 use Rattle.text.specs.Decimal.{number_from, worth, number}
 use Rattle.text.specs.Scan.{all}
-use Rattle.text.proofs.Bytes.{digit-range}
+use Rattle.text.proofs.Bytes.{digit_range}
 use Rattle.text.proofs.Choices.{and_left, and_right}
 
 -- n is written in front, and the digit here is worth d
 module _ (value : ℕ → ℕ) (s : List ℕ) (i n z : ℕ) where
-  pub number-on :
+  pub number_on_lem :
       (d : ℕ) → i < length s → d ≡ value (get_or s i 0) → number_from value n (drop i s) ≡ z →
       number_from value (10 * n + d) (drop (i + 1) s) ≡ z
-  number-on d h e f = rw (add-one, e) (sym (rw (drop-cons s i 0 h)) ∙ f)
+  number_on_lem d h e f = rw (add-one, e) (sym (rw (drop-cons s i 0 h)) ∙ f)
 
-  pub number-ends : length s ≤ i → number_from value n (drop i s) ≡ z → n ≡ z
-  number-ends h f = sym (rw (drop_of_length-le s h)) ∙ f
+  pub number_ends : length s ≤ i → number_from value n (drop i s) ≡ z → n ≡ z
+  number_ends h f = sym (rw (drop_of_length-le s h)) ∙ f
 
 pub number_below : (s : List ℕ) (a : ℕ) → all digit s ≡ true → number_from worth a s < (a + 1) * 10 ^ length s
 number_below [] a e = omega arith
 number_below (b ∷ s) a e =
-    let r : (48 ≤ b) × (b ≤ 57) = digit-range b (and_left (digit b) (all digit s) e) in
+    let r : (48 ≤ b) × (b ≤ 57) = digit_range b (and_left (digit b) (all digit s) e) in
     let c = 10 * a + (b - 48) in
     let p = number_below s c (and_right (digit b) (all digit s) e) in
     let m : (c + 1) * 10 ^ length s ≤ (a + 1) * 10 * 10 ^ length s = mul-le-mul_right (10 ^ length s) (omega (arith, r)) in

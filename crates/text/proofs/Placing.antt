@@ -15,9 +15,9 @@ use Rattle.text.specs.Placed.{written, placed}
 
 -- the first i bytes of src are in: each premise is a fact that the loop has
 module _ (out₀ : List ℕ) (at : ℕ) (src out : List ℕ) (i : ℕ) where
-  pub copy-again : at + length src ≤ length out₀ → i < length src → out ≡ paste out₀ at src i →
+  pub copy_again : at + length src ≤ length out₀ → i < length src → out ≡ paste out₀ at src i →
       set out (at + i) (get_or src i 0) ≡ paste out₀ at src (i + 1)
-  copy-again r l e = rw (add-one, e) (paste-suc out₀ at src i 0 (omega arith) l)
+  copy_again r l e = rw (add-one, e) (paste-suc out₀ at src i 0 (omega arith) l)
 
   pub copy_done : i ≤ length src → length src ≤ i → out ≡ paste out₀ at src i → out ≡ written out₀ at src
   copy_done h l e = let n : i ≡ length src = omega arith in e ∙ rw (take_all i src l, n)
@@ -37,21 +37,21 @@ module _ (out : List ℕ) (at : ℕ) (src : List ℕ) where
 
 -- what was placed, where it fits
 module _ (out : List ℕ) (at : ℕ) (a : List ℕ) where
-  pub placed-there : at + length a ≤ length out → placed out at a ≡ written out at a
+  pub placed_there : at + length a ≤ length out → placed out at a ≡ written out at a
   unfolding placed
-  placed-there h = rw (le-leb (at + length a) (length out) h)
+  placed_there h = rw (le-leb (at + length a) (length out) h)
 
-  pub placed-none : placed out at [] ≡ out
+  pub placed_none : placed out at [] ≡ out
   unfolding placed
-  placed-none = go (leb (at + 0) (length out))
+  placed_none = go (leb (at + 0) (length out))
     where
       go : (t : Bool) → (if t then written out at [] else out) ≡ out
       go true = rw (add-zero, append-nil) (take-append-drop at out)
       go false = refl
 
-  pub placed-long : length (placed out at a) ≡ length out
+  pub placed_long : length (placed out at a) ≡ length out
   unfolding placed
-  placed-long = go (leb (at + length a) (length out)) refl
+  placed_long = go (leb (at + length a) (length out)) refl
     where
       go : (t : Bool) → leb (at + length a) (length out) ≡ t → length (if t then written out at a else out) ≡ length out
       go true e =
@@ -77,17 +77,17 @@ placed_on out at a b h =
     sym (drop-drop (length b) (at + length a) (take at out ++ a ++ drop (at + length a) out))
     ∙ rw (drop_at (take at out ++ a) (drop (at + length a) out) (at + length a) p) (drop-drop (length b) (at + length a) out)
     in
-    placed-there (placed out at a) (at + length a) b (omega (arith, placed-long out at a))
-    ∙ rw (placed-there out at a (omega arith), placed-there out at (a ++ b) (omega (arith, length-append a b)), t, d, n) (simp append_assoc)
+    placed_there (placed out at a) (at + length a) b (omega (arith, placed_long out at a))
+    ∙ rw (placed_there out at a (omega arith), placed_there out at (a ++ b) (omega (arith, length-append a b)), t, d, n) (simp append_assoc)
 
 -- a part of a run, as much of it as there is
 module _ (s : List ℕ) (at n : ℕ) where
-  pub clip-none : length s < at → [] ≡ take n (drop at s)
-  clip-none h = sym (ap (take n) (drop_of_length-le s {i = at} (omega arith)) ∙ take-nil n)
+  pub clip_none : length s < at → [] ≡ take n (drop at s)
+  clip_none h = sym (ap (take n) (drop_of_length-le s {i = at} (omega arith)) ∙ take-nil n)
 
-  pub clip-less : at ≤ length s → length s - at < n → take (length s - at) (drop at s) ≡ take n (drop at s)
-  clip-less l h = take_all (length s - at) (drop at s) (simp length-drop (omega arith))
+  pub clip_less : at ≤ length s → length s - at < n → take (length s - at) (drop at s) ≡ take n (drop at s)
+  clip_less l h = take_all (length s - at) (drop at s) (simp length-drop (omega arith))
       ∙ sym (take_all n (drop at s) (simp length-drop (omega arith)))
 
-  pub clip-whole : take (at + n - at) (drop at s) ≡ take n (drop at s)
-  clip-whole = let e : at + n - at ≡ n = omega arith in rw e
+  pub clip_whole : take (at + n - at) (drop at s) ≡ take n (drop at s)
+  clip_whole = let e : at + n - at ≡ n = omega arith in rw e

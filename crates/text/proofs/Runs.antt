@@ -13,26 +13,26 @@ use Rattle.text.proofs.Choices.{and_left, and_right, and_both}
 
 -- a test of a byte and its place
 module _ (ok : ℕ → ℕ → Bool) where
-  pub first-least : (i : ℕ) (s : List ℕ) → i ≤ first_failing ok i s
-  first-least i [] = omega arith
-  first-least i (b ∷ s) = go (ok i b) (first-least (suc i) s)
+  pub first_least : (i : ℕ) (s : List ℕ) → i ≤ first_failing ok i s
+  first_least i [] = omega arith
+  first_least i (b ∷ s) = go (ok i b) (first_least (suc i) s)
     where
       go : (t : Bool) → suc i ≤ first_failing ok (suc i) s → i ≤ (if t then first_failing ok (suc i) s else i)
       go true h = omega arith
       go false h = omega arith
 
-  pub first-most : (i : ℕ) (s : List ℕ) → first_failing ok i s ≤ i + length s
-  first-most i [] = omega arith
-  first-most i (b ∷ s) = go (ok i b) (first-most (suc i) s)
+  pub first_most : (i : ℕ) (s : List ℕ) → first_failing ok i s ≤ i + length s
+  first_most i [] = omega arith
+  first_most i (b ∷ s) = go (ok i b) (first_most (suc i) s)
     where
       go : (t : Bool) → first_failing ok (suc i) s ≤ suc i + length s → (if t then first_failing ok (suc i) s else i) ≤ i + suc (length s)
       go true h = omega arith
       go false h = omega arith
 
-  pub first-fails : (i : ℕ) (s : List ℕ) → first_failing ok i s < i + length s →
+  pub first_fails : (i : ℕ) (s : List ℕ) → first_failing ok i s < i + length s →
       ok (first_failing ok i s) (get_or s (first_failing ok i s - i) 0) ≡ false
-  first-fails i [] h = absurd (omega arith)
-  first-fails i (b ∷ s) h = go (ok i b) refl h (λ l. first-fails (suc i) s l)
+  first_fails i [] h = absurd (omega arith)
+  first_fails i (b ∷ s) h = go (ok i b) refl h (λ l. first_fails (suc i) s l)
     where
       go : (t : Bool) → ok i b ≡ t → (if t then first_failing ok (suc i) s else i) < i + suc (length s) →
           (first_failing ok (suc i) s < suc i + length s →
@@ -40,14 +40,14 @@ module _ (ok : ℕ → ℕ → Bool) where
           ok (if t then first_failing ok (suc i) s else i) (get_or (b ∷ s) ((if t then first_failing ok (suc i) s else i) - i) 0) ≡ false
       go true e l on =
           let f = first_failing ok (suc i) s in
-          let k : f - i ≡ suc (f - suc i) = omega (arith, first-least (suc i) s) in
+          let k : f - i ≡ suc (f - suc i) = omega (arith, first_least (suc i) s) in
           rw k (on (omega arith))
       go false e l on = let k : i - i ≡ 0 = omega arith in rw k e
 
   -- what stands in front of the first that fails passes
-  pub first-before : (i : ℕ) (s : List ℕ) (j : ℕ) → i + j < first_failing ok i s → ok (i + j) (get_or s j 0) ≡ true
-  first-before i [] j h = absurd (omega arith)
-  first-before i (b ∷ s) j h = go (ok i b) refl j h (λ k l. first-before (suc i) s k l)
+  pub first_before : (i : ℕ) (s : List ℕ) (j : ℕ) → i + j < first_failing ok i s → ok (i + j) (get_or s j 0) ≡ true
+  first_before i [] j h = absurd (omega arith)
+  first_before i (b ∷ s) j h = go (ok i b) refl j h (λ k l. first_before (suc i) s k l)
     where
       go : (t : Bool) → ok i b ≡ t → (j : ℕ) → i + j < (if t then first_failing ok (suc i) s else i) →
           ((k : ℕ) → suc i + k < first_failing ok (suc i) s → ok (suc i + k) (get_or s k 0) ≡ true) → ok (i + j) (get_or (b ∷ s) j 0) ≡ true
@@ -57,9 +57,9 @@ module _ (ok : ℕ → ℕ → Bool) where
 
 -- a test that does not ask for the place
 module _ (ok : ℕ → Bool) where
-  pub first-shift : (i : ℕ) (s : List ℕ) → first_failing (λ _ b. ok b) i s ≡ i + first_failing (λ _ b. ok b) 0 s
-  first-shift i [] = sym (add-zero i)
-  first-shift i (b ∷ s) = go (ok b) (first-shift (suc i) s) (first-shift 1 s)
+  pub first_shift : (i : ℕ) (s : List ℕ) → first_failing (λ _ b. ok b) i s ≡ i + first_failing (λ _ b. ok b) 0 s
+  first_shift i [] = sym (add-zero i)
+  first_shift i (b ∷ s) = go (ok b) (first_shift (suc i) s) (first_shift 1 s)
     where
       go :
           (t : Bool) → first_failing (λ _ b. ok b) (suc i) s ≡ suc i + first_failing (λ _ b. ok b) 0 s →
@@ -87,9 +87,9 @@ module _ (ok : ℕ → Bool) where
       rw h (omega (arith, run_past (suc i) f x rest (and_right (ok b) (all ok f) e) d))
 
   -- two runs, each in front of a byte that fails the test, are one
-  pub run-once : (f g : List ℕ) (x y : ℕ) (r q : List ℕ) → all ok f ≡ true → all ok g ≡ true → ok x ≡ false → ok y ≡ false →
+  pub run_once : (f g : List ℕ) (x y : ℕ) (r q : List ℕ) → all ok f ≡ true → all ok g ≡ true → ok x ≡ false → ok y ≡ false →
       f ++ x ∷ r ≡ g ++ y ∷ q → (f ≡ g) × (x ∷ r ≡ y ∷ q)
-  run-once f g x y r q e d c b h =
+  run_once f g x y r q e d c b h =
       let n : length f ≡ length g =
       omega (arith, sym (run_past 0 f x r e c) ∙ ap (λ (l : List ℕ). first_failing (λ _ b. ok b) 0 l) h ∙ run_past 0 g y q d b)
       in (

@@ -17,42 +17,42 @@ use Rattle.text.proofs.Choices.{and_left, and_right, and_both, true_or_false}
 
 -- a loop at the place i that has walked over what lies in front of it: each premise is a fact that the loop has
 module _ (ok : ℕ → ℕ → Bool) (s : List ℕ) (i z : ℕ) where
-  pub walk-on : (t : Bool) → i < length s → t ≡ ok i (get_or s i 0) → not t ≡ false → first_failing ok i (drop i s) ≡ z →
+  pub walk_on : (t : Bool) → i < length s → t ≡ ok i (get_or s i 0) → not t ≡ false → first_failing ok i (drop i s) ≡ z →
       first_failing ok (i + 1) (drop (i + 1) s) ≡ z
-  walk-on t h e q f = let g : ok i (get_or s i 0) ≡ true = sym e ∙ not-false t q in rw add-one (sym (rw (drop-cons s i 0, g)) ∙ f)
+  walk_on t h e q f = let g : ok i (get_or s i 0) ≡ true = sym e ∙ not-false t q in rw add-one (sym (rw (drop-cons s i 0, g)) ∙ f)
 
-  pub walk-stops : (t : Bool) → i < length s → t ≡ ok i (get_or s i 0) → not t ≡ true → first_failing ok i (drop i s) ≡ z → i ≡ z
-  walk-stops t h e q f = let g : ok i (get_or s i 0) ≡ false = sym e ∙ not-true t q in sym (rw (drop-cons s i 0, g)) ∙ f
+  pub walk_stops : (t : Bool) → i < length s → t ≡ ok i (get_or s i 0) → not t ≡ true → first_failing ok i (drop i s) ≡ z → i ≡ z
+  walk_stops t h e q f = let g : ok i (get_or s i 0) ≡ false = sym e ∙ not-true t q in sym (rw (drop-cons s i 0, g)) ∙ f
 
   pub walk_ends : length s ≤ i → first_failing ok i (drop i s) ≡ z → i ≡ z
   walk_ends h f = sym (rw (drop_of_length-le s)) ∙ f
 
 -- a loop from start on that is at the place i, and looks for a line feed
 module _ (s : List ℕ) (start i : ℕ) where
-  pub feed-here :
+  pub feed_here :
       (t : Bool) → i < length s → t ≡ in_line (get_or s i 0) → not t ≡ true →
       first_failing (λ _ b. in_line b) i (drop i s) ≡ first_failing (λ _ b. in_line b) start (drop start s) → i ≡ line_feed s start
-  feed-here t h e q f =
-      let w = walk-stops (λ _ b. in_line b) s i (first_failing (λ _ b. in_line b) start (drop start s)) t h e q f in
+  feed_here t h e q f =
+      let w = walk_stops (λ _ b. in_line b) s i (first_failing (λ _ b. in_line b) start (drop start s)) t h e q f in
       omega (arith, w)
 
-  pub feed-nowhere :
+  pub feed_nowhere :
       length s ≤ i → first_failing (λ _ b. in_line b) i (drop i s) ≡ first_failing (λ _ b. in_line b) start (drop start s) →
       length s ≡ line_feed s start
-  feed-nowhere h f =
+  feed_nowhere h f =
       let w = walk_ends (λ _ b. in_line b) s i (first_failing (λ _ b. in_line b) start (drop start s)) h f in
       omega (arith, w)
 
 -- where the walk passes over every byte, each passes the test, and the other way round
 module _ (ok : ℕ → ℕ → Bool) where
-  pub none-fails : (i : ℕ) (s : List ℕ) → i + length s ≤ first_failing ok i s → (j : ℕ) → j < length s → ok (i + j) (get_or s j 0) ≡ true
-  none-fails i [] h j l = absurd (not-suc-le-zero l)
-  none-fails i (b ∷ s) h zero l = rw add-zero (go (ok i b) refl h)
+  pub none_fails : (i : ℕ) (s : List ℕ) → i + length s ≤ first_failing ok i s → (j : ℕ) → j < length s → ok (i + j) (get_or s j 0) ≡ true
+  none_fails i [] h j l = absurd (not-suc-le-zero l)
+  none_fails i (b ∷ s) h zero l = rw add-zero (go (ok i b) refl h)
     where
       go : (t : Bool) → ok i b ≡ t → i + suc (length s) ≤ (if t then first_failing ok (suc i) s else i) → ok i b ≡ true
       go true e h = e
       go false e h = absurd (omega arith)
-  none-fails i (b ∷ s) h (suc j) l = rw (add-suc i j, ← suc-add i j) (none-fails (suc i) s (go (ok i b) h) j (le_of_suc-le-suc l))
+  none_fails i (b ∷ s) h (suc j) l = rw (add-suc i j, ← suc-add i j) (none_fails (suc i) s (go (ok i b) h) j (le_of_suc-le-suc l))
     where
       go : (t : Bool) → i + suc (length s) ≤ (if t then first_failing ok (suc i) s else i) → suc i + length s ≤ first_failing ok (suc i) s
       go true h = omega arith
@@ -66,20 +66,20 @@ module _ (ok : ℕ → ℕ → Bool) where
 
 -- whether all pass
 module _ (ok : ℕ → Bool) (s : List ℕ) (i : ℕ) (z : Bool) where
-  pub all-on : (t : Bool) → i < length s → t ≡ ok (get_or s i 0) → not t ≡ false → all ok (drop i s) ≡ z → all ok (drop (i + 1) s) ≡ z
-  all-on t h e q f = let g : ok (get_or s i 0) ≡ true = sym e ∙ not-false t q in rw add-one (sym (rw (drop-cons s i 0, g)) ∙ f)
+  pub all_on : (t : Bool) → i < length s → t ≡ ok (get_or s i 0) → not t ≡ false → all ok (drop i s) ≡ z → all ok (drop (i + 1) s) ≡ z
+  all_on t h e q f = let g : ok (get_or s i 0) ≡ true = sym e ∙ not-false t q in rw add-one (sym (rw (drop-cons s i 0, g)) ∙ f)
 
-  pub all-stops : (t : Bool) → i < length s → t ≡ ok (get_or s i 0) → not t ≡ true → all ok (drop i s) ≡ z → false ≡ z
-  all-stops t h e q f = let g : ok (get_or s i 0) ≡ false = sym e ∙ not-true t q in sym (rw (drop-cons s i 0, g)) ∙ f
+  pub all_stops : (t : Bool) → i < length s → t ≡ ok (get_or s i 0) → not t ≡ true → all ok (drop i s) ≡ z → false ≡ z
+  all_stops t h e q f = let g : ok (get_or s i 0) ≡ false = sym e ∙ not-true t q in sym (rw (drop-cons s i 0, g)) ∙ f
 
-  pub all-ends : length s ≤ i → all ok (drop i s) ≡ z → true ≡ z
-  all-ends h f = sym (rw (drop_of_length-le s)) ∙ f
+  pub all_ends : length s ≤ i → all ok (drop i s) ≡ z → true ≡ z
+  all_ends h f = sym (rw (drop_of_length-le s)) ∙ f
 
 module _ (ok : ℕ → Bool) where
-  pub all-at : (s : List ℕ) → all ok s ≡ true → (j : ℕ) → j < length s → ok (get_or s j 0) ≡ true
-  all-at [] e j l = absurd (not-suc-le-zero l)
-  all-at (b ∷ s) e zero l = and_left (ok b) (all ok s) e
-  all-at (b ∷ s) e (suc j) l = all-at s (and_right (ok b) (all ok s) e) j (le_of_suc-le-suc l)
+  pub all_at : (s : List ℕ) → all ok s ≡ true → (j : ℕ) → j < length s → ok (get_or s j 0) ≡ true
+  all_at [] e j l = absurd (not-suc-le-zero l)
+  all_at (b ∷ s) e zero l = and_left (ok b) (all ok s) e
+  all_at (b ∷ s) e (suc j) l = all_at s (and_right (ok b) (all ok s) e) j (le_of_suc-le-suc l)
 
   pub all_of : (s : List ℕ) → ((j : ℕ) → j < length s → ok (get_or s j 0) ≡ true) → all ok s ≡ true
   all_of [] p = refl
@@ -87,38 +87,38 @@ module _ (ok : ℕ → Bool) where
 
 -- how many pass: n of those in front, and d of the byte here
 module _ (ok : ℕ → Bool) (s : List ℕ) (i n z : ℕ) where
-  pub count-on :
+  pub count_on :
       (d : ℕ) → i < length s → d ≡ (if ok (get_or s i 0) then 1 else 0) → n + count ok (drop i s) ≡ z → n + d + count ok (drop (i + 1) s) ≡ z
-  count-on d h e f =
+  count_on d h e f =
       let g : count ok (drop i s) ≡ d + count ok (drop (i + 1) s) = rw (add-one, e, drop-cons s i 0) in
       omega (arith, f, g)
 
-  pub count-ends : length s ≤ i → n + count ok (drop i s) ≡ z → n ≡ z
-  count-ends h f = sym (rw (drop_of_length-le s h, add-zero)) ∙ f
+  pub count_ends : length s ≤ i → n + count ok (drop i s) ≡ z → n ≡ z
+  count_ends h f = sym (rw (drop_of_length-le s h, add-zero)) ∙ f
 
 -- whether one of them is a
 module _ (a : ℕ) (s : List ℕ) (i : ℕ) (z : Bool) where
-  pub among-on : i < length s → (a ≡ get_or s i 0 → ⊥) → among a (drop i s) ≡ z → among a (drop (i + 1) s) ≡ z
-  among-on h n f = rw add-one (sym (rw (drop-cons s i 0, ne_eqb a (get_or s i 0) n)) ∙ f)
+  pub among_on : i < length s → (a ≡ get_or s i 0 → ⊥) → among a (drop i s) ≡ z → among a (drop (i + 1) s) ≡ z
+  among_on h n f = rw add-one (sym (rw (drop-cons s i 0, ne_eqb a (get_or s i 0) n)) ∙ f)
 
-  pub among-here : i < length s → a ≡ get_or s i 0 → among a (drop i s) ≡ z → true ≡ z
-  among-here h e f = sym (rw (drop-cons s i 0, eq-eqb a (get_or s i 0) e)) ∙ f
+  pub among_here : i < length s → a ≡ get_or s i 0 → among a (drop i s) ≡ z → true ≡ z
+  among_here h e f = sym (rw (drop-cons s i 0, eq-eqb a (get_or s i 0) e)) ∙ f
 
-  pub among-ends : length s ≤ i → among a (drop i s) ≡ z → false ≡ z
-  among-ends h f = sym (rw (drop_of_length-le s)) ∙ f
+  pub among_ends : length s ≤ i → among a (drop i s) ≡ z → false ≡ z
+  among_ends h f = sym (rw (drop_of_length-le s)) ∙ f
 
 -- two runs of one length side by side
 module _ (ok : ℕ → ℕ → Bool) (a b : List ℕ) (l : length a ≡ length b) (i : ℕ) (z : Bool) where
-  pub pair-on :
+  pub pair_on :
       (t : Bool) → i < length a → t ≡ ok (get_or a i 0) (get_or b i 0) → not t ≡ false → paired ok (drop i a) (drop i b) ≡ z →
       paired ok (drop (i + 1) a) (drop (i + 1) b) ≡ z
-  pair-on t h e q f =
+  pair_on t h e q f =
       let g : ok (get_or a i 0) (get_or b i 0) ≡ true = sym e ∙ not-false t q in
       rw add-one (sym (rw (drop-cons a i 0 h, drop-cons b i 0 (omega arith), g)) ∙ f)
 
-  pub pair-stops :
+  pub pair_stops :
       (t : Bool) → i < length a → t ≡ ok (get_or a i 0) (get_or b i 0) → not t ≡ true → paired ok (drop i a) (drop i b) ≡ z → false ≡ z
-  pair-stops t h e q f =
+  pair_stops t h e q f =
       let g : ok (get_or a i 0) (get_or b i 0) ≡ false = sym e ∙ not-true t q in
       sym (rw (drop-cons a i 0 h, drop-cons b i 0 (omega arith), g)) ∙ f
 
@@ -136,12 +136,12 @@ pair_unlike ok a b n = ⊎_elim (λ e. absurd (n (pair_lengths ok a b e))) (λ e
 
 -- the test of equality, as a loop meets it
 module _ (a b : List ℕ) (l : length a ≡ length b) (i : ℕ) (z : Bool) where
-  pub same-on :
+  pub same_on :
       i < length a → get_or a i 0 ≡ get_or b i 0 → same (drop i a) (drop i b) ≡ z → same (drop (i + 1) a) (drop (i + 1) b) ≡ z
-  same-on h e f = pair-on eqb a b l i z true h (sym (eq-eqb (get_or a i 0) (get_or b i 0) e)) refl f
+  same_on h e f = pair_on eqb a b l i z true h (sym (eq-eqb (get_or a i 0) (get_or b i 0) e)) refl f
 
-  pub same-stops : i < length a → (get_or a i 0 ≡ get_or b i 0 → ⊥) → same (drop i a) (drop i b) ≡ z → false ≡ z
-  same-stops h n f = pair-stops eqb a b l i z false h (sym (ne_eqb (get_or a i 0) (get_or b i 0) n)) refl f
+  pub same_stops : i < length a → (get_or a i 0 ≡ get_or b i 0 → ⊥) → same (drop i a) (drop i b) ≡ z → false ≡ z
+  same_stops h n f = pair_stops eqb a b l i z false h (sym (ne_eqb (get_or a i 0) (get_or b i 0) n)) refl f
 
 pub same_eq : (a b : List ℕ) → same a b ≡ true → a ≡ b
 same_eq [] [] e = refl

@@ -9,7 +9,7 @@ use lib.Seq.{take_at}
 use borrow.Author.Tests.{le-leb, lt-leb, ne_eqb, not-false}
 use Rattle.text.specs.Quoted.{bytes}
 use Rattle.text.specs.Placed.{written, placed}
-use Rattle.text.proofs.Placing.{placed-there}
+use Rattle.text.proofs.Placing.{placed_there}
 use Rattle.refusal.specs.declared.Reason.TheVariants.{UnknownRecord, FieldCount, FeatureLacks, OutputTooShort, FieldEnds}
 use Rattle.refusal.specs.Table.{because}
 use Rattle.refusal.specs.declared.Refusal.{Refusal}
@@ -25,15 +25,15 @@ use Rattle.line.specs.declared.walk.Walk.{Walk}
 use Rattle.line.specs.declared.walk.Walk.TheVariants.{Fine, Stopped}
 use Rattle.fields.proofs.Rules.{within, count_le, sound}
 use Rattle.line.specs.Render.{text_of, render, plain, all_in}
-use Rattle.line.proofs.Plain.{render_long, plain-split}
-use Rattle.line.proofs.Passing.{Each, fine-each}
+use Rattle.line.proofs.Plain.{render_long, plain_split}
+use Rattle.line.proofs.Passing.{Each, fine_each}
 use Rattle.writer.specs.Write.{record_numbered, ends_hold, between, tested_to_write, next_number, walked, of_fields, after_walk}
 use Rattle.writer.specs.Write.{of_record, answer_under, line_to, written_to}
 use Rattle.writer.specs.declared.write.WriteAnswer.{WriteAnswer}
 use Rattle.writer.specs.declared.write.WriteAnswer.TheVariants.{Written, Refused}
 use Rattle.writer.proofs.Ends.{between_count}
-use Rattle.writer.proofs.Walks.{walked-plain, walked-le}
-use Rattle.writer.proofs.Puts.{together-long}
+use Rattle.writer.proofs.Walks.{walked_plain, walked_le}
+use Rattle.writer.proofs.Puts.{together_long}
 
 -- the record's number, by the arm that names it
 pub number_is : (n case : ℕ) (nd : Named) → n ≡ case → nd ≡ record_numbered case → nd ≡ record_numbered n
@@ -47,21 +47,21 @@ number_none n h1 h2 h3 h4 h5 h6 = simp (ne_eqb n 10 h1, ne_eqb n 20 h2, ne_eqb n
 -- each field of a fine walk passes
 each : (rows : List Row) (kind : Record) (text ends : List ℕ) → walked rows 1 (type_of kind) (between text ends) ≡ Fine →
     Each (tested_to_write rows) 1 (type_of kind) (between text ends)
-each rows kind text ends e = fine-each (tested_to_write rows) next_number 1 1 (type_of kind) (between text ends) e
+each rows kind text ends e = fine_each (tested_to_write rows) next_number 1 1 (type_of kind) (between text ends) e
 
 -- good fields, put together as a line at the front of a room: 9, then 13
 module _ (kind : Record) (text ends room line : List ℕ) (long : ℕ) (fits : length text + length ends + 5 ≤ length room)
     (en : long ≡ length (render kind (between text ends))) (em : long ≡ length text + length ends + 5)
     (el : line ≡ placed room 0 (render kind (between text ends))) where
   stands : line ≡ written room 0 (render kind (between text ends))
-  stands = el ∙ placed-there room 0 (render kind (between text ends)) (omega arith)
+  stands = el ∙ placed_there room 0 (render kind (between text ends)) (omega arith)
 
   line_taken : take long line ≡ render kind (between text ends)
   line_taken = rw stands (take_at (render kind (between text ends)) (drop (0 + length (render kind (between text ends))) room) long
       (sym en))
 
-  text-taken : take (long - 2) line ≡ text_of kind (between text ends)
-  text-taken =
+  text_taken : take (long - 2) line ≡ text_of kind (between text ends)
+  text_taken =
       let rest = drop (0 + length (render kind (between text ends))) room in
       ap (take (long - 2)) (stands ∙ append_assoc (text_of kind (between text ends)) (bytes "\r\n") rest)
       ∙ take_at (text_of kind (between text ends)) (bytes "\r\n" ++ rest) (long - 2)
@@ -70,17 +70,17 @@ module _ (kind : Record) (text ends room line : List ℕ) (long : ℕ) (fits : l
   module _ (clean : all_in plain (between text ends) ≡ true) (t : Bool) (et : t ≡ lacks kind (split (take (long - 2) line)))
       (size fill : ℕ) where
     asked : t ≡ lacks kind (type_of kind ∷ between text ends)
-    asked = et ∙ ap (λ (l : List ℕ). lacks kind (split l)) text-taken
-        ∙ ap (lacks kind) (plain-split kind (between text ends) clean)
+    asked = et ∙ ap (λ (l : List ℕ). lacks kind (split l)) text_taken
+        ∙ ap (lacks kind) (plain_split kind (between text ends) clean)
 
-    pub fields-lack : t ≡ true → Refused (because FeatureLacks 0) ≡ of_fields kind (between text ends) size fill
+    pub fields_lack : t ≡ true → Refused (because FeatureLacks 0) ≡ of_fields kind (between text ends) size fill
     unfolding of_fields
-    fields-lack e = rw (← asked, e)
+    fields_lack e = rw (← asked, e)
 
     module _ (has : t ≡ false) where
-      pub fill-past : size < fill → Refused (because OutputTooShort 0) ≡ of_fields kind (between text ends) size fill
+      pub fill_past : size < fill → Refused (because OutputTooShort 0) ≡ of_fields kind (between text ends) size fill
       unfolding of_fields
-      fill-past h = rw (← asked, has, ← en, lt-leb (fill + long) size (omega arith))
+      fill_past h = rw (← asked, has, ← en, lt-leb (fill + long) size (omega arith))
 
       pub too_short : fill ≤ size → size - fill < long → Refused (because OutputTooShort 0) ≡ of_fields kind (between text ends) size fill
       unfolding of_fields
@@ -93,37 +93,37 @@ module _ (kind : Record) (text ends room line : List ℕ) (long : ℕ) (fits : l
   pub line_there : (out after : List ℕ) (fill : ℕ) → fill ≤ length out → long ≤ length out - fill →
       after ≡ placed out fill (take long line) → after ≡ written out fill (render kind (between text ends))
   line_there out after fill l h e = e ∙ ap (placed out fill) line_taken
-      ∙ placed-there out fill (render kind (between text ends)) (omega (arith, en))
+      ∙ placed_there out fill (render kind (between text ends)) (omega (arith, en))
 
 -- the record
 module _ (rules : Rules) (number : ℕ) (text ends : List ℕ) (size fill : ℕ) (nd : Named) (ed : nd ≡ record_numbered number) where
-  pub number-unknown : nd ≡ Unknown → Refused (because UnknownRecord 0) ≡ answer_under rules number text ends size fill
+  pub number_unknown : nd ≡ Unknown → Refused (because UnknownRecord 0) ≡ answer_under rules number text ends size fill
   unfolding answer_under of_record
-  number-unknown e = rw (← ed, e)
+  number_unknown e = rw (← ed, e)
 
-  pub number-known : (kind : Record) → nd ≡ Known kind → (a : WriteAnswer) → a ≡ of_record rules (Known kind) text ends size fill →
+  pub number_known : (kind : Record) → nd ≡ Known kind → (a : WriteAnswer) → a ≡ of_record rules (Known kind) text ends size fill →
       a ≡ answer_under rules number text ends size fill
   unfolding answer_under
-  number-known kind e a ea = rw (← ed, e) ea
+  number_known kind e a ea = rw (← ed, e) ea
 
 -- the ends, then the count
 module _ (kind : Record) (text ends : List ℕ) (size fill : ℕ) (t : Bool) (et : t ≡ ends_hold ends (length text)) where
-  pub ends-wrong : (rules : Rules) → not t ≡ true → Refused (because FieldEnds 0) ≡ of_record rules (Known kind) text ends size fill
+  pub ends_wrong : (rules : Rules) → not t ≡ true → Refused (because FieldEnds 0) ≡ of_record rules (Known kind) text ends size fill
   unfolding of_record
-  ends-wrong rules e = rw (← et, e)
+  ends_wrong rules e = rw (← et, e)
 
   module _ (hold : not t ≡ false) where
     pub ends_held : ends_hold ends (length text) ≡ true
     ends_held = sym et ∙ not-false t hold
 
     module _ (u : Bool) (eu : u ≡ count_fits kind (length ends)) where
-      pub count-wrong : (rules : Rules) → not u ≡ true → Refused (because FieldCount 0) ≡ of_record rules (Known kind) text ends size fill
+      pub count_wrong : (rules : Rules) → not u ≡ true → Refused (because FieldCount 0) ≡ of_record rules (Known kind) text ends size fill
       unfolding of_record
-      count-wrong rules e = rw (← et, hold, ← eu, e)
+      count_wrong rules e = rw (← et, hold, ← eu, e)
 
       module _ (right : not u ≡ false) where
-        pub count-right : count_fits kind (length ends) ≡ true
-        count-right = sym eu ∙ not-false u right
+        pub count_right : count_fits kind (length ends) ≡ true
+        count_right = sym eu ∙ not-false u right
 
         pub counted : (rules : Rules) (a : WriteAnswer) →
             a ≡ after_walk (walked (rules kind) 1 (type_of kind) (between text ends)) kind (between text ends) size fill →
@@ -133,41 +133,41 @@ module _ (kind : Record) (text ends : List ℕ) (size fill : ℕ) (t : Bool) (et
 
 -- the fields
 module _ (rows : List Row) (kind : Record) (text ends : List ℕ) (w : Walk) (ew : w ≡ walked rows 1 (type_of kind) (between text ends)) where
-  pub field-wrong : (size fill : ℕ) (refusal : Refusal) → w ≡ Stopped refusal →
+  pub field_wrong : (size fill : ℕ) (refusal : Refusal) → w ≡ Stopped refusal →
       Refused refusal ≡ after_walk (walked rows 1 (type_of kind) (between text ends)) kind (between text ends) size fill
-  field-wrong size fill refusal e = rw (← ew, e)
+  field_wrong size fill refusal e = rw (← ew, e)
 
   module _ (fine : w ≡ Fine) where
     passing : Each (tested_to_write rows) 1 (type_of kind) (between text ends)
     passing = each rows kind text ends (sym ew ∙ fine)
 
-    pub fields-plain : all_in plain (between text ends) ≡ true
-    fields-plain = walked-plain rows 1 (type_of kind) (between text ends) passing
+    pub fields_plain : all_in plain (between text ends) ≡ true
+    fields_plain = walked_plain rows 1 (type_of kind) (between text ends) passing
 
-    pub fields-good : (size fill : ℕ) (a : WriteAnswer) → a ≡ of_fields kind (between text ends) size fill →
+    pub fields_good : (size fill : ℕ) (a : WriteAnswer) → a ≡ of_fields kind (between text ends) size fill →
         a ≡ after_walk (walked rows 1 (type_of kind) (between text ends)) kind (between text ends) size fill
-    fields-good size fill a ea = rw (← ew, fine) ea
+    fields_good size fill a ea = rw (← ew, fine) ea
 
-    pub fields-small : within rows ≡ true → ends_hold ends (length text) ≡ true → count_fits kind (length ends) ≡ true →
+    pub fields_small : within rows ≡ true → ends_hold ends (length text) ≡ true → count_fits kind (length ends) ≡ true →
         length text + length ends + 5 ≤ 4096
-    fields-small narrow hold right =
+    fields_small narrow hold right =
         let c = count_le kind (length ends) right in
-        let f = walked-le rows narrow 1 (type_of kind) (between text ends) passing in
-        omega (arith, c, f, between_count text ends, together-long kind text ends hold)
+        let f = walked_le rows narrow 1 (type_of kind) (between text ends) passing in
+        omega (arith, c, f, between_count text ends, together_long kind text ends hold)
 
 pub line_small : (version : Version) (kind : Record) (text ends : List ℕ) (w : Walk) →
     w ≡ walked (profile version kind) 1 (type_of kind) (between text ends) → w ≡ Fine → ends_hold ends (length text) ≡ true →
     count_fits kind (length ends) ≡ true → length text + length ends + 5 ≤ 4096
-line_small version kind text ends w ew fine = fields-small (profile version kind) kind text ends w ew fine ((sound version).narrows kind)
+line_small version kind text ends w ew fine = fields_small (profile version kind) kind text ends w ew fine ((sound version).narrows kind)
 
 -- the line put together: as much of it as is asked is there
 module _ (text ends room line : List ℕ) (long : ℕ) (fits : length text + length ends + 5 ≤ length room) (kept : length line ≡ length room)
     (en : long ≡ length text + length ends + 5) where
-  pub line-long : long ≡ length (take long line)
-  line-long = omega (arith, length-take long line)
+  pub line_long : long ≡ length (take long line)
+  line_long = omega (arith, length-take long line)
 
-  pub text-long : long - 2 ≡ length (take (long - 2) line)
-  text-long = omega (arith, length-take (long - 2) line)
+  pub text_long : long - 2 ≡ length (take (long - 2) line)
+  text_long = omega (arith, length-take (long - 2) line)
 
 -- the output
 pub output_stays : (refusal : Refusal) (nd : Named) (fs : List (List ℕ)) (out : List ℕ) (fill : ℕ) →

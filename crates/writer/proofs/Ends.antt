@@ -18,11 +18,11 @@ module _ (long : ℕ) (ends : List ℕ) (i start : ℕ) (z : Bool) (left : rises
   pub ends_on : i < length ends → start ≤ get_or ends i 0 → rises_to long (get_or ends i 0) (drop (i + 1) ends) ≡ z
   ends_on h l = rw add-one (sym (rw (drop-cons ends i 0, le-leb start (get_or ends i 0))) ∙ left)
 
-  pub ends-fall : i < length ends → get_or ends i 0 < start → false ≡ z
-  ends-fall h l = sym (rw (drop-cons ends i 0, lt-leb start (get_or ends i 0))) ∙ left
+  pub ends_fall : i < length ends → get_or ends i 0 < start → false ≡ z
+  ends_fall h l = sym (rw (drop-cons ends i 0, lt-leb start (get_or ends i 0))) ∙ left
 
-  pub ends-end : length ends ≤ i → eqb start long ≡ z
-  ends-end h = sym (rw (drop_of_length-le ends)) ∙ left
+  pub ends_end : length ends ≤ i → eqb start long ≡ z
+  ends_end h = sym (rw (drop_of_length-le ends)) ∙ left
 
 pub rises_le : (long start : ℕ) (ends : List ℕ) → rises_to long start ends ≡ true → start ≤ long
 rises_le long start [] e = omega (arith, eqb-true start long e)
@@ -35,14 +35,14 @@ module _ (long : ℕ) (ends : List ℕ) (i start : ℕ) (left : rises_to long st
   here : (leb start (get_or ends i 0) && rises_to long (get_or ends i 0) (drop (i + 1) ends)) ≡ true
   here = rw add-one (sym (rw (drop-cons ends i 0)) ∙ left)
 
-  pub end-rises : start ≤ get_or ends i 0
-  end-rises = leb-true start (get_or ends i 0) (and_left (leb start (get_or ends i 0)) (rises_to long (get_or ends i 0) (drop (i + 1) ends)) here)
+  pub end_rises : start ≤ get_or ends i 0
+  end_rises = leb-true start (get_or ends i 0) (and_left (leb start (get_or ends i 0)) (rises_to long (get_or ends i 0) (drop (i + 1) ends)) here)
 
-  pub rest-rises : rises_to long (get_or ends i 0) (drop (i + 1) ends) ≡ true
-  rest-rises = and_right (leb start (get_or ends i 0)) (rises_to long (get_or ends i 0) (drop (i + 1) ends)) here
+  pub rest_rises : rises_to long (get_or ends i 0) (drop (i + 1) ends) ≡ true
+  rest_rises = and_right (leb start (get_or ends i 0)) (rises_to long (get_or ends i 0) (drop (i + 1) ends)) here
 
-  pub end-inside : get_or ends i 0 ≤ long
-  end-inside = rises_le long (get_or ends i 0) (drop (i + 1) ends) rest-rises
+  pub end_inside : get_or ends i 0 ≤ long
+  end_inside = rises_le long (get_or ends i 0) (drop (i + 1) ends) rest_rises
 
 -- a field is as long as its ends say
 pub field_long : (text : List ℕ) (start end : ℕ) → start ≤ end → end ≤ length text →

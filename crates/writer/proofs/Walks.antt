@@ -8,7 +8,7 @@ use native.Mathlib.Omega.{arith}
 use lib.ListN.{length, take, drop, get_or, drop_of_length-le}
 use lib.Seq.{drop-cons}
 use Rattle.text.specs.Scan.{all}
-use Rattle.text.proofs.Choices.{and_both, came-then}
+use Rattle.text.proofs.Choices.{and_both, came_then}
 use Rattle.refusal.specs.declared.Reason.{Reason}
 use Rattle.refusal.specs.declared.Reason.TheVariants.{FieldForm}
 use Rattle.refusal.specs.Table.{because}
@@ -24,23 +24,23 @@ use Rattle.fields.proofs.Rules.{within, width_le, sound}
 use Rattle.line.specs.Render.{joined, plain, all_in}
 use Rattle.line.specs.Walk.{on_test}
 use Rattle.line.specs.declared.walk.Walk.TheVariants.{Fine, Stopped}
-use Rattle.line.proofs.Passing.{Each, each-le}
+use Rattle.line.proofs.Passing.{Each, each_le}
 use Rattle.writer.specs.Write.{rises_to, ends_hold, fields_from, between, if_plain, tested_to_write, walked}
-use Rattle.writer.proofs.Ends.{end-rises, rest-rises, end-inside}
+use Rattle.writer.proofs.Ends.{end_rises, rest_rises, end_inside}
 
 module _ (rows : List Row) (n : ℕ) (beside f : List ℕ) (t : Tested) (et : t ≡ tested rows n beside f) where
-  pub test-bad : (why : Reason) → t ≡ Bad why → Bad why ≡ tested_to_write rows n beside f
+  pub test_bad : (why : Reason) → t ≡ Bad why → Bad why ≡ tested_to_write rows n beside f
   unfolding tested_to_write
-  test-bad why e = rw (← et, e)
+  test_bad why e = rw (← et, e)
 
   module _ (good : t ≡ Good) (p : Bool) (ep : p ≡ all plain f) where
     pub test_good : p ≡ true → Good ≡ tested_to_write rows n beside f
     unfolding tested_to_write
     test_good e = rw (← et, good, ← ep, e)
 
-    pub test-other : p ≡ false → Bad FieldForm ≡ tested_to_write rows n beside f
+    pub test_other : p ≡ false → Bad FieldForm ≡ tested_to_write rows n beside f
     unfolding tested_to_write
-    test-other e = rw (← et, good, ← ep, e)
+    test_other e = rw (← et, good, ← ep, e)
 
 -- no rule of a first field looks beside it
 besides_alike : (rows : List Row) → ((b c f : List ℕ) → tested rows 1 b f ≡ tested rows 1 c f) → (b c : List ℕ) (fs : List (List ℕ)) →
@@ -72,15 +72,15 @@ walking_none version kind text ends e =
     }
 
 module _ (rows : List Row) (kind : Record) (text ends : List ℕ) (beside start i : ℕ) (g : Walking rows kind text ends beside start i) where
-  pub walking-done : length ends ≤ i → Fine ≡ walked rows 1 (type_of kind) (between text ends)
-  walking-done h = sym (rw (drop_of_length-le ends)) ∙ g.left
+  pub walking_done : length ends ≤ i → Fine ≡ walked rows 1 (type_of kind) (between text ends)
+  walking_done h = sym (rw (drop_of_length-le ends)) ∙ g.left
 
   module _ (h : i < length ends) where
-    pub next-rises : start ≤ get_or ends i 0
-    next-rises = end-rises (length text) ends i start g.rises h
+    pub next_rises : start ≤ get_or ends i 0
+    next_rises = end_rises (length text) ends i start g.rises h
 
-    pub next-inside : get_or ends i 0 ≤ length text
-    next-inside = end-inside (length text) ends i start g.rises h
+    pub next_inside : get_or ends i 0 ≤ length text
+    next_inside = end_inside (length text) ends i start g.rises h
 
     module _ (t : Tested) (et : t ≡ tested_to_write rows (i + 1) (take (start - beside) (drop beside text))
         (take (get_or ends i 0 - start) (drop start text))) where
@@ -94,9 +94,9 @@ module _ (rows : List Row) (kind : Record) (text ends : List ℕ) (beside start 
           (sym (ap (λ (l : List ℕ). walked rows (i + 1) (take (start - beside) (drop beside text)) (fields_from start text l))
           (drop-cons ends i 0 h)) ∙ g.left)
 
-      pub walking-stops : (why : Reason) → t ≡ Bad why →
+      pub walking_stops : (why : Reason) → t ≡ Bad why →
           Stopped (because why (i + 1)) ≡ walked rows 1 (type_of kind) (between text ends)
-      walking-stops why e = rw e at turn
+      walking_stops why e = rw e at turn
 
       pub walking_on : t ≡ Good → Walking rows kind text ends start (get_or ends i 0) (i + 1)
       walking_on e =
@@ -104,9 +104,9 @@ module _ (rows : List Row) (kind : Record) (text ends : List ℕ) (beside start 
           rows 1 (type_of kind) (between text ends) = rw e at turn in
           record {
             counted = omega arith;
-            behind = next-rises;
-            inside = next-inside;
-            rises = rest-rises (length text) ends i start g.rises h;
+            behind = next_rises;
+            inside = next_inside;
+            rises = rest_rises (length text) ends i start g.rises h;
             left =
                 ap (λ (n : ℕ). walked rows n field (fields_from (get_or ends i 0) text (drop (i + 1) ends))) (add-one (i + 1))
                 ∙ ap (λ (n : ℕ). walked rows (suc (i + 1)) field (fields_from (get_or ends i 0) text (drop n ends))) (add-one i)
@@ -121,7 +121,7 @@ test_passes rows n beside f e = go (tested rows n beside f) e
   where
     go : (t : Tested) → if_plain t f ≡ Good → (t ≡ Good) × (all plain f ≡ true)
     go (Bad why) e = absurd (bad e)
-    go Good e = (refl, (came-then (all plain f) Good (Bad FieldForm) Good bad e).0)
+    go Good e = (refl, (came_then (all plain f) Good (Bad FieldForm) Good bad e).0)
 
 pub passes_test : (rows : List Row) (n : ℕ) (beside f : List ℕ) → tested rows n beside f ≡ Good → all plain f ≡ true →
     tested_to_write rows n beside f ≡ Good
@@ -130,12 +130,12 @@ passes_test rows n beside f e p = rw (e, p)
 
 -- the fields of a fine walk: plain bytes, and not too many
 module _ (rows : List Row) where
-  pub walked-plain : (n : ℕ) (beside : List ℕ) (fs : List (List ℕ)) → Each (tested_to_write rows) n beside fs → all_in plain fs ≡ true
-  walked-plain n beside [] g = refl
-  walked-plain n beside (f ∷ fs) g = and_both (all plain f) (all_in plain fs) (test_passes rows n beside f g.0).1
-      (walked-plain (suc n) f fs g.1)
+  pub walked_plain : (n : ℕ) (beside : List ℕ) (fs : List (List ℕ)) → Each (tested_to_write rows) n beside fs → all_in plain fs ≡ true
+  walked_plain n beside [] g = refl
+  walked_plain n beside (f ∷ fs) g = and_both (all plain f) (all_in plain fs) (test_passes rows n beside f g.0).1
+      (walked_plain (suc n) f fs g.1)
 
-  pub walked-le : within rows ≡ true → (n : ℕ) (beside : List ℕ) (fs : List (List ℕ)) → Each (tested_to_write rows) n beside fs →
+  pub walked_le : within rows ≡ true → (n : ℕ) (beside : List ℕ) (fs : List (List ℕ)) → Each (tested_to_write rows) n beside fs →
       length (joined fs) ≤ 101 * length fs
-  walked-le w = each-le (tested_to_write rows)
+  walked_le w = each_le (tested_to_write rows)
       (λ n b f e. omega (arith, (good_passed rows n b f (test_passes rows n b f e).0).fits, width_le rows n b w))

@@ -3,12 +3,12 @@ use Prim.Native.Nat.{◌≤◌, ◌-◌}
 use mathlib.Core.Path.{◌≡◌}
 use lib.ListN.{length, drop}
 use Rattle.countries.specs.List.{is_listed}
-use Rattle.countries.proofs.Lists.{listed_here, listed-on, listed_none}
+use Rattle.countries.proofs.Lists.{listed_here, listed_on, listed_none}
 use borrow.Author.Rules.{rules}
 use Rattle.countries.proofs.is_listed.Statement.{statement}
 use Rattle.countries.proofs.is_listed.Tie as tie
 
-ruleset laws = (rules, listed_here, listed-on, listed_none)
+ruleset laws = (rules, listed_here, listed_on, listed_none)
 
 abbrev invariant-loop : tie.invariant-loop
 invariant-loop countries country i₀ i = (i ≤ length countries) × (is_listed (drop i countries) country ≡ is_listed countries country)

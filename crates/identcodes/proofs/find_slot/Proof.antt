@@ -1,12 +1,12 @@
 -- `identcodes::find_slot` meets its contract: the way that is left ends where the whole does.
 use mathlib.Core.Path.{◌≡◌}
 use Rattle.identcodes.specs.Tree.{slot_from}
-use Rattle.identcodes.proofs.Slots.{slot-leaf, slot-on, slot-done}
+use Rattle.identcodes.proofs.Slots.{slot_leaf, slot_on, slot_done}
 use borrow.Author.Rules.{rules}
 use Rattle.identcodes.proofs.find_slot.Statement.{statement}
 use Rattle.identcodes.proofs.find_slot.Tie as tie
 
-ruleset laws = (rules, slot-leaf, slot-on, slot-done)
+ruleset laws = (rules, slot_leaf, slot_on, slot_done)
 
 abbrev invariant-loop : tie.invariant-loop
 invariant-loop tree turns code slot₀ left₀ slot left = slot_from left tree code slot ≡ slot_from turns tree code 0

@@ -1,10 +1,10 @@
 -- `identcodes::part` meets its contract.
-use Rattle.identcodes.proofs.Parting.{parted-first, parted-second}
+use Rattle.identcodes.proofs.Parting.{parted_first, parted_second}
 use borrow.Author.Rules.{rules}
 use Rattle.identcodes.proofs.part.Statement.{statement}
 use Rattle.identcodes.proofs.part.Tie as tie
 
-ruleset laws = (rules, parted-first, parted-second)
+ruleset laws = (rules, parted_first, parted_second)
 
 pub part_spec : {M : Type 1} → statement M
 part_spec =

@@ -2,12 +2,12 @@
 use Prim.Native.Nat.{◌≤◌, ◌-◌}
 use mathlib.Core.Path.{◌≡◌}
 use Rattle.identcodes.specs.Tree.{unlike_from, unlike_at}
-use Rattle.identcodes.proofs.Unlike.{unlike_first, unlike-on, unlike-stops, unlike_none}
+use Rattle.identcodes.proofs.Unlike.{unlike_first, unlike_on, unlike_stops, unlike_none}
 use borrow.Author.Rules.{rules}
 use Rattle.identcodes.proofs.unlike_at.Statement.{statement}
 use Rattle.identcodes.proofs.unlike_at.Tie as tie
 
-ruleset laws = (rules, unlike_first, unlike-on, unlike-stops, unlike_none)
+ruleset laws = (rules, unlike_first, unlike_on, unlike_stops, unlike_none)
 
 abbrev invariant-loop : tie.invariant-loop
 invariant-loop a b i₀ i = (i ≤ 22) × (unlike_from (22 - i) a b i ≡ unlike_at a b)

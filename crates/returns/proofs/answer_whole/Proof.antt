@@ -3,7 +3,7 @@ use Prim.Native.Nat.{◌≤◌, ◌-◌}
 use mathlib.Core.Path.{◌≡◌, sym}
 use lib.ListN.{length}
 use lib.Seq.{length-take-le}
-use Rattle.scans.proofs.Repeating.{Going, going_none, going-through, going-ends, going_on}
+use Rattle.scans.proofs.Repeating.{Going, going_none, going_through, going_ends, going_on}
 use Rattle.returns.specs.Turns.{Tells}
 use borrow.Author.Rules.{rules}
 use Rattle.returns.proofs.answer_whole.Statement.{statement}
@@ -23,7 +23,7 @@ unfolding Tells
 returns c =
     let call = c.before.before in
     let turn = call.before.before.before.before.loop in
-    going-ends turn.invariant.2 turn.answers _ _ call.answer-lines.ensures (search rules) c.if1.true
+    going_ends turn.invariant.2 turn.answers _ _ call.answer-lines.ensures (search rules) c.if1.true
 
 slice_aggregate_say_answers : tie.Need-slice-aggregate-say-answers invariant-loop decreases-loop
 slice_aggregate_say_answers c = sym (length-take-le _ _ (search rules))
@@ -44,7 +44,7 @@ loop_again c =
 
 returns_3 : tie.Need-returns-3 invariant-loop decreases-loop
 unfolding Tells
-returns_3 c = going-through c.before.loop.invariant.2 (search rules)
+returns_3 c = going_through c.before.loop.invariant.2 (search rules)
 
 pub answer_whole_spec : {M : Type 1} → statement M
 answer_whole_spec =

@@ -1,6 +1,6 @@
 -- `answer_lines` meets its contract: the law of lines that are laid out, checked and overruled, where the callees' promises stand.
 use Rattle.std.proofs.Common.{sym, length-take-le, rules}
-use Rattle.scans.proofs.Answering.{checked-long, answers-lines}
+use Rattle.scans.proofs.Answering.{checked_long, answers_lines}
 use Rattle.scans.proofs.answer_lines.Statement.{statement}
 use Rattle.scans.proofs.answer_lines.Tie as tie
 
@@ -21,7 +21,7 @@ overrule_requires c κs =
     let checks = c.before.before.before.before in
     let lays = checks.before.before.before.before.before in
     let start = lays.before.before.before.before.before.before.args in
-    checked-long
+    checked_long
     start.text.now start.answers.now _ lays.lay-out.result lays.lay-out.new.1.1.0 lays.lay-out.new.1.1.1.0
     checks.check-numbers.result _ lays.before.before.before.least.ensures lays.lay-out.ensures (search rules) (search rules)
     checks.check-numbers.ensures
@@ -31,7 +31,7 @@ returns c =
     let checks = c.before.before.before.before.before.before.before in
     let lays = checks.before.before.before.before.before in
     let start = lays.before.before.before.before.before.before.args in
-    answers-lines
+    answers_lines
     start.text.now start.answers.now _ lays.lay-out.result lays.lay-out.new.1.1.0 lays.lay-out.new.1.1.1.0
     checks.check-numbers.result _ lays.before.before.before.least.ensures lays.lay-out.ensures (search rules) (search rules)
     checks.check-numbers.ensures _ c.before.before.overrule.ensures

@@ -1,6 +1,6 @@
 -- `keep` meets its contract: the rest goes by way of an array of its own.
 use Rattle.std.proofs.Common.{arith, rules}
-use Rattle.scans.proofs.Keeping.{clipped_short, held-long, keeps}
+use Rattle.scans.proofs.Keeping.{clipped_short, held_long, keeps}
 use Rattle.scans.proofs.keep.Statement.{statement}
 use Rattle.scans.proofs.keep.Tie as tie
 
@@ -14,7 +14,7 @@ slice_aggregate_place_2 : tie.Need-slice-aggregate-place-2
 slice_aggregate_place_2 c =
     let clips = c.before.before.before.before.before in
     let short = clipped_short _ _ _ _ _ clips.before.least.ensures clips.clip.ensures in
-    held-long _ _ _ (omega (arith, short)) c.before.before.before.place.ensures
+    held_long _ _ _ (omega (arith, short)) c.before.before.before.place.ensures
 
 returns : tie.Need-returns
 returns c =

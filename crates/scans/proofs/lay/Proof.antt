@@ -1,11 +1,11 @@
 -- `lay` meets its contract.
-use Rattle.scans.proofs.Endings.{lays-none, lays_one}
+use Rattle.scans.proofs.Endings.{lays_none, lays_one}
 use Rattle.std.proofs.Common.{rules}
 use Rattle.scans.proofs.lay.Statement.{statement}
 use Rattle.scans.proofs.lay.Tie as tie
 
 returns : tie.Need-returns
-returns c = lays-none _ _ _ _ c.before.number-length.ensures c.if1.true
+returns c = lays_none _ _ _ _ c.before.number-length.ensures c.if1.true
 
 returns_2 : tie.Need-returns-2
 returns_2 c =

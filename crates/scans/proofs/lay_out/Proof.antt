@@ -1,6 +1,6 @@
 -- `lay_out` meets its contract: the lines so far are laid out, and the text goes on behind them.
 use Rattle.std.proofs.Common.{◌≡◌, ◌-◌, ◌≤◌, length, arith, rules}
-use Rattle.scans.proofs.Laying.{Laying, laying_none, laying-full, laying-ends, laying-inside, laying-on}
+use Rattle.scans.proofs.Laying.{Laying, laying_none, laying_full, laying_ends, laying_inside, laying_on}
 use Rattle.scans.proofs.lay_out.Statement.{statement}
 use Rattle.scans.proofs.lay_out.Tie as tie
 
@@ -19,10 +19,10 @@ loop_holds c =
 returns : tie.Need-returns invariant-loop decreases-loop
 returns c =
     let turn = c.before.before in
-    laying-ends turn.before.loop.invariant.3 _ c.before.line-feed.ensures.0 turn.loop-test.true c.if1.true
+    laying_ends turn.before.loop.invariant.3 _ c.before.line-feed.ensures.0 turn.loop-test.true c.if1.true
 
 sub_lay : tie.Need-overflow-sub-lay invariant-loop decreases-loop
-sub_lay c = laying-inside c.before.before.before.loop.invariant.3 _ c.before.line-feed.ensures.0
+sub_lay c = laying_inside c.before.before.before.loop.invariant.3 _ c.before.line-feed.ensures.0
 
 part_lay_start : tie.Need-slice-bounds-lay-start invariant-loop decreases-loop
 part_lay_start c = let h = sub_lay c in search rules
@@ -39,11 +39,11 @@ loop_again c =
       search rules,
       search rules,
       search rules,
-      laying-on turn.before.loop.invariant.3 _ end.0 _ _ turn.loop-test.true (omega (arith, end.1, test.if1.false)) lays.0 lays.1,
+      laying_on turn.before.loop.invariant.3 _ end.0 _ _ turn.loop-test.true (omega (arith, end.1, test.if1.false)) lays.0 lays.1,
     )
 
 returns_2 : tie.Need-returns-2 invariant-loop decreases-loop
-returns_2 c = laying-full c.before.loop.invariant.3 c.before.loop.invariant.2 c.loop-test.false
+returns_2 c = laying_full c.before.loop.invariant.3 c.before.loop.invariant.2 c.loop-test.false
 
 pub lay_out_spec : {M : Type 1} → statement M
 lay_out_spec =

@@ -1,10 +1,10 @@
 -- `number_length` meets its contract.
-use Rattle.scans.proofs.Endings.{empty-line, with-return, without-return}
+use Rattle.scans.proofs.Endings.{empty_line, with_return, without_return}
 use Rattle.std.proofs.Common.{rules}
 use Rattle.scans.proofs.number_length.Statement.{statement}
 use Rattle.scans.proofs.number_length.Tie as tie
 
-ruleset laws = (rules, empty-line, with-return, without-return)
+ruleset laws = (rules, empty_line, with_return, without_return)
 
 pub number_length_spec : {M : Type 1} → statement M
 number_length_spec =

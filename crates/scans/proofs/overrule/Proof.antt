@@ -3,11 +3,11 @@ use Rattle.std.proofs.Common.{◌≡◌, ◌-◌, ◌≤◌, length, get_or, rul
 use Rattle.text.specs.Placed.{written}
 use Rattle.text.specs.Tabled.{tabled}
 use Rattle.scans.specs.Laying.{ruled}
-use Rattle.scans.proofs.Overruling.{overrule-on, overrule-done}
+use Rattle.scans.proofs.Overruling.{overrule_on, overrule_done}
 use Rattle.scans.proofs.overrule.Statement.{statement}
 use Rattle.scans.proofs.overrule.Tie as tie
 
-ruleset laws = (rules, overrule-on, overrule-done)
+ruleset laws = (rules, overrule_on, overrule_done)
 
 abbrev invariant-loop : tie.invariant-loop
 invariant-loop marks answers₀ i₀ answers i =
@@ -23,7 +23,7 @@ loop_again c =
     let start = turn.before.before.before.before in (
       search rules,
       search rules,
-      overrule-on start.args.marks.now start.args.answers.now _ _ turn.before.loop.invariant.2 start.requires _
+      overrule_on start.args.marks.now start.args.answers.now _ _ turn.before.loop.invariant.2 start.requires _
           turn.loop-test.true c.ruling.ensures,
     )
 

@@ -4,14 +4,14 @@ use mathlib.Core.Path.{◌≡◌}
 use lib.ListN.{length, drop}
 use Rattle.text.specs.Byte.{digit}
 use Rattle.text.specs.Scan.{first_failing}
-use Rattle.text.proofs.Scans.{walk-on}
+use Rattle.text.proofs.Scans.{walk_on}
 use Rattle.test_input.specs.Input.{value_from}
-use Rattle.test_input.proofs.Reading.{value_on, given-stops, given-ends}
+use Rattle.test_input.proofs.Reading.{value_on, given_stops, given_ends}
 use borrow.Author.Rules.{rules}
 use Rattle.test_input.proofs.number.Statement.{statement}
 use Rattle.test_input.proofs.number.Tie as tie
 
-ruleset laws = (rules, walk-on, value_on, given-stops, given-ends)
+ruleset laws = (rules, walk_on, value_on, given_stops, given_ends)
 
 abbrev invariant-loop : tie.invariant-loop
 invariant-loop s start value₀ i₀ value i =

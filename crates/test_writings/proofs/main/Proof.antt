@@ -1,10 +1,10 @@
 -- `main` is safe: a whole input lies in the buffer.
-use Rattle.streams.proofs.Held.{input-fits, input-long}
+use Rattle.streams.proofs.Held.{input_fits, input_long}
 use borrow.Author.Rules.{rules}
 use Rattle.test_writings.proofs.main.Statement.{statement}
 use Rattle.test_writings.proofs.main.Tie as tie
 
-ruleset laws = (rules, input-fits, input-long)
+ruleset laws = (rules, input_fits, input_long)
 
 pub main_spec : {M : Type 1} → statement M
 main_spec =

@@ -4,12 +4,12 @@ use mathlib.Core.Path.{◌≡◌}
 use lib.ListN.{length, drop}
 use Rattle.text.specs.Byte.{in_class}
 use Rattle.text.specs.Scan.{all}
-use Rattle.text.proofs.Scans.{all-on, all-stops, all-ends}
+use Rattle.text.proofs.Scans.{all_on, all_stops, all_ends}
 use borrow.Author.Rules.{rules}
 use Rattle.text.proofs.all_in.Statement.{statement}
 use Rattle.text.proofs.all_in.Tie as tie
 
-ruleset laws = (rules, all-on, all-stops, all-ends)
+ruleset laws = (rules, all_on, all_stops, all_ends)
 
 abbrev invariant-loop : tie.invariant-loop
 invariant-loop class s i₀ i = (i ≤ length s) × (all (in_class class) (drop i s) ≡ all (in_class class) s)

@@ -3,12 +3,12 @@ use Prim.Native.Nat.{◌≤◌, ◌-◌}
 use mathlib.Core.Path.{◌≡◌}
 use lib.ListN.{length}
 use lib.Seq.{paste, paste-zero}
-use Rattle.text.proofs.Placing.{copy-again, copy_done}
+use Rattle.text.proofs.Placing.{copy_again, copy_done}
 use borrow.Author.Rules.{rules}
 use Rattle.text.proofs.copy.Statement.{statement}
 use Rattle.text.proofs.copy.Tie as tie
 
-ruleset laws = (rules, paste-zero, copy-again, copy_done)
+ruleset laws = (rules, paste-zero, copy_again, copy_done)
 
 abbrev invariant-loop : tie.invariant-loop
 invariant-loop out₀ at src i₀ out i = (i ≤ length src) × (length out ≡ length out₀) × (out ≡ paste out₀ at src i)

@@ -4,12 +4,12 @@ use mathlib.Core.Path.{◌≡◌}
 use lib.Dec.{eqb}
 use lib.ListN.{length, drop}
 use Rattle.text.specs.Scan.{count}
-use Rattle.text.proofs.Scans.{count-on, count-ends}
+use Rattle.text.proofs.Scans.{count_on, count_ends}
 use borrow.Author.Rules.{rules}
 use Rattle.text.proofs.count_of.Statement.{statement}
 use Rattle.text.proofs.count_of.Tie as tie
 
-ruleset laws = (rules, count-on, count-ends)
+ruleset laws = (rules, count_on, count_ends)
 
 abbrev invariant-loop : tie.invariant-loop
 invariant-loop mark s n₀ i₀ n i = (i ≤ length s) × (n ≤ i) × (n + count (λ b. eqb b mark) (drop i s) ≡ count (λ b. eqb b mark) s)

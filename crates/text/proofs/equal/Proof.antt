@@ -3,12 +3,12 @@ use Prim.Native.Nat.{◌≤◌, ◌-◌}
 use mathlib.Core.Path.{◌≡◌}
 use lib.ListN.{length, drop}
 use Rattle.text.specs.Scan.{same}
-use Rattle.text.proofs.Scans.{pair_unlike, same-on, same-stops, pair_ends}
+use Rattle.text.proofs.Scans.{pair_unlike, same_on, same_stops, pair_ends}
 use borrow.Author.Rules.{rules}
 use Rattle.text.proofs.equal.Statement.{statement}
 use Rattle.text.proofs.equal.Tie as tie
 
-ruleset laws = (rules, pair_unlike, same-on, same-stops, pair_ends)
+ruleset laws = (rules, pair_unlike, same_on, same_stops, pair_ends)
 
 abbrev invariant-loop : tie.invariant-loop
 invariant-loop a b i₀ i = (i ≤ length a) × (same (drop i a) (drop i b) ≡ same a b)

@@ -3,12 +3,12 @@ use Prim.Native.Nat.{◌≤◌, ◌-◌}
 use mathlib.Core.Path.{◌≡◌}
 use lib.ListN.{length, drop}
 use Rattle.text.specs.Scan.{among}
-use Rattle.text.proofs.Scans.{among-on, among-here, among-ends}
+use Rattle.text.proofs.Scans.{among_on, among_here, among_ends}
 use borrow.Author.Rules.{rules}
 use Rattle.text.proofs.is_among.Statement.{statement}
 use Rattle.text.proofs.is_among.Tie as tie
 
-ruleset laws = (rules, among-on, among-here, among-ends)
+ruleset laws = (rules, among_on, among_here, among_ends)
 
 abbrev invariant-loop : tie.invariant-loop
 invariant-loop b s i₀ i = (i ≤ length s) × (among b (drop i s) ≡ among b s)

@@ -3,12 +3,12 @@ use Prim.Native.Nat.{◌-◌}
 use mathlib.Core.Path.{◌≡◌}
 use lib.ListN.{length, drop}
 use Rattle.text.specs.Scan.{first_failing, in_line}
-use Rattle.text.proofs.Scans.{walk-on, feed-here, feed-nowhere}
+use Rattle.text.proofs.Scans.{walk_on, feed_here, feed_nowhere}
 use borrow.Author.Rules.{rules}
 use Rattle.text.proofs.line_feed.Statement.{statement}
 use Rattle.text.proofs.line_feed.Tie as tie
 
-ruleset laws = (rules, walk-on, feed-here, feed-nowhere)
+ruleset laws = (rules, walk_on, feed_here, feed_nowhere)
 
 abbrev invariant-loop : tie.invariant-loop
 invariant-loop s start i₀ i =

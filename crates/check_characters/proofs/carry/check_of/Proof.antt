@@ -4,12 +4,12 @@ use mathlib.Core.Path.{◌≡◌}
 use lib.ListN.{length, take}
 use Rattle.check_characters.specs.Mod37.{carry as carryOf}
 use Rattle.check_characters.proofs.Symbols.{value_below}
-use Rattle.check_characters.proofs.Carries.{step_low, step_high, carry-on, check_behind}
+use Rattle.check_characters.proofs.Carries.{step_low, step_high, carry_on, check_behind}
 use borrow.Author.Rules.{rules}
 use Rattle.check_characters.proofs.carry.check_of.Statement.{statement}
 use Rattle.check_characters.proofs.carry.check_of.Tie as tie
 
-ruleset laws = (rules, value_below, step_low, step_high, carry-on, check_behind)
+ruleset laws = (rules, value_below, step_low, step_high, carry_on, check_behind)
 
 abbrev invariant-loop : tie.invariant-loop
 invariant-loop s table carry₀ i₀ carry i =

@@ -1,11 +1,11 @@
 -- `carry::next_carry` meets its contract.
 use Rattle.check_characters.proofs.Symbols.{value_below}
-use Rattle.check_characters.proofs.Keying.{key-no-carry, key-low, key-high, key-no-symbol, key-next}
+use Rattle.check_characters.proofs.Keying.{key_no_carry, key_low, key_high, key_no_symbol, key_next}
 use borrow.Author.Rules.{rules}
 use Rattle.check_characters.proofs.carry.next_carry.Statement.{statement}
 use Rattle.check_characters.proofs.carry.next_carry.Tie as tie
 
-ruleset laws = (rules, value_below, key-no-carry, key-low, key-high, key-no-symbol, key-next)
+ruleset laws = (rules, value_below, key_no_carry, key_low, key_high, key_no_symbol, key_next)
 
 pub next_carry_spec : {M : Type 1} → statement M
 next_carry_spec =

@@ -4,12 +4,12 @@ use mathlib.Core.Path.{◌≡◌}
 use lib.ListN.{length}
 use lib.Seq.{paste, paste-zero}
 use Rattle.check_characters.specs.Day.{day_answers}
-use Rattle.check_characters.proofs.Days.{number-inside, number_long, day-again, day-done}
+use Rattle.check_characters.proofs.Days.{number_inside, number_long, day_again, day_done}
 use borrow.Author.Rules.{rules}
 use Rattle.check_characters.proofs.day.check_each.Statement.{statement}
 use Rattle.check_characters.proofs.day.check_each.Tie as tie
 
-ruleset laws = (rules, paste-zero, number-inside, number_long, day-again, day-done)
+ruleset laws = (rules, paste-zero, number_inside, number_long, day_again, day_done)
 
 abbrev invariant-loop : tie.invariant-loop
 invariant-loop numbers answers₀ table n i₀ answers i =

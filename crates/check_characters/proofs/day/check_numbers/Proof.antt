@@ -1,11 +1,11 @@
 -- `day::check_numbers` meets its contract.
 use Rattle.check_characters.specs.Day.{answers_after}
-use Rattle.check_characters.proofs.Days.{day-length, day-short, front_long, day-counted}
+use Rattle.check_characters.proofs.Days.{day_length, day_short, front_long, day_counted}
 use borrow.Author.Rules.{rules}
 use Rattle.check_characters.proofs.day.check_numbers.Statement.{statement}
 use Rattle.check_characters.proofs.day.check_numbers.Tie as tie
 
-ruleset laws = (rules, day-length, day-short, front_long, day-counted)
+ruleset laws = (rules, day_length, day_short, front_long, day_counted)
 
 pub check_numbers_spec : {M : Type 1} → statement M
 unfolding answers_after

@@ -1,10 +1,10 @@
 -- `iban::is_allowed` meets its contract.
-use Rattle.check_characters.proofs.Ibans.{allowed-country, allowed-check, allowed-account}
+use Rattle.check_characters.proofs.Ibans.{allowed_country, allowed_check, allowed_account}
 use borrow.Author.Rules.{rules}
 use Rattle.check_characters.proofs.iban.is_allowed.Statement.{statement}
 use Rattle.check_characters.proofs.iban.is_allowed.Tie as tie
 
-ruleset laws = (rules, allowed-country, allowed-check, allowed-account)
+ruleset laws = (rules, allowed_country, allowed_check, allowed_account)
 
 pub is_allowed_spec : {M : Type 1} → statement M
 is_allowed_spec =

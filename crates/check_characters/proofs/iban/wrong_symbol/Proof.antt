@@ -3,13 +3,13 @@ use Prim.Native.Nat.{◌≤◌, ◌-◌}
 use mathlib.Core.Path.{◌≡◌}
 use lib.ListN.{length, drop}
 use Rattle.text.specs.Scan.{first_failing}
-use Rattle.text.proofs.Scans.{walk-on, walk-stops, walk_ends}
+use Rattle.text.proofs.Scans.{walk_on, walk_stops, walk_ends}
 use Rattle.check_characters.specs.Iban.{allowed_in_iban, wrong_in_iban}
 use borrow.Author.Rules.{rules}
 use Rattle.check_characters.proofs.iban.wrong_symbol.Statement.{statement}
 use Rattle.check_characters.proofs.iban.wrong_symbol.Tie as tie
 
-ruleset laws = (rules, walk-on, walk-stops, walk_ends)
+ruleset laws = (rules, walk_on, walk_stops, walk_ends)
 
 abbrev invariant-loop : tie.invariant-loop
 invariant-loop s i₀ i = (i ≤ length s) × (first_failing allowed_in_iban i (drop i s) ≡ wrong_in_iban s)

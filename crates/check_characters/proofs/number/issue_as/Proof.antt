@@ -1,12 +1,12 @@
 -- `number::issue_as` meets its contract.
 use Rattle.check_characters.specs.Answer.{issued_to}
-use Rattle.check_characters.proofs.Carries.{carry-low, carry-high, check_behind}
-use Rattle.check_characters.proofs.Issuing.{issue-wrong, issue-right, issued_with}
+use Rattle.check_characters.proofs.Carries.{carry_low, carry_high, check_behind}
+use Rattle.check_characters.proofs.Issuing.{issue_wrong, issue_right, issued_with}
 use borrow.Author.Rules.{rules}
 use Rattle.check_characters.proofs.number.issue_as.Statement.{statement}
 use Rattle.check_characters.proofs.number.issue_as.Tie as tie
 
-ruleset laws = (rules, carry-low, carry-high, check_behind, issue-wrong, issue-right, issued_with)
+ruleset laws = (rules, carry_low, carry_high, check_behind, issue_wrong, issue_right, issued_with)
 
 pub issue_as_spec : {M : Type 1} → statement M
 unfolding issued_to

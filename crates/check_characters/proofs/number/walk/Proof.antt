@@ -3,16 +3,16 @@ use Prim.Native.Nat.{◌≤◌, ◌-◌}
 use mathlib.Core.Path.{◌≡◌}
 use lib.ListN.{length, take, drop}
 use Rattle.text.specs.Scan.{first_failing}
-use Rattle.text.proofs.Scans.{walk-on, walk-stops, walk_ends}
+use Rattle.text.proofs.Scans.{walk_on, walk_stops, walk_ends}
 use Rattle.check_characters.specs.Mod37.{carry as carryOf}
 use Rattle.check_characters.specs.Number.{allowed_in_number, wrong_in_number}
 use Rattle.check_characters.proofs.Symbols.{value_below}
-use Rattle.check_characters.proofs.Carries.{step_low, step_high, carry-on}
+use Rattle.check_characters.proofs.Carries.{step_low, step_high, carry_on}
 use borrow.Author.Rules.{rules}
 use Rattle.check_characters.proofs.number.walk.Statement.{statement}
 use Rattle.check_characters.proofs.number.walk.Tie as tie
 
-ruleset laws = (rules, walk-on, walk-stops, walk_ends, value_below, step_low, step_high, carry-on)
+ruleset laws = (rules, walk_on, walk_stops, walk_ends, value_below, step_low, step_high, carry_on)
 
 abbrev invariant-loop : tie.invariant-loop
 invariant-loop table kind s carry₀ i₀ carry i =

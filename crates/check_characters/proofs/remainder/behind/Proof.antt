@@ -1,10 +1,10 @@
 -- `remainder::behind` meets its contract.
-use Rattle.check_characters.proofs.Digits.{behind-letter, behind-digit, behind-letter-below, behind-digit-below}
+use Rattle.check_characters.proofs.Digits.{behind_letter, behind_digit, behind_letter_below, behind_digit_below}
 use borrow.Author.Rules.{rules}
 use Rattle.check_characters.proofs.remainder.behind.Statement.{statement}
 use Rattle.check_characters.proofs.remainder.behind.Tie as tie
 
-ruleset laws = (rules, behind-letter, behind-digit, behind-letter-below, behind-digit-below)
+ruleset laws = (rules, behind_letter, behind_digit, behind_letter_below, behind_digit_below)
 
 pub behind_spec : {M : Type 1} → statement M
 behind_spec =

@@ -3,12 +3,12 @@ use Prim.Native.Nat.{◌≤◌, ◌<◌, ◌-◌, ◌%◌}
 use mathlib.Core.Path.{◌≡◌}
 use lib.ListN.{length, drop}
 use Rattle.check_characters.specs.Iban.{spread, decimal_from}
-use Rattle.check_characters.proofs.Digits.{four-on, walk-rests}
+use Rattle.check_characters.proofs.Digits.{four_on, walk_rests}
 use borrow.Author.Rules.{rules}
 use Rattle.check_characters.proofs.remainder.walk.Statement.{statement}
 use Rattle.check_characters.proofs.remainder.walk.Tie as tie
 
-ruleset laws = (rules, four-on, walk-rests)
+ruleset laws = (rules, four_on, walk_rests)
 
 abbrev invariant-loop : tie.invariant-loop
 invariant-loop start s n₀ i₀ n i = (i ≤ length s) × (n < 97) × (decimal_from n (spread (drop i s)) % 97 ≡ decimal_from start (spread s) % 97)

@@ -1,10 +1,10 @@
 -- `symbol::value` meets its contract.
-use Rattle.check_characters.proofs.Symbols.{digit-floor, value-digit, capital-floor, value-capital, value-other}
+use Rattle.check_characters.proofs.Symbols.{digit_floor, value_digit, capital_floor, value_capital, value_other}
 use borrow.Author.Rules.{rules}
 use Rattle.check_characters.proofs.symbol.value.Statement.{statement}
 use Rattle.check_characters.proofs.symbol.value.Tie as tie
 
-ruleset laws = (rules, digit-floor, value-digit, capital-floor, value-capital, value-other)
+ruleset laws = (rules, digit_floor, value_digit, capital_floor, value_capital, value_other)
 
 pub value_spec : {M : Type 1} → statement M
 value_spec =

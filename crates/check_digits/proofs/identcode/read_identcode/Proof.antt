@@ -1,10 +1,10 @@
 -- `identcode::read_identcode` meets its contract.
-use Rattle.check_digits.proofs.Identcodes.{all_six, parts-read, parts_refused}
+use Rattle.check_digits.proofs.Identcodes.{all_six, parts_read, parts_refused}
 use borrow.Author.Rules.{rules}
 use Rattle.check_digits.proofs.identcode.read_identcode.Statement.{statement}
 use Rattle.check_digits.proofs.identcode.read_identcode.Tie as tie
 
-ruleset laws = (rules, all_six, parts-read, parts_refused)
+ruleset laws = (rules, all_six, parts_read, parts_refused)
 
 pub read_identcode_spec : {M : Type 1} → statement M
 read_identcode_spec =

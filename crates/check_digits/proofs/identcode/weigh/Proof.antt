@@ -3,14 +3,14 @@ use Prim.Native.Nat.{◌≤◌, ◌-◌, ◌*◌}
 use mathlib.Core.Path.{◌≡◌}
 use lib.ListN.{length, take, drop}
 use Rattle.text.specs.Scan.{first_failing}
-use Rattle.text.proofs.Scans.{walk-on, walk-stops, walk_ends}
+use Rattle.text.proofs.Scans.{walk_on, walk_stops, walk_ends}
 use Rattle.check_digits.specs.Identcode.{allowed_in_identcode, wrong_in_identcode, weighed}
-use Rattle.check_digits.proofs.Identcodes.{digit-least, digit-fits, weighs-fits, sum-stays, sum-little, sum-on}
+use Rattle.check_digits.proofs.Identcodes.{digit_least, digit_fits, weighs_fits, sum_stays, sum_little, sum_on}
 use borrow.Author.Rules.{rules}
 use Rattle.check_digits.proofs.identcode.weigh.Statement.{statement}
 use Rattle.check_digits.proofs.identcode.weigh.Tie as tie
 
-ruleset laws = (rules, walk-on, walk-stops, walk_ends, digit-least, digit-fits, weighs-fits, sum-stays, sum-little, sum-on)
+ruleset laws = (rules, walk_on, walk_stops, walk_ends, digit_least, digit_fits, weighs_fits, sum_stays, sum_little, sum_on)
 
 abbrev invariant-loop : tie.invariant-loop
 invariant-loop s sum₀ i₀ sum i =

@@ -1,11 +1,11 @@
 -- `form::is_cash` meets its contract.
 use Rattle.fields.specs.Form.{is_cash}
-use Rattle.text.proofs.Choices.{or-here, or_next}
+use Rattle.text.proofs.Choices.{or_here, or_next}
 use borrow.Author.Rules.{rules}
 use Rattle.fields.proofs.form.is_cash.Statement.{statement}
 use Rattle.fields.proofs.form.is_cash.Tie as tie
 
-ruleset laws = (rules, or-here, or_next)
+ruleset laws = (rules, or_here, or_next)
 
 pub is_cash_spec : {M : Type 1} → statement M
 unfolding is_cash

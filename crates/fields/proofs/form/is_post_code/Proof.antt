@@ -1,10 +1,10 @@
 -- `form::is_post_code` meets its contract.
-use Rattle.text.proofs.Choices.{takes-then, takes-else}
+use Rattle.text.proofs.Choices.{takes_then, takes_else}
 use borrow.Author.Rules.{rules}
 use Rattle.fields.proofs.form.is_post_code.Statement.{statement}
 use Rattle.fields.proofs.form.is_post_code.Tie as tie
 
-ruleset laws = (rules, takes-then, takes-else)
+ruleset laws = (rules, takes_then, takes_else)
 
 pub is_post_code_spec : {M : Type 1} → statement M
 is_post_code_spec =

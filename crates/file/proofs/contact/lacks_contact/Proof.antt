@@ -1,11 +1,11 @@
 -- `contact::lacks_contact` meets its contract.
 use Rattle.file.specs.Contact.{lacks_contact}
-use Rattle.file.proofs.Contacts.{lacks_as, has_both, none_lent, lacks-listed}
+use Rattle.file.proofs.Contacts.{lacks_as, has_both, none_lent, lacks_listed}
 use borrow.Author.Rules.{rules}
 use Rattle.file.proofs.contact.lacks_contact.Statement.{statement}
 use Rattle.file.proofs.contact.lacks_contact.Tie as tie
 
-ruleset laws = (rules, lacks_as, has_both, none_lent, lacks-listed)
+ruleset laws = (rules, lacks_as, has_both, none_lent, lacks_listed)
 
 pub lacks_contact_spec : {M : Type 1} → statement M
 unfolding lacks_contact

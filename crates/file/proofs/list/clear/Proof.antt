@@ -3,12 +3,12 @@ use Prim.Native.Nat.{◌≤◌, ◌-◌}
 use mathlib.Core.Path.{◌≡◌}
 use mathlib.Core.List.{◌++◌}
 use lib.ListN.{length, drop, replicate}
-use Rattle.file.proofs.Lists.{clear-on, clear-done}
+use Rattle.file.proofs.Lists.{clear_on, clear_done}
 use borrow.Author.Rules.{rules}
 use Rattle.file.proofs.list.clear.Statement.{statement}
 use Rattle.file.proofs.list.clear.Tie as tie
 
-ruleset laws = (rules, clear-on, clear-done)
+ruleset laws = (rules, clear_on, clear_done)
 
 abbrev invariant-loop : tie.invariant-loop
 invariant-loop words₀ i₀ words i = (i ≤ length words₀) × (length words ≡ length words₀) × (words ≡ replicate i 0 ++ drop i words₀)

@@ -1,6 +1,6 @@
 -- `step::list_line` meets its contract.
 use mathlib.Core.Path.{refl}
-use Rattle.file.proofs.Stepping.{code-stops, list-stops, word_there, line-next, line-sown, stopped_sown, stopped_listed}
+use Rattle.file.proofs.Stepping.{code_stops, list_stops, word_there, line_next, line_sown, stopped_sown, stopped_listed}
 use borrow.Author.Rules.{rules}
 use Rattle.file.proofs.step.list_line.Statement.{statement}
 use Rattle.file.proofs.step.list_line.Tie as tie
@@ -8,13 +8,13 @@ use Rattle.file.proofs.step.list_line.Tie as tie
 ruleset laws = (rules, word_there)
 
 returns : tie.Need-returns
-returns c = (search (code-stops), (search (stopped_sown), search (stopped_listed)))
+returns c = (search (code_stops), (search (stopped_sown), search (stopped_listed)))
 
 returns_2 : tie.Need-returns-2
-returns_2 c = (search (list-stops), (search (stopped_sown), search (stopped_listed)))
+returns_2 c = (search (list_stops), (search (stopped_sown), search (stopped_listed)))
 
 returns_3 : tie.Need-returns-3
-returns_3 c = (search (line-next), (search (line-sown), λ next e. refl))
+returns_3 c = (search (line_next), (search (line_sown), λ next e. refl))
 
 pub list_line_spec : {M : Type 1} → statement M
 list_line_spec =

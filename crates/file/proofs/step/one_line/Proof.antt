@@ -1,20 +1,20 @@
 -- `step::one_line` meets its contract.
-use Rattle.line.proofs.Accepting.{text-starts, text-inside, next-least}
-use Rattle.file.proofs.Stepping.{line-stops, contact-stops, line-listed, stopped_sown, stopped_listed, was_accepted}
+use Rattle.line.proofs.Accepting.{text_starts, text_inside, next_least}
+use Rattle.file.proofs.Stepping.{line_stops, contact_stops, line_listed, stopped_sown, stopped_listed, was_accepted}
 use borrow.Author.Rules.{rules}
 use Rattle.file.proofs.step.one_line.Statement.{statement}
 use Rattle.file.proofs.step.one_line.Tie as tie
 
-ruleset laws = (rules, was_accepted, text-starts, text-inside, next-least)
+ruleset laws = (rules, was_accepted, text_starts, text_inside, next_least)
 
 returns : tie.Need-returns
-returns c = (search (contact-stops), (search (stopped_sown), search (stopped_listed)))
+returns c = (search (contact_stops), (search (stopped_sown), search (stopped_listed)))
 
 returns_2 : tie.Need-returns-2
-returns_2 c = (search (line-listed), (search rules, search rules))
+returns_2 c = (search (line_listed), (search rules, search rules))
 
 returns_3 : tie.Need-returns-3
-returns_3 c = (search (line-stops), (search (stopped_sown), search (stopped_listed)))
+returns_3 c = (search (line_stops), (search (stopped_sown), search (stopped_listed)))
 
 -- what `list_line` asks, clause by clause
 listed : tie.Need-list-line-requires

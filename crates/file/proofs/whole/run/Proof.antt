@@ -2,13 +2,13 @@
 use Prim.Native.Nat.{◌-◌}
 use mathlib.Core.Path.{◌≡◌}
 use lib.ListN.{length}
-use Rattle.file.proofs.Going.{Going, going_none, going_more, less-left, few-parcels, room_kept}
-use Rattle.file.proofs.Going.{stop-judged, due-judged, end-judged}
+use Rattle.file.proofs.Going.{Going, going_none, going_more, less_left, few_parcels, room_kept}
+use Rattle.file.proofs.Going.{stop_judged, due_judged, end_judged}
 use borrow.Author.Rules.{rules}
 use Rattle.file.proofs.whole.run.Statement.{statement}
 use Rattle.file.proofs.whole.run.Tie as tie
 
-ruleset laws = (rules, going_none, going_more, less-left, few-parcels, room_kept, stop-judged, due-judged, end-judged)
+ruleset laws = (rules, going_none, going_more, less_left, few_parcels, room_kept, stop_judged, due_judged, end_judged)
 
 abbrev invariant-loop : tie.invariant-loop
 invariant-loop s countries words₀ codes₀ state₀ words codes state =

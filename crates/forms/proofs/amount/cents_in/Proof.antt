@@ -1,10 +1,10 @@
 -- `amount::cents_in` meets its contract.
-use Rattle.forms.proofs.Amounts.{cents-sum}
+use Rattle.forms.proofs.Amounts.{cents_sum}
 use borrow.Author.Rules.{rules}
 use Rattle.forms.proofs.amount.cents_in.Statement.{statement}
 use Rattle.forms.proofs.amount.cents_in.Tie as tie
 
-ruleset laws = (rules, cents-sum)
+ruleset laws = (rules, cents_sum)
 
 pub cents_in_spec : {M : Type 1} → statement M
 cents_in_spec =

@@ -1,10 +1,10 @@
 -- `date::is_good_day` meets its contract.
-use Rattle.forms.proofs.Dates.{too-early, too-late, in-time}
+use Rattle.forms.proofs.Dates.{too_early, too_late, in_time}
 use borrow.Author.Rules.{rules}
 use Rattle.forms.proofs.date.is_good_day.Statement.{statement}
 use Rattle.forms.proofs.date.is_good_day.Tie as tie
 
-ruleset laws = (rules, too-early, too-late, in-time)
+ruleset laws = (rules, too_early, too_late, in_time)
 
 pub is_good_day_spec : {M : Type 1} → statement M
 is_good_day_spec =

@@ -1,10 +1,10 @@
 -- `date::is_good_time` meets its contract.
-use Rattle.forms.proofs.Dates.{hour-past, minute-past, second-decides}
+use Rattle.forms.proofs.Dates.{hour_past, minute_past, second_decides}
 use borrow.Author.Rules.{rules}
 use Rattle.forms.proofs.date.is_good_time.Statement.{statement}
 use Rattle.forms.proofs.date.is_good_time.Tie as tie
 
-ruleset laws = (rules, hour-past, minute-past, second-decides)
+ruleset laws = (rules, hour_past, minute_past, second_decides)
 
 pub is_good_time_spec : {M : Type 1} → statement M
 is_good_time_spec =

@@ -1,11 +1,11 @@
 -- `date::is_in_calendar` meets its contract.
-use Rattle.text.proofs.Choices.{le-fails, le-holds, le_told}
+use Rattle.text.proofs.Choices.{le_fails, le_holds, le_told}
 use Rattle.forms.specs.Date.{calendar}
 use borrow.Author.Rules.{rules}
 use Rattle.forms.proofs.date.is_in_calendar.Statement.{statement}
 use Rattle.forms.proofs.date.is_in_calendar.Tie as tie
 
-ruleset laws = (rules, le-fails, le-holds, le_told)
+ruleset laws = (rules, le_fails, le_holds, le_told)
 
 pub is_in_calendar_spec : {M : Type 1} → statement M
 unfolding calendar

@@ -3,13 +3,13 @@ use Prim.Native.Nat.{◌≤◌, ◌-◌}
 use mathlib.Core.Path.{◌≡◌}
 use lib.ListN.{length, drop}
 use Rattle.text.specs.Scan.{paired}
-use Rattle.text.proofs.Scans.{pair-on, pair-stops, pair_ends, pair_unlike}
+use Rattle.text.proofs.Scans.{pair_on, pair_stops, pair_ends, pair_unlike}
 use Rattle.forms.specs.Date.{stands_for, like}
 use borrow.Author.Rules.{rules}
 use Rattle.forms.proofs.date.is_like.Statement.{statement}
 use Rattle.forms.proofs.date.is_like.Tie as tie
 
-ruleset laws = (rules, pair-on, pair-stops, pair_ends, pair_unlike)
+ruleset laws = (rules, pair_on, pair_stops, pair_ends, pair_unlike)
 
 abbrev invariant-loop : tie.invariant-loop
 invariant-loop pattern s i₀ i = (i ≤ length pattern) × (paired stands_for (drop i pattern) (drop i s) ≡ paired stands_for pattern s)

@@ -1,11 +1,11 @@
 -- `date::stands_for` meets its contract.
-use Rattle.text.proofs.Choices.{eq-takes-then, eq-takes-else}
+use Rattle.text.proofs.Choices.{eq_takes_then, eq_takes_else}
 use Rattle.forms.specs.Date.{stands_for}
 use borrow.Author.Rules.{rules}
 use Rattle.forms.proofs.date.stands_for.Statement.{statement}
 use Rattle.forms.proofs.date.stands_for.Tie as tie
 
-ruleset laws = (rules, eq-takes-then, eq-takes-else)
+ruleset laws = (rules, eq_takes_then, eq_takes_else)
 
 pub stands_for_spec : {M : Type 1} → statement M
 unfolding stands_for

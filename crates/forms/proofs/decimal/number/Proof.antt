@@ -3,13 +3,13 @@ use Prim.Native.Nat.{◌≤◌, ◌-◌}
 use mathlib.Core.Path.{◌≡◌}
 use lib.ListN.{length, drop}
 use Rattle.text.specs.Decimal.{number_from, worth, number}
-use Rattle.text.proofs.Decimals.{number-on, number-ends}
-use Rattle.forms.proofs.Decimals.{Bounded, bounded_none, bounded-on, tens-fit, next_fits}
+use Rattle.text.proofs.Decimals.{number_on_lem, number_ends}
+use Rattle.forms.proofs.Decimals.{Bounded, bounded_none, bounded_on, tens_fit, next_fits}
 use borrow.Author.Rules.{rules}
 use Rattle.forms.proofs.decimal.number.Statement.{statement}
 use Rattle.forms.proofs.decimal.number.Tie as tie
 
-ruleset laws = (rules, number-on, number-ends, bounded_none, bounded-on, tens-fit, next_fits)
+ruleset laws = (rules, number_on_lem, number_ends, bounded_none, bounded_on, tens_fit, next_fits)
 
 abbrev invariant-loop : tie.invariant-loop
 invariant-loop s n₀ i₀ n i = (i ≤ length s) × (Bounded n i) × (number_from worth n (drop i s) ≡ number s)

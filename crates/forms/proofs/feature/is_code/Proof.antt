@@ -4,12 +4,12 @@ use mathlib.Core.Path.{◌≡◌}
 use lib.ListN.{drop}
 use Rattle.text.specs.Scan.{among}
 use Rattle.forms.specs.Feature.{feature_codes}
-use Rattle.forms.proofs.Features.{code-on, code_here, code_ends}
+use Rattle.forms.proofs.Features.{code_on, code_here, code_ends}
 use borrow.Author.Rules.{rules}
 use Rattle.forms.proofs.feature.is_code.Statement.{statement}
 use Rattle.forms.proofs.feature.is_code.Tie as tie
 
-ruleset laws = (rules, code-on, code_here, code_ends)
+ruleset laws = (rules, code_on, code_here, code_ends)
 
 abbrev invariant-loop : tie.invariant-loop
 invariant-loop code i₀ i = (i ≤ 30) × (among code (drop i feature_codes) ≡ among code feature_codes)

@@ -1,10 +1,10 @@
 -- `shape::is_mail` meets its contract.
-use Rattle.forms.proofs.Shapes.{mail-count, mail-first, mail-last, mail-some, mail-end}
+use Rattle.forms.proofs.Shapes.{mail_count, mail_first, mail_last, mail_some, mail_end}
 use borrow.Author.Rules.{rules}
 use Rattle.forms.proofs.shape.is_mail.Statement.{statement}
 use Rattle.forms.proofs.shape.is_mail.Tie as tie
 
-ruleset laws = (rules, mail-count, mail-first, mail-last, mail-some, mail-end)
+ruleset laws = (rules, mail_count, mail_first, mail_last, mail_some, mail_end)
 
 pub is_mail_spec : {M : Type 1} → statement M
 is_mail_spec =

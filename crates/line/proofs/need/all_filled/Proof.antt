@@ -3,14 +3,14 @@ use Prim.Native.Nat.{◌≤◌, ◌-◌}
 use mathlib.Core.Path.{◌≡◌}
 use lib.ListN.{length, drop}
 use Rattle.text.specs.Scan.{all}
-use Rattle.text.proofs.Scans.{all-on, all-stops, all-ends}
+use Rattle.text.proofs.Scans.{all_on, all_stops, all_ends}
 use Rattle.line.specs.Parts.{split}
 use Rattle.line.specs.Need.{is_filled}
 use borrow.Author.Rules.{rules}
 use Rattle.line.proofs.need.all_filled.Statement.{statement}
 use Rattle.line.proofs.need.all_filled.Tie as tie
 
-ruleset laws = (rules, all-on, all-stops, all-ends)
+ruleset laws = (rules, all_on, all_stops, all_ends)
 
 abbrev invariant-loop : tie.invariant-loop
 invariant-loop line numbers i₀ i = (i ≤ length numbers) × (all (is_filled (split line)) (drop i numbers) ≡ all (is_filled (split line)) numbers)

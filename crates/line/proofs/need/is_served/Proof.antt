@@ -1,11 +1,11 @@
 -- `need::is_served` meets its contract.
 use Rattle.line.specs.Need.{serves}
-use Rattle.line.proofs.Needs.{served-as, served-rest}
+use Rattle.line.proofs.Needs.{served_as, served_rest}
 use borrow.Author.Rules.{rules}
 use Rattle.line.proofs.need.is_served.Statement.{statement}
 use Rattle.line.proofs.need.is_served.Tie as tie
 
-ruleset laws = (rules, served-as, served-rest)
+ruleset laws = (rules, served_as, served_rest)
 
 pub is_served_spec : {M : Type 1} → statement M
 unfolding serves

@@ -1,10 +1,10 @@
 -- `part::field_in` meets its contract.
-use Rattle.line.proofs.Parts.{part-missing, part-there}
+use Rattle.line.proofs.Parts.{part_missing, part_there}
 use borrow.Author.Rules.{rules}
 use Rattle.line.proofs.part.field_in.Statement.{statement}
 use Rattle.line.proofs.part.field_in.Tie as tie
 
-ruleset laws = (rules, part-missing, part-there)
+ruleset laws = (rules, part_missing, part_there)
 
 pub field_in_spec : {M : Type 1} → statement M
 field_in_spec =

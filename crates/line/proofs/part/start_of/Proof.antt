@@ -3,12 +3,12 @@ use Prim.Native.Nat.{◌≤◌, ◌+◌, ◌-◌}
 use mathlib.Core.Path.{◌≡◌}
 use lib.ListN.{length}
 use Rattle.line.specs.Parts.{start_in, start_of}
-use Rattle.line.proofs.Parts.{rest, start_starts, start-on, start-past, start-done}
+use Rattle.line.proofs.Parts.{rest, start_starts, start_on, start_past, start_done}
 use borrow.Author.Rules.{rules}
 use Rattle.line.proofs.part.start_of.Statement.{statement}
 use Rattle.line.proofs.part.start_of.Tie as tie
 
-ruleset laws = (rules, start_starts, start-on, start-past, start-done)
+ruleset laws = (rules, start_starts, start_on, start_past, start_done)
 
 abbrev invariant-loop : tie.invariant-loop
 invariant-loop line number start₀ i₀ start i = (i ≤ number) × (start ≤ length line + 1) ×

@@ -1,10 +1,10 @@
 -- `read::after_walk` meets its contract.
-use Rattle.line.proofs.Lines.{field-wrong, lacks-one, has_all}
+use Rattle.line.proofs.Lines.{field_wrong, lacks_one, has_all}
 use borrow.Author.Rules.{rules}
 use Rattle.line.proofs.read.after_walk.Statement.{statement}
 use Rattle.line.proofs.read.after_walk.Tie as tie
 
-ruleset laws = (rules, field-wrong, lacks-one, has_all)
+ruleset laws = (rules, field_wrong, lacks_one, has_all)
 
 pub after_walk_spec : {M : Type 1} → statement M
 after_walk_spec =

@@ -1,11 +1,11 @@
 -- `read::of_text` meets its contract.
 use Rattle.line.proofs.Parts.{name_long}
-use Rattle.line.proofs.Lines.{type-unknown, out_of_order, in_order}
+use Rattle.line.proofs.Lines.{type_unknown, out_of_order, in_order}
 use borrow.Author.Rules.{rules}
 use Rattle.line.proofs.read.of_text.Statement.{statement}
 use Rattle.line.proofs.read.of_text.Tie as tie
 
-ruleset laws = (rules, name_long, type-unknown, out_of_order, in_order)
+ruleset laws = (rules, name_long, type_unknown, out_of_order, in_order)
 
 pub of_text_spec : {M : Type 1} → statement M
 of_text_spec =

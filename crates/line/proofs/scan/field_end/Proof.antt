@@ -3,13 +3,13 @@ use Prim.Native.Nat.{◌≤◌, ◌-◌}
 use mathlib.Core.Path.{◌≡◌}
 use lib.ListN.{length, drop}
 use Rattle.text.specs.Scan.{first_failing}
-use Rattle.text.proofs.Scans.{walk-on, walk-stops, walk_ends}
+use Rattle.text.proofs.Scans.{walk_on, walk_stops, walk_ends}
 use Rattle.line.specs.Parts.{in_field, field_end}
 use borrow.Author.Rules.{rules}
 use Rattle.line.proofs.scan.field_end.Statement.{statement}
 use Rattle.line.proofs.scan.field_end.Tie as tie
 
-ruleset laws = (rules, walk-on, walk-stops, walk_ends)
+ruleset laws = (rules, walk_on, walk_stops, walk_ends)
 
 abbrev invariant-loop : tie.invariant-loop
 invariant-loop line start i₀ i = (start ≤ i) × (i ≤ length line) × (first_failing (λ _ b. in_field b) i (drop i line) ≡ field_end line start)

@@ -4,13 +4,13 @@ use mathlib.Core.Path.{◌≡◌}
 use lib.ListN.{length, drop}
 use Rattle.text.specs.Byte.{text_byte}
 use Rattle.text.specs.Scan.{first_failing}
-use Rattle.text.proofs.Scans.{walk-on, walk-stops, walk_ends}
+use Rattle.text.proofs.Scans.{walk_on, walk_stops, walk_ends}
 use Rattle.line.specs.Line.{line_end}
 use borrow.Author.Rules.{rules}
 use Rattle.line.proofs.scan.line_end.Statement.{statement}
 use Rattle.line.proofs.scan.line_end.Tie as tie
 
-ruleset laws = (rules, walk-on, walk-stops, walk_ends)
+ruleset laws = (rules, walk_on, walk_stops, walk_ends)
 
 abbrev invariant-loop : tie.invariant-loop
 invariant-loop s at i₀ i = (at ≤ i) × (i ≤ length s) × (first_failing (λ _ b. text_byte b) i (drop i s) ≡ line_end s at)

@@ -4,13 +4,13 @@ use lib.ListN.{length}
 use Rattle.fields.specs.Profile.{profile}
 use Rattle.line.specs.Parts.{name_of, fields_of}
 use Rattle.line.specs.Walk.{walk}
-use Rattle.line.proofs.Parts.{name-inside, name-fits}
-use Rattle.line.proofs.Walking.{Left, walk-starts, walk-done, walk-stops, walk-on}
+use Rattle.line.proofs.Parts.{name_inside, name_fits}
+use Rattle.line.proofs.Walking.{Left, walk_starts, walk_done, walk_stops, walk_on}
 use borrow.Author.Rules.{rules}
 use Rattle.line.proofs.walk.walk_fields.Statement.{statement}
 use Rattle.line.proofs.walk.walk_fields.Tie as tie
 
-ruleset laws = (rules, name-inside, name-fits, walk-starts, walk-done, walk-stops, walk-on)
+ruleset laws = (rules, name_inside, name_fits, walk_starts, walk_done, walk_stops, walk_on)
 
 abbrev invariant-loop : tie.invariant-loop
 invariant-loop version kind line at name number₀ beside₀ start₀ number beside start =

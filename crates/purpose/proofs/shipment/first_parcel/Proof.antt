@@ -3,12 +3,12 @@ use Prim.Native.Nat.{◌≤◌, ◌+◌, ◌-◌}
 use mathlib.Core.Path.{◌≡◌}
 use lib.ListN.{length, drop}
 use Rattle.purpose.specs.Source.{first_parcel}
-use Rattle.purpose.proofs.Seeking.{parcel-here, parcel-on, parcel-none}
+use Rattle.purpose.proofs.Seeking.{parcel_here, parcel_on, parcel_none}
 use borrow.Author.Rules.{rules}
 use Rattle.purpose.proofs.shipment.first_parcel.Statement.{statement}
 use Rattle.purpose.proofs.shipment.first_parcel.Tie as tie
 
-ruleset laws = (rules, parcel-here, parcel-on, parcel-none)
+ruleset laws = (rules, parcel_here, parcel_on, parcel_none)
 
 abbrev invariant-loop : tie.invariant-loop
 invariant-loop s starts shipment i₀ t6 i = (i ≤ length starts) × (first_parcel s (drop i starts) ≡ first_parcel s (drop (shipment + 1) starts))

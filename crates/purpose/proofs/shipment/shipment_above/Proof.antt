@@ -2,12 +2,12 @@
 use Prim.Native.Nat.{◌≤◌}
 use mathlib.Core.Path.{◌≡◌}
 use Rattle.purpose.specs.Source.{shipment_above}
-use Rattle.purpose.proofs.Seeking.{ship-here, ship-up, ship-none}
+use Rattle.purpose.proofs.Seeking.{ship_here, ship_up, ship_none}
 use borrow.Author.Rules.{rules}
 use Rattle.purpose.proofs.shipment.shipment_above.Statement.{statement}
 use Rattle.purpose.proofs.shipment.shipment_above.Tie as tie
 
-ruleset laws = (rules, ship-here, ship-up, ship-none)
+ruleset laws = (rules, ship_here, ship_up, ship_none)
 
 abbrev invariant-loop : tie.invariant-loop
 invariant-loop s starts number i₀ t5 i = (i ≤ number) × (shipment_above s starts i ≡ shipment_above s starts number)

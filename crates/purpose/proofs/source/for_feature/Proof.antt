@@ -1,10 +1,10 @@
 -- `source::for_feature` meets its contract.
-use Rattle.purpose.proofs.Seeking.{own-field, from-above}
+use Rattle.purpose.proofs.Seeking.{own_field, from_above}
 use borrow.Author.Rules.{rules}
 use Rattle.purpose.proofs.source.for_feature.Statement.{statement}
 use Rattle.purpose.proofs.source.for_feature.Tie as tie
 
-ruleset laws = (rules, own-field, from-above)
+ruleset laws = (rules, own_field, from_above)
 
 pub for_feature_spec : {M : Type 1} → statement M
 for_feature_spec =

@@ -1,11 +1,11 @@
 -- `source::from_shipment` meets its contract.
 use Rattle.purpose.specs.Source.{from_shipment}
-use Rattle.text.proofs.Choices.{takes-then, takes-else}
+use Rattle.text.proofs.Choices.{takes_then, takes_else}
 use borrow.Author.Rules.{rules}
 use Rattle.purpose.proofs.source.from_shipment.Statement.{statement}
 use Rattle.purpose.proofs.source.from_shipment.Tie as tie
 
-ruleset laws = (rules, takes-then, takes-else)
+ruleset laws = (rules, takes_then, takes_else)
 
 pub from_shipment_spec : {M : Type 1} → statement M
 unfolding from_shipment

@@ -1,11 +1,11 @@
 -- `tally::count_answers` meets its contract: the counts so far, with the answers still to come, are those of all.
 use Rattle.std.proofs.Common.{◌≡◌, ◌-◌, ◌≤◌, length, drop, rules}
 use Rattle.scans.specs.Tallying.{tallied}
-use Rattle.scans.proofs.Tallying.{tally-on, tally-ends}
+use Rattle.scans.proofs.Tallying.{tally_on, tally_ends}
 use Rattle.scans.proofs.tally.count_answers.Statement.{statement}
 use Rattle.scans.proofs.tally.count_answers.Tie as tie
 
-ruleset laws = (rules, tally-on, tally-ends)
+ruleset laws = (rules, tally_on, tally_ends)
 
 abbrev invariant-loop : tie.invariant-loop
 invariant-loop answers counts₀ i₀ counts i = (i ≤ length answers) × (tallied counts (drop i answers) ≡ tallied counts₀ answers)

@@ -1,10 +1,10 @@
 -- `put::put_line` meets its contract.
-use Rattle.writer.proofs.Puts.{line-long, line-put}
+use Rattle.writer.proofs.Puts.{line_long, line_put}
 use borrow.Author.Rules.{rules}
 use Rattle.writer.proofs.put.put_line.Statement.{statement}
 use Rattle.writer.proofs.put.put_line.Tie as tie
 
-ruleset laws = (rules, line-long, line-put)
+ruleset laws = (rules, line_long, line_put)
 
 pub put_line_spec : {M : Type 1} → statement M
 put_line_spec =

@@ -3,13 +3,13 @@ use Prim.Native.Nat.{◌≤◌, ◌-◌}
 use mathlib.Core.Path.{◌≡◌}
 use lib.ListN.{length, drop}
 use Rattle.text.specs.Scan.{all}
-use Rattle.text.proofs.Scans.{all-on, all-stops, all-ends}
+use Rattle.text.proofs.Scans.{all_on, all_stops, all_ends}
 use Rattle.line.specs.Render.{plain}
 use borrow.Author.Rules.{rules}
 use Rattle.writer.proofs.test.all_plain.Statement.{statement}
 use Rattle.writer.proofs.test.all_plain.Tie as tie
 
-ruleset laws = (rules, all-on, all-stops, all-ends)
+ruleset laws = (rules, all_on, all_stops, all_ends)
 
 abbrev invariant-loop : tie.invariant-loop
 invariant-loop field i₀ i = (i ≤ length field) × (all plain (drop i field) ≡ all plain field)

@@ -3,12 +3,12 @@ use Prim.Native.Nat.{◌≤◌, ◌-◌}
 use mathlib.Core.Path.{◌≡◌}
 use lib.ListN.{length, drop}
 use Rattle.writer.specs.Write.{rises_to, ends_hold}
-use Rattle.writer.proofs.Ends.{ends_on, ends-fall, ends-end}
+use Rattle.writer.proofs.Ends.{ends_on, ends_fall, ends_end}
 use borrow.Author.Rules.{rules}
 use Rattle.writer.proofs.test.ends_hold.Statement.{statement}
 use Rattle.writer.proofs.test.ends_hold.Tie as tie
 
-ruleset laws = (rules, ends_on, ends-fall, ends-end)
+ruleset laws = (rules, ends_on, ends_fall, ends_end)
 
 abbrev invariant-loop : tie.invariant-loop
 invariant-loop ends long start₀ i₀ start i = (i ≤ length ends) × (rises_to long start (drop i ends) ≡ ends_hold ends long)

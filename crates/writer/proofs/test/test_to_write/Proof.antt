@@ -1,10 +1,10 @@
 -- `test::test_to_write` meets its contract.
-use Rattle.writer.proofs.Walks.{test-bad, test_good, test-other}
+use Rattle.writer.proofs.Walks.{test_bad, test_good, test_other}
 use borrow.Author.Rules.{rules}
 use Rattle.writer.proofs.test.test_to_write.Statement.{statement}
 use Rattle.writer.proofs.test.test_to_write.Tie as tie
 
-ruleset laws = (rules, test-bad, test_good, test-other)
+ruleset laws = (rules, test_bad, test_good, test_other)
 
 pub test_to_write_spec : {M : Type 1} → statement M
 test_to_write_spec =

@@ -2,12 +2,12 @@
 use Prim.Native.Nat.{◌-◌}
 use lib.ListN.{length}
 use Rattle.fields.specs.Profile.{profile}
-use Rattle.writer.proofs.Walks.{Walking, walking_none, walking-done, next-rises, next-inside, walking-stops, walking_on}
+use Rattle.writer.proofs.Walks.{Walking, walking_none, walking_done, next_rises, next_inside, walking_stops, walking_on}
 use borrow.Author.Rules.{rules}
 use Rattle.writer.proofs.test.walk_fields.Statement.{statement}
 use Rattle.writer.proofs.test.walk_fields.Tie as tie
 
-ruleset laws = (rules, walking_none, walking-done, next-rises, next-inside, walking-stops, walking_on)
+ruleset laws = (rules, walking_none, walking_done, next_rises, next_inside, walking_stops, walking_on)
 
 abbrev invariant-loop : tie.invariant-loop
 invariant-loop version kind text ends beside₀ start₀ i₀ beside start i = Walking (profile version kind) kind text ends beside start i
