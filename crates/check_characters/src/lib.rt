@@ -1,4 +1,6 @@
 // Check characters: DPD numbers by ISO/IEC 7064 MOD 37,36 and IBANs by ISO 13616 with MOD 97-10.
+#![tactic(auto)]
+
 mod answer;
 mod carry;
 mod day;

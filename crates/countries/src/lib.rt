@@ -1,4 +1,6 @@
 // The list of countries that a caller lends: pairs of capitals, one behind the other.
+#![tactic(auto)]
+
 ghost use Rattle.std.specs.Prelude.{◌≡◌};
 ghost use Rattle.countries.specs.List.{is_paired, is_listed};
 

@@ -1,6 +1,8 @@
 // Judges the file on standard input: prints `ok LINES PARCELS CENTS` or `no NUMBER PLACE`, in one write. The buffer holds one byte more
 // than a file may have, so that a longer input is seen to be one. An input that could not be read whole has no answer. The list
 // of countries that it lends is empty: no sender needs contacts.
+#![tactic(auto)]
+
 use file::{FileAnswer, Totals};
 use refusal::Refusal;
 use streams::Input;

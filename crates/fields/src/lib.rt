@@ -1,4 +1,6 @@
 // The rules of the fields of each record, by version: one test for every field.
+#![tactic(auto)]
+
 mod field;
 mod form;
 mod table;

@@ -1,5 +1,7 @@
 // The forms of a filled field, one function each: whether a run of bytes has the form, and what an amount and a feature
 // code tell.
+#![tactic(auto)]
+
 mod amount;
 mod date;
 mod decimal;

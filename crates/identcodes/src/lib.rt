@@ -13,6 +13,8 @@
 //
 // A fork asks for a byte and not a bit. On no way is a digit asked twice with the same byte, so that none has more than nine forks for
 // each of the 22 digits, whatever the codes and their order.
+#![tactic(auto)]
+
 ghost use Rattle.std.specs.Prelude.{◌≡◌, ◌<◌, get_or, set};
 ghost use Rattle.identcodes.specs.Tree.{fork, leads_to, slot_from, unlike_at, planted, parted, is_there, grown, has_room, Finds};
 

@@ -1,4 +1,6 @@
 // One line of a file, judged where it starts, and one field of it found.
+#![tactic(auto)]
+
 mod find;
 mod need;
 mod part;

@@ -1,4 +1,6 @@
 // The six records and the two versions of a file: what names each, how many fields a record has, and which may follow which.
+#![tactic(auto)]
+
 mod record;
 mod version;
 

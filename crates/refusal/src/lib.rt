@@ -1,4 +1,6 @@
 // The refusal table: why an entry point refuses what it was given, and at which place. Every answer that refuses holds one `Refusal`.
+#![tactic(auto)]
+
 ghost use Rattle.std.specs.Prelude.{◌≡◌};
 ghost use Rattle.refusal.specs.Table.{number_of};
 

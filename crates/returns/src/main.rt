@@ -1,6 +1,8 @@
 // The returns bench: tracking numbers one a line on standard input, their answers one a line on standard output, each as soon as its line
 // is there, and at the end a line `counts LINES PASSED LENGTH SYMBOL CHECK`. Where a read or a write fails it says so, prints no counts and
 // stops.
+#![tactic(auto)]
+
 ghost use Rattle.std.specs.Prelude.{◌≡◌, false, ◌<◌, ◌≤◌, length, take};
 ghost use Rattle.io.specs.Counts.{IsPrefixLen};
 ghost use Rattle.scans.specs.Tallying.{no_line};

@@ -1,6 +1,8 @@
 // The returns bench's scans: tracking numbers that stand one a line in a text, answered up to 1,024 at a time. A line ends with a line feed;
 // a carriage return in front of it belongs to the line's end, as scanners send both. What stands behind the last line feed waits for the
 // rest of its line.
+#![tactic(auto)]
+
 mod tally;
 
 ghost use Rattle.std.specs.Prelude.{◌≡◌, ◌+◌, ◌-◌, ◌*◌, ◌/◌, ◌≤◌, min, length};

@@ -1,4 +1,6 @@
 // What the programs read and write. A read that fails is no end of the input, and one that a signal interrupted is made again.
+#![tactic(auto)]
+
 ghost use Rattle.std.specs.Prelude.{◌≡◌, ◌≤◌};
 ghost use Rattle.io.specs.Counts.{IsPrefixLen};
 ghost use Rattle.streams.specs.Reads.{Held, HeldPiece, meaning_of};

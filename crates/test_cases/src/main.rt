@@ -1,6 +1,8 @@
 // Judges stored files: its arguments are threes of a number of words, a list of countries (`-` is the empty one) and a file's name.
 // Each gives a line: the name, the words and the countries lent, the answer, and the sum of the list's words, which were all
 // 4,294,967,295 before.
+#![tactic(auto)]
+
 ghost use Rattle.std.specs.Prelude.{◌<◌, ◌≤◌};
 
 use file::{FileAnswer, Totals};

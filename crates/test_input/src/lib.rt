@@ -1,4 +1,6 @@
 // The input of the test programs: the numbers in its lines.
+#![tactic(auto)]
+
 ghost use Rattle.std.specs.Prelude.{◌≡◌, ◌-◌, ◌≤◌, length};
 ghost use Rattle.test_input.specs.Input.{given};
 

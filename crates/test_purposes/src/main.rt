@@ -1,6 +1,8 @@
 // Runs cases of the payment purpose. Each case of the input is `#`, a line's number, the output's and the list's length, each in two
 // digits, a list of countries, a line feed, and a file. Each gives a line: the answer, the whole output, which was full of points,
 // and the whole list, which was full of sevens.
+#![tactic(auto)]
+
 ghost use Rattle.std.specs.Prelude.{◌≤◌, length};
 
 use purpose::PurposeAnswer;

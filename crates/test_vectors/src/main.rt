@@ -3,6 +3,8 @@
 // is checked. P: its parts are read. J: one is issued from these digits. K: the carry after one more key is given, where the text is the
 // carry before it, a space and the key. T: the text is typed key by key, and the carry after each key is given. A: a day's numbers are
 // checked, where the text is how many answer bytes are lent, a space and the numbers; each answer byte is given too.
+#![tactic(auto)]
+
 use check_characters::{CarryAnswer, CheckAnswer, DayAnswer, IssueAnswer, Kind, NumberAnswer};
 use check_digits::{Part, Parts, PartsAnswer};
 use refusal::Refusal;

@@ -1,5 +1,7 @@
 // Writes lines: each line of the input is a version, a record number, a fill, a room for output, how many field ends, the ends, each with a
 // space behind it, and the text. Each gives the answer and the whole output, which was all points before.
+#![tactic(auto)]
+
 ghost use Rattle.std.specs.Prelude.{◌≤◌, length};
 
 use refusal::Refusal;

@@ -1,5 +1,7 @@
 // Bytes and runs of bytes: the classes of a byte, two runs compared, and a run written into an output. What every crate of
 // the desk stands on.
+#![tactic(auto)]
+
 ghost use Rattle.std.specs.Prelude.{◌≡◌, ◌+◌, ◌≤◌, eqb, length, take, drop};
 ghost use Rattle.text.specs.Byte.{digit, capital, small, symbol, text_byte, purpose_byte, in_class};
 ghost use Rattle.text.specs.Choice.{if◌then◌else◌};

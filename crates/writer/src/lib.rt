@@ -1,4 +1,6 @@
 // One line written into an output: the reader's rules asked before, the reader's own line behind.
+#![tactic(auto)]
+
 mod put;
 mod test;
 mod write;
