@@ -11,15 +11,15 @@ use Rattle.text.proofs.all_in.Tie as tie
 
 ruleset laws = (rules, all_on, all_stops, all_ends)
 
-abbrev invariant-loop : tie.invariant-loop
-invariant-loop class s i₀ i = (i ≤ length s) × (all (in_class class) (drop i s) ≡ all (in_class class) s)
+abbrev invariant-loop-i : tie.invariant-loop-i
+invariant-loop-i class s i₀ i = (i ≤ length s) × (all (in_class class) (drop i s) ≡ all (in_class class) s)
 
-abbrev decreases-loop : tie.decreases-loop
-decreases-loop class s i₀ i = length s - i
+abbrev decreases-loop-i : tie.decreases-loop-i
+decreases-loop-i class s i₀ i = length s - i
 
 pub all_in_spec : {M : Type 1} → statement M
 all_in_spec =
     tie.close
     (tie.spec
-    invariant-loop decreases-loop (λ c. search laws) (λ c. search laws) (λ c κs. search laws) (λ c. search laws) (λ c. search laws)
+    invariant-loop-i decreases-loop-i (λ c. search laws) (λ c. search laws) (λ c κs. search laws) (λ c. search laws) (λ c. search laws)
     (λ c. search laws) (λ c. search laws) (λ c. search laws))

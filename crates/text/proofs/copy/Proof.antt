@@ -10,15 +10,15 @@ use Rattle.text.proofs.copy.Tie as tie
 
 ruleset laws = (rules, paste-zero, copy_again, copy_done)
 
-abbrev invariant-loop : tie.invariant-loop
-invariant-loop out₀ at src i₀ out i = (i ≤ length src) × (length out ≡ length out₀) × (out ≡ paste out₀ at src i)
+abbrev invariant-loop-i : tie.invariant-loop-i
+invariant-loop-i out₀ at src i₀ out i = (i ≤ length src) × (length out ≡ length out₀) × (out ≡ paste out₀ at src i)
 
-abbrev decreases-loop : tie.decreases-loop
-decreases-loop out₀ at src i₀ out i = length src - i
+abbrev decreases-loop-i : tie.decreases-loop-i
+decreases-loop-i out₀ at src i₀ out i = length src - i
 
 pub copy_spec : {M : Type 1} → statement M
 copy_spec =
     tie.close
     (tie.spec
-    invariant-loop decreases-loop (λ c. search laws) (λ c. search laws) (λ c. search laws) (λ c. search laws) (λ c. search laws)
+    invariant-loop-i decreases-loop-i (λ c. search laws) (λ c. search laws) (λ c. search laws) (λ c. search laws) (λ c. search laws)
     (λ c. search laws) (λ c. search laws) (λ c. search laws) (λ c. search laws))

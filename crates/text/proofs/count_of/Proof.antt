@@ -11,15 +11,15 @@ use Rattle.text.proofs.count_of.Tie as tie
 
 ruleset laws = (rules, count_on, count_ends)
 
-abbrev invariant-loop : tie.invariant-loop
-invariant-loop mark s n₀ i₀ n i = (i ≤ length s) × (n ≤ i) × (n + count (λ b. eqb b mark) (drop i s) ≡ count (λ b. eqb b mark) s)
+abbrev invariant-loop-i : tie.invariant-loop-i
+invariant-loop-i mark s n₀ i₀ n i = (i ≤ length s) × (n ≤ i) × (n + count (λ b. eqb b mark) (drop i s) ≡ count (λ b. eqb b mark) s)
 
-abbrev decreases-loop : tie.decreases-loop
-decreases-loop mark s n₀ i₀ n i = length s - i
+abbrev decreases-loop-i : tie.decreases-loop-i
+decreases-loop-i mark s n₀ i₀ n i = length s - i
 
 pub count_of_spec : {M : Type 1} → statement M
 count_of_spec =
     tie.close
     (tie.spec
-    invariant-loop decreases-loop (λ c. search laws) (λ c. search laws) (λ c κs. search laws) (λ c. search laws) (λ c. search laws)
+    invariant-loop-i decreases-loop-i (λ c. search laws) (λ c. search laws) (λ c κs. search laws) (λ c. search laws) (λ c. search laws)
     (λ c. search laws) (λ c. search laws) (λ c. search laws))

@@ -10,15 +10,15 @@ use Rattle.text.proofs.is_among.Tie as tie
 
 ruleset laws = (rules, among_on, among_here, among_ends)
 
-abbrev invariant-loop : tie.invariant-loop
-invariant-loop b s i₀ i = (i ≤ length s) × (among b (drop i s) ≡ among b s)
+abbrev invariant-loop-i : tie.invariant-loop-i
+invariant-loop-i b s i₀ i = (i ≤ length s) × (among b (drop i s) ≡ among b s)
 
-abbrev decreases-loop : tie.decreases-loop
-decreases-loop b s i₀ i = length s - i
+abbrev decreases-loop-i : tie.decreases-loop-i
+decreases-loop-i b s i₀ i = length s - i
 
 pub is_among_spec : {M : Type 1} → statement M
 is_among_spec =
     tie.close
     (tie.spec
-    invariant-loop decreases-loop (λ c. search laws) (λ c. search laws) (λ c. search laws) (λ c. search laws) (λ c. search laws)
+    invariant-loop-i decreases-loop-i (λ c. search laws) (λ c. search laws) (λ c. search laws) (λ c. search laws) (λ c. search laws)
     (λ c. search laws) (λ c. search laws))

@@ -8,4 +8,4 @@ use Rattle.text.proofs.is_text_byte.Tie as tie
 ruleset laws = (rules, text_low, text_ascii)
 
 pub is_text_byte_spec : {M : Type 1} → statement M
-is_text_byte_spec = tie.close (tie.spec (λ c. search laws) (λ c. search laws) (λ c. text_upper _ c.if2.false (omega arith)))
+is_text_byte_spec = tie.close (tie.spec (λ c. search laws) (λ c. search laws) (λ c. text_upper _ c.if-b-le126.false (omega arith)))
