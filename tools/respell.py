@@ -54,7 +54,7 @@ def snake(name):
         return APART[name]
     if name[0].isupper():
         return name
-    apart = re.sub(r"([a-z0-9])([A-Z])(?=[a-z])", lambda m: m.group(1) + "_" + m.group(2).lower(), name)
+    apart = re.sub(r"([a-z0-9])([A-Z])(?![A-Z])", lambda m: m.group(1) + "_" + m.group(2).lower(), name)
     return apart.replace("-", "_")
 
 

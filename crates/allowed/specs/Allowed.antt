@@ -6,7 +6,7 @@ use Rattle.text.specs.Choice.{if◌then◌else◌}
 use Rattle.text.specs.Quoted.{bytes}
 use Rattle.text.specs.Scan.{same}
 use Rattle.forms.specs.Amount.{cents}
-use Rattle.records.specs.Record.{◌isA◌, may_come, may_end}
+use Rattle.records.specs.Record.{◌is_a◌, may_come, may_end}
 use Rattle.fields.specs.Form.{is_cash}
 use Rattle.records.specs.declared.record.Record.{Record}
 use Rattle.records.specs.declared.record.Record.TheVariants.{Header, Sender, Shipment, Parcel, Feature}

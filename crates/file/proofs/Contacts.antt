@@ -7,7 +7,7 @@ use lib.ListN.{length, get_or}
 use borrow.Author.Tests.{not-true, not-false}
 use Rattle.text.proofs.Scans.{no_bytes}
 use Rattle.countries.specs.List.{is_listed}
-use Rattle.records.specs.Record.{◌isA◌}
+use Rattle.records.specs.Record.{◌is_a◌}
 use Rattle.records.specs.declared.record.Record.{Record}
 use Rattle.records.specs.declared.record.Record.TheVariants.{Shipment}
 use Rattle.line.specs.Need.{is_filled}

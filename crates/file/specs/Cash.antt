@@ -5,7 +5,7 @@ use Rattle.text.specs.Quoted.{bytes}
 use Rattle.text.specs.Scan.{same}
 use Rattle.forms.specs.Amount.{cents, amount}
 use Rattle.fields.specs.Form.{is_cash}
-use Rattle.records.specs.Record.{◌isA◌}
+use Rattle.records.specs.Record.{◌is_a◌}
 use Rattle.records.specs.declared.record.Record.{Record}
 use Rattle.records.specs.declared.record.Record.TheVariants.{Feature}
 

@@ -4,7 +4,7 @@ use Rattle.std.specs.Prelude.{ℕ, Bool, not, ◌&&◌, List, [], ◌∷◌, get
 use Rattle.text.specs.Choice.{if◌then◌else◌}
 use Rattle.text.specs.Scan.{all}
 use Rattle.countries.specs.List.{is_listed}
-use Rattle.records.specs.Record.{◌isA◌}
+use Rattle.records.specs.Record.{◌is_a◌}
 use Rattle.records.specs.declared.record.Record.{Record}
 use Rattle.records.specs.declared.record.Record.TheVariants.{Sender, Shipment}
 use Rattle.line.specs.Need.{is_filled}

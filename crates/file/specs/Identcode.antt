@@ -6,7 +6,7 @@ use Rattle.text.specs.Scan.{same}
 use Rattle.forms.specs.Shape.{digits}
 use Rattle.identcodes.specs.Tree.{identcode_at, is_there, grown}
 use Rattle.identcodes.proofs.Slots.{Tree}
-use Rattle.records.specs.Record.{◌isA◌}
+use Rattle.records.specs.Record.{◌is_a◌}
 use Rattle.records.specs.declared.record.Record.{Record}
 use Rattle.records.specs.declared.record.Record.TheVariants.{Parcel}
 

@@ -4,7 +4,7 @@ use Rattle.std.specs.Prelude.{ℕ, ◌+◌, Bool, not, List, ltb, take}
 use Rattle.text.specs.Choice.{if◌then◌else◌}
 use Rattle.refusal.specs.declared.Reason.TheVariants.{ContactMissing, IdentcodeRepeated, ListFull}
 use Rattle.refusal.specs.Table.{because}
-use Rattle.records.specs.Record.{◌isA◌}
+use Rattle.records.specs.Record.{◌is_a◌}
 use Rattle.records.specs.declared.record.Record.{Record}
 use Rattle.records.specs.declared.record.Record.TheVariants.{Parcel}
 use Rattle.records.specs.declared.record.Due.TheVariants.{After}

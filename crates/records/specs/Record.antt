@@ -67,8 +67,8 @@ record_at n =
     else if eqb n 4 then Product
     else Feature
 
-infix 60 ◌isA◌
-abbrev pub ◌isA◌ : Record → Record → Bool
+infix 60 ◌is_a◌
+abbrev pub ◌is_a◌ : Record → Record → Bool
 kind is_a one = eqb (row_of kind) (row_of one)
 
 abbrev pub one_of : Record → List Record → Bool

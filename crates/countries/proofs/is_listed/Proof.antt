@@ -10,16 +10,16 @@ use Rattle.countries.proofs.is_listed.Tie as tie
 
 ruleset laws = (rules, listed_here, listed_on, listed_none)
 
-abbrev invariant-loop : tie.invariant-loop
-invariant-loop countries country i₀ i = (i ≤ length countries) × (is_listed (drop i countries) country ≡ is_listed countries country)
+abbrev invariant-loop-i : tie.invariant-loop-i
+invariant-loop-i countries country i₀ i = (i ≤ length countries) × (is_listed (drop i countries) country ≡ is_listed countries country)
 
-abbrev decreases-loop : tie.decreases-loop
-decreases-loop countries country i₀ i = length countries - i
+abbrev decreases-loop-i : tie.decreases-loop-i
+decreases-loop-i countries country i₀ i = length countries - i
 
 pub is_listed_spec : {M : Type 1} → statement M
 is_listed_spec =
     tie.close
     (tie.spec
-    invariant-loop decreases-loop (λ c. search laws) (λ c. search laws) (λ c. search laws) (λ c. search laws) (λ c. search laws)
+    invariant-loop-i decreases-loop-i (λ c. search laws) (λ c. search laws) (λ c. search laws) (λ c. search laws) (λ c. search laws)
     (λ c. search laws) (λ c κs. search laws) (λ c. search laws) (λ c. search laws) (λ c. search laws) (λ c. search laws)
     (λ c. search laws))

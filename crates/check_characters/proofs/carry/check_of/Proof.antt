@@ -11,16 +11,16 @@ use Rattle.check_characters.proofs.carry.check_of.Tie as tie
 
 ruleset laws = (rules, value_below, step_low, step_high, carry_on, check_behind)
 
-abbrev invariant-loop : tie.invariant-loop
-invariant-loop s table carry₀ i₀ carry i =
+abbrev invariant-loop-i : tie.invariant-loop-i
+invariant-loop-i s table carry₀ i₀ carry i =
     (i ≤ length s) × (1 ≤ carry) × (carry ≤ 36) × (carry ≡ carryOf (take i s))
 
-abbrev decreases-loop : tie.decreases-loop
-decreases-loop s table carry₀ i₀ carry i = length s - i
+abbrev decreases-loop-i : tie.decreases-loop-i
+decreases-loop-i s table carry₀ i₀ carry i = length s - i
 
 pub check_of_spec : {M : Type 1} → statement M
 check_of_spec =
     tie.close
     (tie.spec
-    invariant-loop decreases-loop (λ c κs. search laws) (λ c. search laws) (λ c. search laws) (λ c κs. search laws) (λ c κs. search laws) (λ c. search laws)
+    invariant-loop-i decreases-loop-i (λ c κs. search laws) (λ c. search laws) (λ c. search laws) (λ c κs. search laws) (λ c κs. search laws) (λ c. search laws)
     (λ c. search laws) (λ c. search laws) (λ c. search laws) (λ c. search laws) (λ c κs. search laws) (λ c. search laws))

@@ -11,17 +11,17 @@ use Rattle.check_characters.proofs.day.check_each.Tie as tie
 
 ruleset laws = (rules, paste-zero, number_inside, number_long, day_again, day_done)
 
-abbrev invariant-loop : tie.invariant-loop
-invariant-loop numbers answers₀ table n i₀ answers i =
+abbrev invariant-loop-i : tie.invariant-loop-i
+invariant-loop-i numbers answers₀ table n i₀ answers i =
     (i ≤ n) × (length answers ≡ length answers₀) × (answers ≡ paste answers₀ 0 (day_answers numbers) i)
 
-abbrev decreases-loop : tie.decreases-loop
-decreases-loop numbers answers₀ table n i₀ answers i = n - i
+abbrev decreases-loop-i : tie.decreases-loop-i
+decreases-loop-i numbers answers₀ table n i₀ answers i = n - i
 
 pub check_each_spec : {M : Type 1} → statement M
 check_each_spec =
     tie.close
     (tie.spec
-    invariant-loop decreases-loop (λ c κs. search laws) (λ c. search laws) (λ c. search laws) (λ c. search laws) (λ c. search laws) (λ c. search laws)
+    invariant-loop-i decreases-loop-i (λ c κs. search laws) (λ c. search laws) (λ c. search laws) (λ c. search laws) (λ c. search laws) (λ c. search laws)
     (λ c. search laws) (λ c κs. search laws) (λ c κs. search laws) (λ c. search laws) (λ c. search laws) (λ c. search laws)
     (λ c. search laws) (λ c. search laws) (λ c. search laws))

@@ -11,15 +11,15 @@ use Rattle.check_characters.proofs.iban.wrong_symbol.Tie as tie
 
 ruleset laws = (rules, walk_on, walk_stops, walk_ends)
 
-abbrev invariant-loop : tie.invariant-loop
-invariant-loop s i₀ i = (i ≤ length s) × (first_failing allowed_in_iban i (drop i s) ≡ wrong_in_iban s)
+abbrev invariant-loop-i : tie.invariant-loop-i
+invariant-loop-i s i₀ i = (i ≤ length s) × (first_failing allowed_in_iban i (drop i s) ≡ wrong_in_iban s)
 
-abbrev decreases-loop : tie.decreases-loop
-decreases-loop s i₀ i = length s - i
+abbrev decreases-loop-i : tie.decreases-loop-i
+decreases-loop-i s i₀ i = length s - i
 
 pub wrong_symbol_spec : {M : Type 1} → statement M
 wrong_symbol_spec =
     tie.close
     (tie.spec
-    invariant-loop decreases-loop (λ c. search laws) (λ c. search laws) (λ c κs. search laws) (λ c. search laws) (λ c. search laws)
+    invariant-loop-i decreases-loop-i (λ c. search laws) (λ c. search laws) (λ c κs. search laws) (λ c. search laws) (λ c. search laws)
     (λ c. search laws) (λ c. search laws) (λ c. search laws))

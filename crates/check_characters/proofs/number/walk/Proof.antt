@@ -14,18 +14,18 @@ use Rattle.check_characters.proofs.number.walk.Tie as tie
 
 ruleset laws = (rules, walk_on, walk_stops, walk_ends, value_below, step_low, step_high, carry_on)
 
-abbrev invariant-loop : tie.invariant-loop
-invariant-loop table kind s carry₀ i₀ carry i =
+abbrev invariant-loop-i : tie.invariant-loop-i
+invariant-loop-i table kind s carry₀ i₀ carry i =
     (i ≤ length s) × (1 ≤ carry) × (carry ≤ 36) × (carry ≡ carryOf (take i s))
     × (first_failing (allowed_in_number kind) i (drop i s) ≡ wrong_in_number kind s)
 
-abbrev decreases-loop : tie.decreases-loop
-decreases-loop table kind s carry₀ i₀ carry i = length s - i
+abbrev decreases-loop-i : tie.decreases-loop-i
+decreases-loop-i table kind s carry₀ i₀ carry i = length s - i
 
 pub walk_spec : {M : Type 1} → statement M
 walk_spec =
     tie.close
     (tie.spec
-    invariant-loop decreases-loop (λ c. search laws) (λ c. search laws) (λ c κs. search laws) (λ c. search laws) (λ c. search laws)
+    invariant-loop-i decreases-loop-i (λ c. search laws) (λ c. search laws) (λ c κs. search laws) (λ c. search laws) (λ c. search laws)
     (λ c κs. search laws) (λ c κs. search laws) (λ c. search laws) (λ c. search laws) (λ c. search laws) (λ c. search laws)
     (λ c. search laws) (λ c. search laws))

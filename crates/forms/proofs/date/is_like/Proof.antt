@@ -11,16 +11,16 @@ use Rattle.forms.proofs.date.is_like.Tie as tie
 
 ruleset laws = (rules, pair_on, pair_stops, pair_ends, pair_unlike)
 
-abbrev invariant-loop : tie.invariant-loop
-invariant-loop pattern s i₀ i = (i ≤ length pattern) × (paired stands_for (drop i pattern) (drop i s) ≡ paired stands_for pattern s)
+abbrev invariant-loop-i : tie.invariant-loop-i
+invariant-loop-i pattern s i₀ i = (i ≤ length pattern) × (paired stands_for (drop i pattern) (drop i s) ≡ paired stands_for pattern s)
 
-abbrev decreases-loop : tie.decreases-loop
-decreases-loop pattern s i₀ i = length pattern - i
+abbrev decreases-loop-i : tie.decreases-loop-i
+decreases-loop-i pattern s i₀ i = length pattern - i
 
 pub is_like_spec : {M : Type 1} → statement M
 unfolding like
 is_like_spec =
     tie.close
     (tie.spec
-    invariant-loop decreases-loop (λ c. search laws) (λ c. search laws) (λ c. search laws) (λ c. search laws) (λ c κs. search laws)
+    invariant-loop-i decreases-loop-i (λ c. search laws) (λ c. search laws) (λ c. search laws) (λ c. search laws) (λ c κs. search laws)
     (λ c. search laws) (λ c. search laws) (λ c. search laws) (λ c. search laws) (λ c. search laws))

@@ -11,15 +11,15 @@ use Rattle.forms.proofs.feature.is_code.Tie as tie
 
 ruleset laws = (rules, code_on, code_here, code_ends)
 
-abbrev invariant-loop : tie.invariant-loop
-invariant-loop code i₀ i = (i ≤ 30) × (among code (drop i feature_codes) ≡ among code feature_codes)
+abbrev invariant-loop-i : tie.invariant-loop-i
+invariant-loop-i code i₀ i = (i ≤ 30) × (among code (drop i feature_codes) ≡ among code feature_codes)
 
-abbrev decreases-loop : tie.decreases-loop
-decreases-loop code i₀ i = 30 - i
+abbrev decreases-loop-i : tie.decreases-loop-i
+decreases-loop-i code i₀ i = 30 - i
 
 pub is_code_spec : {M : Type 1} → statement M
 is_code_spec =
     tie.close
     (tie.spec
-    invariant-loop decreases-loop (λ c. search laws) (λ c κs. search laws) (λ c. search laws) (λ c. search laws) (λ c. search laws)
+    invariant-loop-i decreases-loop-i (λ c. search laws) (λ c κs. search laws) (λ c. search laws) (λ c. search laws) (λ c. search laws)
     (λ c. search laws) (λ c. search laws))
