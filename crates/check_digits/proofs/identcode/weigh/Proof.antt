@@ -12,16 +12,16 @@ use Rattle.check_digits.proofs.identcode.weigh.Tie as tie
 
 ruleset laws = (rules, walk_on, walk_stops, walk_ends, digit_least, digit_fits, weighs_fits, sum_stays, sum_little, sum_on)
 
-abbrev invariant-loop : tie.invariant-loop
-invariant-loop s sum₀ i₀ sum i =
+abbrev invariant-loop-i : tie.invariant-loop-i
+invariant-loop-i s sum₀ i₀ sum i =
     (i ≤ length s) × (sum ≤ 27 * i) × (sum ≡ weighed (take i s)) × (first_failing allowed_in_identcode i (drop i s) ≡ wrong_in_identcode s)
 
-abbrev decreases-loop : tie.decreases-loop
-decreases-loop s sum₀ i₀ sum i = length s - i
+abbrev decreases-loop-i : tie.decreases-loop-i
+decreases-loop-i s sum₀ i₀ sum i = length s - i
 
 pub weigh_spec : {M : Type 1} → statement M
 weigh_spec =
     tie.close
     (tie.spec
-    invariant-loop decreases-loop (λ c. search laws) (λ c. search laws) (λ c κs. search laws) (λ c. search laws) (λ c κs. search laws) (λ c. search laws) (λ c. search laws)
+    invariant-loop-i decreases-loop-i (λ c. search laws) (λ c. search laws) (λ c κs. search laws) (λ c. search laws) (λ c κs. search laws) (λ c. search laws) (λ c. search laws)
     (λ c. search laws) (λ c. search laws) (λ c. search laws) (λ c. search laws) (λ c. search laws) (λ c. search laws))
