@@ -9,15 +9,15 @@ use Rattle.identcodes.proofs.unlike_at.Tie as tie
 
 ruleset laws = (rules, unlike_first, unlike_on, unlike_stops, unlike_none)
 
-abbrev invariant-loop : tie.invariant-loop
-invariant-loop a b i₀ i = (i ≤ 22) × (unlike_from (22 - i) a b i ≡ unlike_at a b)
+abbrev invariant-loop-i : tie.invariant-loop-i
+invariant-loop-i a b i₀ i = (i ≤ 22) × (unlike_from (22 - i) a b i ≡ unlike_at a b)
 
-abbrev decreases-loop : tie.decreases-loop
-decreases-loop a b i₀ i = 22 - i
+abbrev decreases-loop-i : tie.decreases-loop-i
+decreases-loop-i a b i₀ i = 22 - i
 
 pub unlike_at_spec : {M : Type 1} → statement M
 unlike_at_spec =
     tie.close
     (tie.spec
-    invariant-loop decreases-loop (λ c. search laws) (λ c κs. search laws) (λ c κs. search laws) (λ c. search laws)
+    invariant-loop-i decreases-loop-i (λ c. search laws) (λ c κs. search laws) (λ c κs. search laws) (λ c. search laws)
     (λ c. search laws) (λ c. search laws) (λ c. search laws) (λ c. search laws))
