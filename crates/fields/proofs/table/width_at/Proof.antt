@@ -7,14 +7,14 @@ use borrow.Author.Rules.{rules}
 use Rattle.fields.proofs.table.width_at.Statement.{statement}
 use Rattle.fields.proofs.table.width_at.Tie as tie
 
-returns : tie.Need-returns
+returns : tie.Need-returns-in-Five
 unfolding width_in_table profile
 returns c =
     width_in c.before.before.before.args.version Five (record_at c.before.before.before.args.row) c.before.before.before.args.number _ (search rules)
     (table_at (λ row n. width_in_table (profile Five (record_at row)) n) 0 c.before.before.before.args.row c.before.before.before.args.number
     (search rules) (search rules))
 
-returns_2 : tie.Need-returns-2
+returns_2 : tie.Need-returns-in-Seven
 unfolding width_in_table profile
 returns_2 c =
     width_in c.before.before.before.args.version Seven (record_at c.before.before.before.args.row) c.before.before.before.args.number _ (search rules)
