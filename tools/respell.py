@@ -60,13 +60,14 @@ def snake(name):
 
 def main():
     antt = sorted(glob.glob("crates/*/specs/**/*.antt", recursive=True) + glob.glob("crates/*/proofs/**/*.antt", recursive=True))
+    texts = [open(path, encoding="utf-8").read() for path in antt]
     names = set()
-    for path in antt:
-        names |= set(declared(open(path, encoding="utf-8").read()))
+    for text in texts:
+        names |= set(declared(text))
     # What the kit's own libraries declare under the same name stays.
     foreign = set()
-    for path in antt:
-        for row in re.findall(r"^use (?!Rattle\.(?!std\b))[^{;]*\{([^}]*)\}", open(path, encoding="utf-8").read(), re.M):
+    for text in texts:
+        for row in re.findall(r"^use (?!Rattle\.(?!std\b))[^{;]*\{([^}]*)\}", text, re.M):
             foreign |= {name.strip() for name in row.split(",")}
     names -= foreign
     # An invariant and a measure are named after the loop, and a function's proof after the function.
@@ -85,6 +86,9 @@ def main():
         lemmas = [old for old in olds if "-" in old]
         if len(olds) == 2 and len(lemmas) == 1 and name + "_lem" not in names:
             new[lemmas[0]] = name + "_lem"
+            del together[name]
+        # Two that no file has both of stay apart by their modules.
+        elif not any(len(olds & set(re.findall(WORD, text))) > 1 for text in texts):
             del together[name]
     if together:
         sys.exit(f"respell: names fall together: {together}")

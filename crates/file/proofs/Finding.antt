@@ -8,14 +8,14 @@ use lib.ListN.{length}
 use Rattle.records.specs.declared.record.Record.{Record}
 use Rattle.identcodes.specs.declared.CodeAnswer.{CodeAnswer}
 use Rattle.identcodes.specs.declared.CodeAnswer.TheVariants.{Known, New, NoRoom}
-use Rattle.identcodes.specs.Tree.{is_there, grown, has_room_lem, code_answer, tree_after}
+use Rattle.identcodes.specs.Tree.{is_there, grown, has_room, code_answer, tree_after}
 use Rattle.identcodes.proofs.Answers.{room_there, answer_tells, room_answers, room_grows}
 use Rattle.line.specs.Line.{file_limit}
 use Rattle.file.specs.Identcode.{is_there_for, grown_for, parcels_most, tree_words}
 
 -- a file's tree has room for every parcel
 module _ (s codes : List ℕ) (parcels at : ℕ) (long : tree_words ≤ length codes) (few : parcels ≤ parcels_most) (in_limit : at ≤ file_limit) where
-  room : has_room_lem codes parcels at ≡ true
+  room : has_room codes parcels at ≡ true
   room = room_there codes parcels at (omega arith) (omega arith) (omega arith)
 
   module _ (answer : CodeAnswer) (ea : answer ≡ code_answer s codes parcels at) where

@@ -2,17 +2,17 @@
 use Rattle.std.proofs.Common.{◌≡◌, ℕ, ◌+◌, ◌%◌, ◌^◌, ◌<◌, ◌≤◌, Bool, true, false, eqb, List, [], ◌∷◌, ◌++◌, length, get_or, drop, sym, refl, ap, ◌∙◌, mod-eq_of_lt, add-one, arith, drop_of_length-le, drop-cons}
 use Rattle.text.specs.Choice.{if◌then◌else◌}
 use Rattle.scans.specs.declared.tally.Tally.{Tally}
-use Rattle.scans.specs.Tallying.{one_more_lem, with_answer, tallied, no_line, how_often}
+use Rattle.scans.specs.Tallying.{one_more, with_answer, tallied, no_line, how_often}
 
 -- one answer counted
-pub counts_on : (n m : ℕ) (counts : Bool) → counts ≡ true → m ≡ (n + 1) % 2 ^ 64 → m ≡ one_more_lem n counts
+pub counts_on : (n m : ℕ) (counts : Bool) → counts ≡ true → m ≡ (n + 1) % 2 ^ 64 → m ≡ one_more n counts
 counts_on n m counts e f = rw e f
 
-pub counts_not : (n : ℕ) (counts : Bool) → counts ≡ false → n ≡ one_more_lem n counts
+pub counts_not : (n : ℕ) (counts : Bool) → counts ≡ false → n ≡ one_more n counts
 counts_not n counts e = rw e
 
-pub with_answer_lem : (t : Tally) (answer l p n s c : ℕ) → l ≡ one_more_lem t.lines true → p ≡ one_more_lem t.passed (eqb answer 0) →
-    n ≡ one_more_lem t.length (eqb answer 16) → s ≡ one_more_lem t.symbol (eqb answer 17) → c ≡ one_more_lem t.check (eqb answer 18) →
+pub with_answer_lem : (t : Tally) (answer l p n s c : ℕ) → l ≡ one_more t.lines true → p ≡ one_more t.passed (eqb answer 0) →
+    n ≡ one_more t.length (eqb answer 16) → s ≡ one_more t.symbol (eqb answer 17) → c ≡ one_more t.check (eqb answer 18) →
     record { lines = l; passed = p; length = n; symbol = s; check = c } ≡ with_answer t answer
 unfolding with_answer
 with_answer_lem t answer l p n s c el ep en es ec = rw (el, ep, en, es, ec)
@@ -32,7 +32,7 @@ tally_both t [] b = refl
 tally_both t (x ∷ a) b = tally_both (with_answer t x) a b
 
 -- a count that has not come to its end
-one_more_lem : (n : ℕ) (counts : Bool) → n + 1 < 2 ^ 64 → one_more_lem n counts ≡ n + (if counts then 1 else 0)
+one_more_lem : (n : ℕ) (counts : Bool) → n + 1 < 2 ^ 64 → one_more n counts ≡ n + (if counts then 1 else 0)
 one_more_lem n true h = mod-eq_of_lt h
 one_more_lem n false h = omega arith
 
