@@ -12,15 +12,15 @@ use Rattle.line.proofs.need.all_filled.Tie as tie
 
 ruleset laws = (rules, all_on, all_stops, all_ends)
 
-abbrev invariant-loop : tie.invariant-loop
-invariant-loop line numbers i₀ i = (i ≤ length numbers) × (all (is_filled (split line)) (drop i numbers) ≡ all (is_filled (split line)) numbers)
+abbrev invariant-loop-i : tie.invariant-loop-i
+invariant-loop-i line numbers i₀ i = (i ≤ length numbers) × (all (is_filled (split line)) (drop i numbers) ≡ all (is_filled (split line)) numbers)
 
-abbrev decreases-loop : tie.decreases-loop
-decreases-loop line numbers i₀ i = length numbers - i
+abbrev decreases-loop-i : tie.decreases-loop-i
+decreases-loop-i line numbers i₀ i = length numbers - i
 
 pub all_filled_spec : {M : Type 1} → statement M
 all_filled_spec =
     tie.close
     (tie.spec
-    invariant-loop decreases-loop (λ c. search laws) (λ c. search laws) (λ c. search laws) (λ c κs. search laws) (λ c. search laws)
+    invariant-loop-i decreases-loop-i (λ c. search laws) (λ c. search laws) (λ c. search laws) (λ c κs. search laws) (λ c. search laws)
     (λ c. search laws) (λ c. search laws) (λ c. search laws) (λ c. search laws))

@@ -10,16 +10,16 @@ use Rattle.line.proofs.part.start_of.Tie as tie
 
 ruleset laws = (rules, start_starts, start_on, start_past, start_done)
 
-abbrev invariant-loop : tie.invariant-loop
-invariant-loop line number start₀ i₀ start i = (i ≤ number) × (start ≤ length line + 1) ×
+abbrev invariant-loop-i : tie.invariant-loop-i
+invariant-loop-i line number start₀ i₀ start i = (i ≤ number) × (start ≤ length line + 1) ×
     (start + start_in (rest line start) (number - i) ≡ start_of line number)
 
-abbrev decreases-loop : tie.decreases-loop
-decreases-loop line number start₀ i₀ start i = number - i
+abbrev decreases-loop-i : tie.decreases-loop-i
+decreases-loop-i line number start₀ i₀ start i = number - i
 
 pub start_of_spec : {M : Type 1} → statement M
 start_of_spec =
     tie.close
     (tie.spec
-    invariant-loop decreases-loop (λ c. search laws) (λ c. search laws) (λ c κs. search laws) (λ c. search laws) (λ c. search laws)
+    invariant-loop-i decreases-loop-i (λ c. search laws) (λ c. search laws) (λ c κs. search laws) (λ c. search laws) (λ c. search laws)
     (λ c. search laws) (λ c. search laws) (λ c. search laws))

@@ -11,15 +11,15 @@ use Rattle.line.proofs.scan.field_end.Tie as tie
 
 ruleset laws = (rules, walk_on, walk_stops, walk_ends)
 
-abbrev invariant-loop : tie.invariant-loop
-invariant-loop line start i₀ i = (start ≤ i) × (i ≤ length line) × (first_failing (λ _ b. in_field b) i (drop i line) ≡ field_end line start)
+abbrev invariant-loop-i : tie.invariant-loop-i
+invariant-loop-i line start i₀ i = (start ≤ i) × (i ≤ length line) × (first_failing (λ _ b. in_field b) i (drop i line) ≡ field_end line start)
 
-abbrev decreases-loop : tie.decreases-loop
-decreases-loop line start i₀ i = length line - i
+abbrev decreases-loop-i : tie.decreases-loop-i
+decreases-loop-i line start i₀ i = length line - i
 
 pub field_end_spec : {M : Type 1} → statement M
 field_end_spec =
     tie.close
     (tie.spec
-    invariant-loop decreases-loop (λ c. search laws) (λ c. search laws) (λ c κs. search laws) (λ c. search laws) (λ c. search laws)
+    invariant-loop-i decreases-loop-i (λ c. search laws) (λ c. search laws) (λ c κs. search laws) (λ c. search laws) (λ c. search laws)
     (λ c. search laws) (λ c. search laws) (λ c. search laws))

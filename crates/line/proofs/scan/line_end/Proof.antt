@@ -12,15 +12,15 @@ use Rattle.line.proofs.scan.line_end.Tie as tie
 
 ruleset laws = (rules, walk_on, walk_stops, walk_ends)
 
-abbrev invariant-loop : tie.invariant-loop
-invariant-loop s at i₀ i = (at ≤ i) × (i ≤ length s) × (first_failing (λ _ b. text_byte b) i (drop i s) ≡ line_end s at)
+abbrev invariant-loop-i : tie.invariant-loop-i
+invariant-loop-i s at i₀ i = (at ≤ i) × (i ≤ length s) × (first_failing (λ _ b. text_byte b) i (drop i s) ≡ line_end s at)
 
-abbrev decreases-loop : tie.decreases-loop
-decreases-loop s at i₀ i = length s - i
+abbrev decreases-loop-i : tie.decreases-loop-i
+decreases-loop-i s at i₀ i = length s - i
 
 pub line_end_spec : {M : Type 1} → statement M
 line_end_spec =
     tie.close
     (tie.spec
-    invariant-loop decreases-loop (λ c. search laws) (λ c. search laws) (λ c κs. search laws) (λ c. search laws) (λ c. search laws)
+    invariant-loop-i decreases-loop-i (λ c. search laws) (λ c. search laws) (λ c κs. search laws) (λ c. search laws) (λ c. search laws)
     (λ c. search laws) (λ c. search laws) (λ c. search laws))
