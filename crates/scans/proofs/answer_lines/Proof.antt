@@ -4,16 +4,16 @@ use Rattle.scans.proofs.Answering.{checked_long, answers_lines}
 use Rattle.scans.proofs.answer_lines.Statement.{statement}
 use Rattle.scans.proofs.answer_lines.Tie as tie
 
-array_share_prefix_numbers : tie.Need-array-share-prefix-numbers
+array_share_prefix_numbers : tie.Need-slice_bounds-numbers-end
 array_share_prefix_numbers c = search rules
 
-slice_aggregate_check_numbers : tie.Need-slice-aggregate-check-numbers
+slice_aggregate_check_numbers : tie.Need-slice_bounds-check_numbers-end
 slice_aggregate_check_numbers c = sym (length-take-le _ _ (array_share_prefix_numbers c.before))
 
-array_share_prefix_marks : tie.Need-array-share-prefix-marks
+array_share_prefix_marks : tie.Need-slice_bounds-marks-end
 array_share_prefix_marks c = search rules
 
-slice_aggregate_overrule : tie.Need-slice-aggregate-overrule
+slice_aggregate_overrule : tie.Need-slice_bounds-overrule-end
 slice_aggregate_overrule c = sym (length-take-le _ _ (array_share_prefix_marks c.before))
 
 overrule_requires : tie.Need-overrule-requires
@@ -22,9 +22,9 @@ overrule_requires c κs =
     let lays = checks.before.before.before.before.before in
     let start = lays.before.before.before.before.before.before.args in
     checked_long
-    start.text.now start.answers.now _ lays.lay-out.result lays.lay-out.new.1.1.0 lays.lay-out.new.1.1.1.0
-    checks.check-numbers.result _ lays.before.before.before.least.ensures lays.lay-out.ensures (search rules) (search rules)
-    checks.check-numbers.ensures
+    start.text.now start.answers.now _ lays.lay_out-answered.result lays.lay_out-answered.new.numbers lays.lay_out-answered.new.marks
+    checks.check_numbers.result _ lays.before.before.before.least-room.ensures lays.lay_out-answered.ensures (search rules) (search rules)
+    checks.check_numbers.ensures
 
 returns : tie.Need-returns
 returns c =
@@ -32,9 +32,9 @@ returns c =
     let lays = checks.before.before.before.before.before in
     let start = lays.before.before.before.before.before.before.args in
     answers_lines
-    start.text.now start.answers.now _ lays.lay-out.result lays.lay-out.new.1.1.0 lays.lay-out.new.1.1.1.0
-    checks.check-numbers.result _ lays.before.before.before.least.ensures lays.lay-out.ensures (search rules) (search rules)
-    checks.check-numbers.ensures _ c.before.before.overrule.ensures
+    start.text.now start.answers.now _ lays.lay_out-answered.result lays.lay_out-answered.new.numbers lays.lay_out-answered.new.marks
+    checks.check_numbers.result _ lays.before.before.before.least-room.ensures lays.lay_out-answered.ensures (search rules) (search rules)
+    checks.check_numbers.ensures _ c.before.before.overrule.ensures
 
 pub answer_lines_spec : {M : Type 1} → statement M
 answer_lines_spec =

@@ -9,27 +9,27 @@ use Rattle.scans.proofs.overrule.Tie as tie
 
 ruleset laws = (rules, overrule_on, overrule_done)
 
-abbrev invariant-loop : tie.invariant-loop
-invariant-loop marks answers₀ i₀ answers i =
+abbrev invariant-loop-i : tie.invariant-loop-i
+invariant-loop-i marks answers₀ i₀ answers i =
     (i ≤ length marks) × (length answers ≡ length answers₀)
     × (answers ≡ written answers₀ 0 (tabled (λ k. ruled (get_or marks k 0) (get_or answers₀ k 0)) 0 i))
 
-abbrev decreases-loop : tie.decreases-loop
-decreases-loop marks answers₀ i₀ answers i = length marks - i
+abbrev decreases-loop-i : tie.decreases-loop-i
+decreases-loop-i marks answers₀ i₀ answers i = length marks - i
 
-loop_again : tie.Need-loop-preserved invariant-loop decreases-loop
+loop_again : tie.Need-loop-i-preserved invariant-loop-i decreases-loop-i
 loop_again c =
     let turn = c.before.before.before in
     let start = turn.before.before.before.before in (
       search rules,
       search rules,
-      overrule_on start.args.marks.now start.args.answers.now _ _ turn.before.loop.invariant.2 start.requires _
-          turn.loop-test.true c.ruling.ensures,
+      overrule_on start.args.marks.now start.args.answers.now _ _ turn.before.loop-i.invariant.2 start.requires _
+          turn.loop-i-test.true c.ruling.ensures,
     )
 
 pub overrule_spec : {M : Type 1} → statement M
 overrule_spec =
     tie.close
     (tie.spec
-    invariant-loop decreases-loop (λ c. search laws) (λ c. search laws) (λ c. search laws) (λ c κs. search laws) (λ c. search laws)
+    invariant-loop-i decreases-loop-i (λ c. search laws) (λ c. search laws) (λ c. search laws) (λ c κs. search laws) (λ c. search laws)
     (λ c. search laws) (λ c. search laws) loop_again (λ c. search laws) (λ c. search laws))

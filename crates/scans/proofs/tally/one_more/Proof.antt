@@ -1,4 +1,4 @@
--- `tally::one_more` meets its contract.
+-- `tally::one_more_lem` meets its contract.
 use Rattle.scans.proofs.Tallying.{counts_on, counts_not}
 use Rattle.std.proofs.Common.{rules}
 use Rattle.scans.proofs.tally.one_more.Statement.{statement}
