@@ -65,7 +65,7 @@ sound_accepted k s g = checked_kind k s g.long ∙ accepted_as k s g
 
 carry_back : (c d : ℕ) (s : List ℕ) → Carry c → Carry d → carry_from c s ≡ carry_from d s → c ≡ d
 carry_back c d [] h k e = e
-carry_back c d (b ∷ s) h k e = step_back c d (value_of b) h k (carry_back _ _ s (step_carry c (value_of b)) (step_carry d (value_of b)) e)
+carry_back c d (b ∷ s) h k e = step_back c d (value_of b) h k (carry_back (step c (value_of b)) (step d (value_of b)) s (step_carry c (value_of b)) (step_carry d (value_of b)) e)
 
 -- a byte that is allowed anywhere is a symbol, and two symbols of one value are one
 digit_symbol : (b : ℕ) → digit b ≡ true → symbol b ≡ true
