@@ -43,7 +43,7 @@ pub fn one_line(
         × (state.cents ≤ 99999999 * state.lines) }
     requires sown { Sown file.now (listed_so_far state.lines list.old) state.parcels codes.old × (state.parcels ≤ parcels_most)
         × (tree_words ≤ length codes.old) }
-    ensures value { result ≡ step_answer file.now (record { countries = countries.entry.now; words = length list.old })
+    ensures value { result ≡ step_answer file.now (record { countries = countries.now; words = length list.old })
         (listed_so_far state.lines list.old) state }
     ensures sown_2 { (next : State) → result ≡ Next next →
         Sown file.now (listed_so_far state.lines list.old ++ (state.at ∷ [])) next.parcels codes.new }

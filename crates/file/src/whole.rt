@@ -28,7 +28,7 @@ pub enum FileAnswer {
 // Judges a file, with a list of countries into which a sender ships only with phone and mail. Accepted, each word of the list for the
 // lines is, below the number of lines, that line's offset, and every other word is 0; refused, all words are 0.
 pub fn judge(file: &[u8], countries: &[u8], list: &mut [u32]) -> FileAnswer
-    ensures { Judges file.now (record { countries = countries.entry.now; words = length list.old })
+    ensures { Judges file.now (record { countries = countries.now; words = length list.old })
         result list.new }
 {
     list::clear(list);
@@ -52,7 +52,7 @@ pub fn judge(file: &[u8], countries: &[u8], list: &mut [u32]) -> FileAnswer
 fn run(file: &[u8], countries: &[u8], list: &mut [u32], codes: &mut [u32]) -> FileAnswer
     requires { (length file.now ≤ file_limit) × (is_paired countries.now ≡ true) × (list.old ≡ replicate (length list.old) 0)
         × (tree_words ≤ length codes.old) }
-    ensures { Judges file.now (record { countries = countries.entry.now; words = length list.old })
+    ensures { Judges file.now (record { countries = countries.now; words = length list.old })
         result list.new }
 {
     let version = version::version_of(file);

@@ -16,7 +16,7 @@ pub extern "C" fn peliranopi_judge(
     cents: &mut u64,
     place: &mut usize,
 ) -> u32
-    ensures { JudgeTells file.now (record { countries = countries.entry.now; words = length list.old }) result
+    ensures { JudgeTells file.now (record { countries = countries.now; words = length list.old }) result
         lines.new parcels.new cents.new place.new list.new }
 {
     let answer = file::judge(file, countries, list);
@@ -46,7 +46,7 @@ pub extern "C" fn peliranopi_write_purpose(
     written: &mut usize,
     place: &mut usize,
 ) -> u32
-    ensures { PurposeTells file.now line (record { countries = countries.entry.now; words = length list.old })
+    ensures { PurposeTells file.now line (record { countries = countries.now; words = length list.old })
         output.old result written.new place.new list.new output.new }
 {
     let answer = purpose::write_purpose(file, countries, line, list, output);

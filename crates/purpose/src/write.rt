@@ -23,7 +23,7 @@ pub fn write_purpose(
     list: &mut [u32],
     output: &mut [u8],
 ) -> PurposeAnswer
-    ensures { Purposes file.now line (record { countries = countries.entry.now; words = length list.old })
+    ensures { Purposes file.now line (record { countries = countries.now; words = length list.old })
         output.old result list.new output.new }
 {
     let answer = file::judge(file, countries, list);
