@@ -18,22 +18,23 @@ For the symbols 0, 9, 9 and 8 it goes from 36 to 35, 16, 13 and 5.
 
 
 def entries(code):
-    """The entries of the code's table, one a line; the first of each carry names it."""
+    """The entries of the code's table. A comment, which ends its line, names the carry behind the first entry of each."""
     table = re.findall(r"^const STEPS: \[u8; 1296\] = \[\n(.*?)^\];$", code, re.DOTALL | re.MULTILINE)
     if len(table) != 1:
         sys.exit(f"test: {CODE.name} has {len(table)} tables of the form `const STEPS: [u8; 1296] = [..];`")
     found = []
     for line in table[0].splitlines():
-        entry = re.fullmatch(r" *([0-9]+),(?: // carry ([0-9]+))?", line)
-        if not entry:
-            sys.exit(f"test: {CODE.name}, behind entry {len(found) - 1}: no entry: {line!r}")
-        number, named = int(entry[1]), entry[2] and int(entry[2])
-        if not 1 <= number <= 36:
-            sys.exit(f"test: {CODE.name}, entry {len(found)}: {number} is no carry")
-        carry, value = divmod(len(found), len(SYMBOLS))
-        if named != (None if value else carry + 1):
-            sys.exit(f"test: {CODE.name}, entry {len(found)}, value {value} of carry {carry + 1}: names {named or 'no carry'}")
-        found.append(number)
+        laid = re.fullmatch(r" *((?:[0-9]+, )*)([0-9]+),(?: // carry ([0-9]+))?", line)
+        if not laid:
+            sys.exit(f"test: {CODE.name}, behind entry {len(found) - 1}: no entries: {line!r}")
+        for number, told in [(number, None) for number in laid[1].split(", ")[:-1]] + [(laid[2], laid[3])]:
+            number, named = int(number), told and int(told)
+            if not 1 <= number <= 36:
+                sys.exit(f"test: {CODE.name}, entry {len(found)}: {number} is no carry")
+            carry, value = divmod(len(found), len(SYMBOLS))
+            if named != (None if value else carry + 1):
+                sys.exit(f"test: {CODE.name}, entry {len(found)}, value {value} of carry {carry + 1}: names {named or 'no carry'}")
+            found.append(number)
     if len(found) != 1296:
         sys.exit(f"test: {CODE.name} has {len(found)} entries, and not 1296")
     return found

@@ -5,7 +5,7 @@
 //     (carry - 1) * 36 + value
 //
 // counted from 0. The entry for the carry 36 and the value 0 is number 1260: 35. A comment names the carry at its first entry, that for the
-// value 0. The formatter lays out one entry a line; docs/carry-table.txt, which is made from here, has the 36 of a carry on one.
+// value 0. docs/carry-table.txt, which is made from here, has the 36 of a carry on one line.
 ghost use Rattle.std.specs.Prelude.{◌≡◌};
 ghost use Rattle.check_characters.specs.Steps.{steps};
 
