@@ -6,8 +6,7 @@ use crate::tell;
 use file::FileAnswer;
 use purpose::PurposeAnswer;
 
-#[unsafe(no_mangle)]
-pub extern "C" fn peliranopi_judge(
+pub fn peliranopi_judge(
     file: &[u8],
     countries: &[u8],
     list: &mut [u32],
@@ -36,8 +35,7 @@ pub extern "C" fn peliranopi_judge(
     }
 }
 
-#[unsafe(no_mangle)]
-pub extern "C" fn peliranopi_write_purpose(
+pub fn peliranopi_write_purpose(
     file: &[u8],
     countries: &[u8],
     line: usize,

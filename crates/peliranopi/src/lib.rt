@@ -1,5 +1,5 @@
-// The calls for C and Rust, in a static library: each returns the paper's refusal number, 0 for accepted, and leaves place and values
-// behind pointers. What an answer does not have is 0.
+// The calls for C and Rust, which crate peliranopi_c exports: each returns the paper's refusal number, 0 for accepted, and leaves place and
+// values behind pointers. What an answer does not have is 0.
 #![tactic(auto)]
 
 mod files;

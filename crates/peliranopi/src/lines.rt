@@ -8,8 +8,7 @@ use line::{FieldAnswer, LineAnswer};
 use records::Record;
 use writer::WriteAnswer;
 
-#[unsafe(no_mangle)]
-pub extern "C" fn peliranopi_read_line(
+pub fn peliranopi_read_line(
     version: u32,
     file: &[u8],
     offset: usize,
@@ -38,8 +37,7 @@ pub extern "C" fn peliranopi_read_line(
     }
 }
 
-#[unsafe(no_mangle)]
-pub extern "C" fn peliranopi_find_field(
+pub fn peliranopi_find_field(
     version: u32,
     file: &[u8],
     offset: usize,
@@ -68,8 +66,7 @@ pub extern "C" fn peliranopi_find_field(
     }
 }
 
-#[unsafe(no_mangle)]
-pub extern "C" fn peliranopi_write_line(
+pub fn peliranopi_write_line(
     version: u32,
     kind: u32,
     text: &[u8],

@@ -9,8 +9,7 @@ use crate::tell;
 use check_characters::{CarryAnswer, CheckAnswer, DayAnswer, IssueAnswer, Kind, NumberAnswer};
 use check_digits::{Parts, PartsAnswer};
 
-#[unsafe(no_mangle)]
-pub extern "C" fn peliranopi_check_number(symbols: &[u8], kind: &mut u32, place: &mut usize) -> u32
+pub fn peliranopi_check_number(symbols: &[u8], kind: &mut u32, place: &mut usize) -> u32
     ensures { NumberTells symbols.now result kind.new place.new }
 {
     let answer = check_characters::check_number(symbols);
@@ -26,8 +25,7 @@ pub extern "C" fn peliranopi_check_number(symbols: &[u8], kind: &mut u32, place:
     }
 }
 
-#[unsafe(no_mangle)]
-pub extern "C" fn peliranopi_check_numbers(
+pub fn peliranopi_check_numbers(
     numbers: &[u8],
     answers: &mut [u8],
     passed: &mut usize,
@@ -48,8 +46,7 @@ pub extern "C" fn peliranopi_check_numbers(
     }
 }
 
-#[unsafe(no_mangle)]
-pub extern "C" fn peliranopi_issue_number(
+pub fn peliranopi_issue_number(
     body: &[u8],
     output: &mut [u8],
     written: &mut usize,
@@ -60,13 +57,7 @@ pub extern "C" fn peliranopi_issue_number(
     tell_issued(check_characters::issue_number(body, output), written, place)
 }
 
-#[unsafe(no_mangle)]
-pub extern "C" fn peliranopi_next_carry(
-    carry: u32,
-    key: u8,
-    next: &mut u32,
-    place: &mut usize,
-) -> u32
+pub fn peliranopi_next_carry(carry: u32, key: u8, next: &mut u32, place: &mut usize) -> u32
     ensures { CarryTells carry key result next.new place.new }
 {
     let answer = check_characters::next_carry(carry, key);
@@ -82,27 +73,20 @@ pub extern "C" fn peliranopi_next_carry(
     }
 }
 
-#[unsafe(no_mangle)]
-pub extern "C" fn peliranopi_check_iban(symbols: &[u8], place: &mut usize) -> u32
+pub fn peliranopi_check_iban(symbols: &[u8], place: &mut usize) -> u32
     ensures { IbanTells symbols.now result place.new }
 {
     tell_checked(check_characters::check_iban(symbols), place)
 }
 
-#[unsafe(no_mangle)]
-pub extern "C" fn peliranopi_check_identcode(code: &[u8], place: &mut usize) -> u32
+pub fn peliranopi_check_identcode(code: &[u8], place: &mut usize) -> u32
     ensures { IdentcodeTells code.now result place.new }
 {
     tell_checked(check_digits::check_identcode(code), place)
 }
 
 // The header has the twelve numbers as a struct of six parts.
-#[unsafe(no_mangle)]
-pub extern "C" fn peliranopi_read_identcode(
-    code: &[u8],
-    parts: &mut [usize; 12],
-    place: &mut usize,
-) -> u32
+pub fn peliranopi_read_identcode(code: &[u8], parts: &mut [usize; 12], place: &mut usize) -> u32
     ensures { PartsTells code.now result parts.new place.new }
 {
     let answer = check_digits::read_identcode(code);
@@ -118,8 +102,7 @@ pub extern "C" fn peliranopi_read_identcode(
     }
 }
 
-#[unsafe(no_mangle)]
-pub extern "C" fn peliranopi_issue_identcode(
+pub fn peliranopi_issue_identcode(
     body: &[u8],
     output: &mut [u8],
     written: &mut usize,
