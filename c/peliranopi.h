@@ -1,4 +1,4 @@
-/* The calls of Peliranopi for C and C++. Link libpeliranopi.a, which `rt staticlib peliranopi` builds (README.md, 'From C').
+/* The calls of Peliranopi for C and C++. Link libpeliranopi.a, which `./library` builds (README.md, 'From C').
  *
  * Every call answers 0 where it accepts, else the refusal's number below. Each takes every input: whatever the bytes, lengths and
  * numbers are, it ends and reads and writes only inside what it was lent. What the caller has to keep is C's own part: a pointer has

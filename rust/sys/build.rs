@@ -1,5 +1,5 @@
-//! Links libpeliranopi.a, which `rt staticlib peliranopi` writes; PELIRANOPI_LIB names another folder
-//! that has it, by its whole path.
+//! Links libpeliranopi.a, which `./library` writes; PELIRANOPI_LIB names another folder that has it,
+//! by its whole path.
 
 use std::path::PathBuf;
 
@@ -11,8 +11,7 @@ fn main() {
     println!("cargo:rerun-if-changed={}", library.display());
     if !library.exists() {
         println!(
-            "cargo:warning={} is missing: `rt staticlib peliranopi` writes it, \
-             or PELIRANOPI_LIB names its folder",
+            "cargo:warning={} is missing: `./library` writes it, or PELIRANOPI_LIB names its folder",
             library.display()
         );
     }
