@@ -5,27 +5,28 @@
 
 use file::{FileAnswer, Totals};
 use refusal::Refusal;
+use std::io::{Eprint, Print};
 use streams::Input;
 
-fn main() {
-    let mut buffer = io::large_buffer();
-    let input = streams::read_input(libc::STDIN_FILENO, &mut buffer);
+fn main(rt: HostRuntime) {
+    let mut buffer = [0u8; 65536];
+    let input = streams::read_input(&mut rt.stdin(), &mut buffer);
     match input {
-        Input::Whole(n) => judge(&buffer[..n]),
-        Input::Failed => os::fail(b"standard input"),
+        Input::Whole(n) => judge(&rt, &buffer[..n]),
+        Input::Failed(error) => streams::fail(&rt, "standard input", error),
     }
 }
 
-fn judge(s: &[u8]) {
+fn judge<R: Print + Eprint>(rt: &R, s: &[u8]) {
     let mut list = [0u32; 4096];
     let answer = file::judge(s, b"", &mut list);
     match answer {
-        FileAnswer::Accepted(totals) => say_ok(totals),
-        FileAnswer::Refused(refusal) => say_no(refusal),
+        FileAnswer::Accepted(totals) => say_ok(rt, totals),
+        FileAnswer::Refused(refusal) => say_no(rt, refusal),
     }
 }
 
-fn say_ok(totals: Totals) {
+fn say_ok<R: Print + Eprint>(rt: &R, totals: Totals) {
     let mut line = [0u8; 72];
     let ok = streams::add(&mut line, 0, b"ok ");
     let lines = streams::add_decimal(&mut line, ok, totals.lines as u64);
@@ -34,10 +35,10 @@ fn say_ok(totals: Totals) {
     let second = streams::add(&mut line, parcels, b" ");
     let cents = streams::add_decimal(&mut line, second, totals.cents);
     let end = streams::add(&mut line, cents, b"\n");
-    streams::say(&line[..end]);
+    streams::say(rt, &line[..end]);
 }
 
-fn say_no(refusal: Refusal) {
+fn say_no<R: Print + Eprint>(rt: &R, refusal: Refusal) {
     let why = refusal.why;
     let mut line = [0u8; 72];
     let no = streams::add(&mut line, 0, b"no ");
@@ -45,5 +46,5 @@ fn say_no(refusal: Refusal) {
     let space = streams::add(&mut line, number, b" ");
     let place = streams::add_decimal(&mut line, space, refusal.place as u64);
     let end = streams::add(&mut line, place, b"\n");
-    streams::say(&line[..end]);
+    streams::say(rt, &line[..end]);
 }

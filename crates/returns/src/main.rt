@@ -4,11 +4,12 @@
 #![tactic(auto)]
 
 ghost use Rattle.std.specs.Prelude.{◌≡◌, false, ◌<◌, ◌≤◌, length, take};
-ghost use Rattle.io.specs.Counts.{IsPrefixLen};
+ghost use Rattle.streams.specs.Counts.{IsPrefixLen};
 ghost use Rattle.scans.specs.Tallying.{no_line};
 ghost use Rattle.returns.specs.Turns.{Tells, Leaves};
 
 use scans::Tally;
+use std::io::{Eprint, Print, Read};
 use streams::Piece;
 
 // Between two reads: whether it goes on, and how many bytes at the buffer's front wait for the rest of their line.
@@ -32,17 +33,16 @@ enum Telling {
     Failed,
 }
 
-// A proved loop has to end, and lines need not: so it counts its turns down, from a number that no run uses up.
-fn main() {
-    let mut buffer = io::large_buffer();
+// A proved loop has to end, and lines need not: so it counts its turns, up to a number that no run reaches.
+fn main(rt: HostRuntime) {
+    let mut input = rt.stdin();
+    let mut buffer = [0u8; 65536];
     let mut bench = first_turn();
-    let mut turns = u64::MAX;
-    while turns > 0 {
-        bench = take_turn(&mut buffer, bench);
+    'turns: for _ in 0..u64::MAX {
+        bench = take_turn(&rt, &mut input, &mut buffer, bench);
         if !bench.open {
             return;
         }
-        turns -= 1;
     }
 }
 
@@ -65,28 +65,33 @@ fn first_turn() -> Bench
 }
 
 // Reads once, and answers what is there.
-fn take_turn(buffer: &mut [u8], bench: Bench) -> Bench
+fn take_turn<R: Print + Eprint, I: Read>(
+    rt: &R,
+    input: &mut I,
+    buffer: &mut [u8],
+    bench: Bench,
+) -> Bench
     requires { (bench.waiting ≤ 17) × (18 ≤ length buffer.old) }
     ensures { result.waiting ≤ 17 }
 {
     let waiting = bench.waiting;
     let counts = bench.counts;
-    let piece = streams::read_piece(libc::STDIN_FILENO, &mut buffer[waiting..]);
+    let piece = streams::read_piece(input, &mut buffer[waiting..]);
     match piece {
-        Piece::More(n) => answer_more(buffer, waiting + n, counts),
-        Piece::Ended => answer_last(buffer, waiting, counts),
-        Piece::Failed => {
-            os::fail(b"standard input");
+        Piece::More(n) => answer_more(rt, buffer, waiting + n, counts),
+        Piece::Ended => answer_last(rt, buffer, waiting, counts),
+        Piece::Failed(error) => {
+            streams::fail(rt, "standard input", error);
             closed(counts)
         }
     }
 }
 
 // Answers the whole lines, and keeps what stands behind the last of them.
-fn answer_more(buffer: &mut [u8], there: usize, before: Tally) -> Bench
+fn answer_more<R: Print + Eprint>(rt: &R, buffer: &mut [u8], there: usize, before: Tally) -> Bench
     ensures { (result.waiting ≤ 17) × Leaves (take there buffer.old) before result buffer.new }
 {
-    let telling = answer_whole(text::clip(buffer, 0, there), before);
+    let telling = answer_whole(rt, text::clip(buffer, 0, there), before);
     let Telling::Said(told) = telling else {
         return closed(before);
     };
@@ -101,21 +106,21 @@ fn answer_more(buffer: &mut [u8], there: usize, before: Tally) -> Bench
 }
 
 // Bytes behind the last line feed are a last line; then the counts are said.
-fn answer_last(buffer: &mut [u8], waiting: usize, before: Tally) -> Bench
+fn answer_last<R: Print + Eprint>(rt: &R, buffer: &mut [u8], waiting: usize, before: Tally) -> Bench
     requires { waiting < length buffer.old }
     ensures { result.waiting ≤ 17 }
 {
     if waiting == 0 {
-        say_counts(before);
+        say_counts(rt, before);
         return closed(before);
     }
     buffer[waiting] = b'\n';
-    let telling = answer_whole(text::clip(buffer, 0, waiting + 1), before);
+    let telling = answer_whole(rt, text::clip(buffer, 0, waiting + 1), before);
     let Telling::Said(told) = telling else {
         return closed(before);
     };
     let counts = told.counts;
-    say_counts(counts);
+    say_counts(rt, counts);
     closed(counts)
 }
 
@@ -130,7 +135,7 @@ fn closed(counts: Tally) -> Bench
 }
 
 // Answers the whole lines of a text, up to 1,024 at a time.
-fn answer_whole(text: &[u8], before: Tally) -> Telling
+fn answer_whole<R: Print + Eprint>(rt: &R, text: &[u8], before: Tally) -> Telling
     ensures { Tells text.now before result }
 {
     let mut answers = [0u8; 1024];
@@ -142,7 +147,7 @@ fn answer_whole(text: &[u8], before: Tally) -> Telling
         if n == 0 {
             return Telling::Said(Told { next: at, counts });
         }
-        if !say_answers(&answers[..n]) {
+        if !say_answers(rt, &answers[..n]) {
             return Telling::Failed;
         }
         counts = scans::count_answers(counts, &answers[..n]);
@@ -152,13 +157,13 @@ fn answer_whole(text: &[u8], before: Tally) -> Telling
 }
 
 // Says the answers of at most 1,024 lines, in one write.
-fn say_answers(answers: &[u8]) -> bool {
+fn say_answers<R: Print + Eprint>(rt: &R, answers: &[u8]) -> bool {
     let mut lines = [0u8; 3072];
     let n = scans::print_answers(answers, &mut lines);
-    streams::write_out(&lines[..n])
+    streams::write_out(rt, &lines[..n])
 }
 
-fn say_counts(counts: Tally) {
+fn say_counts<R: Print + Eprint>(rt: &R, counts: Tally) {
     let mut line = [0u8; 128];
     let mut fill = streams::add(&mut line, 0, b"counts");
     fill = add_count(&mut line, fill, counts.lines);
@@ -167,7 +172,7 @@ fn say_counts(counts: Tally) {
     fill = add_count(&mut line, fill, counts.symbol);
     fill = add_count(&mut line, fill, counts.check);
     fill = streams::add(&mut line, fill, b"\n");
-    streams::say(&line[..fill]);
+    streams::say(rt, &line[..fill]);
 }
 
 fn add_count(line: &mut [u8], fill: usize, count: u64) -> usize

@@ -4,7 +4,7 @@ use mathlib.Core.Path.{◌≡◌, sym}
 use mathlib.Core.List.{List}
 use lib.ListN.{length, take}
 use lib.Seq.{length-take-le}
-use Rattle.io.specs.Counts.{IsPrefixLen}
+use Rattle.streams.specs.Counts.{IsPrefixLen}
 use Rattle.streams.specs.declared.Input.{Input}
 use Rattle.streams.specs.declared.Piece.{Piece}
 use Rattle.streams.specs.Reads.{Held, HeldPiece}

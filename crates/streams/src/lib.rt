@@ -1,15 +1,21 @@
 // What the programs read and write. A read that fails is no end of the input, and one that a signal interrupted is made again.
 #![tactic(auto)]
 
-ghost use Rattle.std.specs.Prelude.{◌≡◌, ◌≤◌};
-ghost use Rattle.io.specs.Counts.{IsPrefixLen};
-ghost use Rattle.streams.specs.Reads.{Held, HeldPiece, meaning_of};
+mod number;
+
+ghost use Rattle.std.specs.Prelude.{◌≡◌, ◌≢◌, ◌↔◌, ◌<◌, ◌≤◌, IsTrue};
+ghost use Rattle.std.specs.IoError.{error_kind};
+ghost use Rattle.streams.specs.Counts.{IsPrefixLen};
+ghost use Rattle.streams.specs.Reads.{Held, HeldPiece, Took, TookPiece, meaning_of};
+
+use number::decimal;
+use std::io::{Eprint, Error, ErrorKind, Print, Read};
 
 // How many bytes of the buffer are the input: all of it, or as much as the buffer takes.
 #[derive(Clone, Copy)]
 pub enum Input {
     Whole(usize),
-    Failed,
+    Failed(Error),
 }
 
 // What one read gave: so many bytes at the buffer's front, none where a signal interrupted it.
@@ -17,7 +23,7 @@ pub enum Input {
 pub enum Piece {
     More(usize),
     Ended,
-    Failed,
+    Failed(Error),
 }
 
 #[derive(Clone, Copy)]
@@ -27,39 +33,65 @@ enum Reading {
     Failed,
 }
 
-// Reads until the input ends or the buffer is full. A proved loop has to end, and signals need not: so it counts its turns down, from
-// a number that no run uses up.
-pub fn read_input(fd: i32, buffer: &mut [u8]) -> Input
-    ensures { Held result buffer.new }
+// Reads until the input ends or the buffer is full. A proved loop has to end, and signals need not: so it counts its turns, up to a
+// number that no run reaches.
+pub fn read_input<R: Read>(reader: &mut R, buffer: &mut [u8]) -> Input
+    ensures held { Held result buffer.new }
+    ensures took { Took (R.remaining reader.old) (R.remaining reader.new) result buffer.new }
 {
     let mut there: usize = 0;
-    let mut turns = u64::MAX;
-    while turns > 0 {
+    'turns: for _ in 0..u64::MAX {
         if there == buffer.len() {
             return Input::Whole(there);
         }
-        let piece = read_piece(fd, &mut buffer[there..]);
+        let piece = read_piece(reader, &mut buffer[there..]);
         match piece {
             Piece::More(n) => there += n,
             Piece::Ended => return Input::Whole(there),
-            Piece::Failed => return Input::Failed,
+            Piece::Failed(error) => return Input::Failed(error),
         }
-        turns -= 1;
     }
-    Input::Failed
+    Input::Failed(Error::other("the reads do not end"))
 }
 
 // Reads once, into a buffer that is not empty.
-pub fn read_piece(fd: i32, buffer: &mut [u8]) -> Piece
-    ensures { HeldPiece result buffer.new }
+pub fn read_piece<R: Read>(reader: &mut R, buffer: &mut [u8]) -> Piece
+    ensures held { HeldPiece result buffer.new }
+    ensures took { TookPiece (R.remaining reader.old) (R.remaining reader.new) result buffer.new }
 {
-    let got = libc::read(fd, buffer);
-    let reading = meaning(got == 0, got < 0, os::errno() == libc::EINTR);
-    match reading {
-        Reading::GoesOn => Piece::More(io::count(got, buffer)),
-        Reading::Ended => Piece::Ended,
-        Reading::Failed => Piece::Failed,
+    match reader.read(buffer) {
+        Ok(n) => piece_given(n),
+        Err(error) => piece_lost(error),
     }
+}
+
+// What a read gave that did not fail.
+fn piece_given(n: usize) -> Piece
+    ensures ended { n ≡ 0 → result ≡ Piece.Ended }
+    ensures more { 0 < n → result ≡ Piece.More n }
+{
+    match meaning(n == 0, false, false) {
+        Reading::GoesOn => Piece::More(n),
+        _ => Piece::Ended,
+    }
+}
+
+// What a read gave that failed.
+fn piece_lost(error: Error) -> Piece
+    ensures again { error_kind error ≡ ErrorKind.Interrupted → result ≡ Piece.More 0 }
+    ensures failed { error_kind error ≢ ErrorKind.Interrupted → result ≡ Piece.Failed error }
+{
+    match meaning(true, true, is_interrupted(&error)) {
+        Reading::GoesOn => Piece::More(0),
+        _ => Piece::Failed(error),
+    }
+}
+
+// Whether a signal made a read fail.
+fn is_interrupted(error: &Error) -> bool
+    ensures { IsTrue result ↔ (error_kind error.now ≡ ErrorKind.Interrupted) }
+{
+    error.kind() == ErrorKind::Interrupted
 }
 
 // What a read means that gave nothing, or failed, or failed by a signal.
@@ -79,24 +111,31 @@ fn meaning(nothing: bool, failed: bool, interrupted: bool) -> Reading
 }
 
 // Writes to standard output, and says on standard error where that failed.
-pub fn say(text: &[u8]) {
-    write_out(text);
+pub fn say<P: Print + Eprint>(rt: &P, text: &[u8]) {
+    write_out(rt, text);
 }
 
 // The same, for who has to stop where it failed: whether all of it was written.
-pub fn write_out(text: &[u8]) -> bool {
-    if io::write_all(libc::STDOUT_FILENO, text) {
-        return true;
+pub fn write_out<P: Print + Eprint>(rt: &P, text: &[u8]) -> bool {
+    match rt.write_all(text) {
+        Ok(()) => true,
+        Err(error) => {
+            fail(rt, "standard output", error);
+            false
+        }
     }
-    os::fail(b"standard output");
-    false
+}
+
+// Says on standard error what failed, and why.
+pub fn fail<P: Eprint>(rt: &P, what: &str, error: Error) {
+    let _ = rt.eprintln(format_args!("{what}: {error}"));
 }
 
 // Says a number's decimal digits.
-pub fn say_decimal(n: u64) {
+pub fn say_decimal<P: Print + Eprint>(rt: &P, n: u64) {
     let mut digits = [0u8; 20];
-    let count = io::decimal(n, &mut digits);
-    say(&digits[..count]);
+    let count = decimal(n, &mut digits);
+    say(rt, &digits[..count]);
 }
 
 // Puts a run behind the bytes that a line has, where there is room; answers how many it then has. So a line can be written at once.
@@ -113,7 +152,7 @@ pub fn add_decimal(line: &mut [u8], fill: usize, n: u64) -> usize
     ensures { IsPrefixLen result line.new }
 {
     let mut digits = [0u8; 20];
-    let count = io::decimal(n, &mut digits);
+    let count = decimal(n, &mut digits);
     add(line, fill, &digits[..count])
 }
 

@@ -4,67 +4,116 @@
 #![tactic(auto)]
 
 ghost use Rattle.std.specs.Prelude.{◌<◌, ◌≤◌};
+ghost use Rattle.streams.specs.Counts.{IsPrefixLen};
 
 use file::{FileAnswer, Totals};
 use refusal::Refusal;
+use std::env::{Env, FillError};
+use std::io::{Eprint, Error, ErrorKind, Print, Read};
+use std::rt::Files;
+use std::{fs, str};
 use streams::Input;
 
-fn main() {
-    let n = os::arg_count();
+fn main(rt: HostRuntime) {
+    let n = arg_count(&rt);
     let mut i: usize = 1;
     while i < n {
         if n - i < 3 {
             return;
         }
-        one_case(i, i + 1, i + 2);
+        one_case(&rt, i, i + 1, i + 2);
         i += 3;
     }
 }
 
-// The arguments with these numbers are a number of words, a list of countries and a file's name.
-fn one_case(words_at: usize, countries_at: usize, name_at: usize) {
-    let mut count = [0u8; 8];
-    let digits = os::arg(words_at, &mut count);
-    let words = number(&count[..digits]);
-    let mut countries = io::buffer();
-    let given = os::arg(countries_at, &mut countries);
-    let mut name = io::buffer();
-    let long = os::arg(name_at, &mut name);
-    let fd = os::open_read(&name[..long]);
-    if fd < 0 {
-        os::fail(&name[..long]);
-        return;
+// How many arguments there are, the program's name among them.
+fn arg_count<R: Env>(rt: &R) -> usize {
+    let mut nothing = [0u8; 1];
+    for i in 0..usize::MAX {
+        if let Err(FillError::NotPresent) = rt.arg(i, &mut nothing) {
+            return i;
+        }
     }
-    run(fd, &name[..long], words, &countries[..given]);
-    libc::close(fd);
+    usize::MAX
 }
 
-fn run(fd: i32, name: &[u8], words: usize, countries: &[u8])
+// Puts an argument at the front of the buffer; answers how long it is, and 0 where it is missing or longer than the buffer.
+fn arg<R: Env>(rt: &R, i: usize, buffer: &mut [u8]) -> usize
+    ensures { IsPrefixLen result buffer.new }
+{
+    match rt.arg(i, buffer) {
+        Ok(n) => n,
+        Err(_) => 0,
+    }
+}
+
+// The arguments with these numbers are a number of words, a list of countries and a file's name.
+fn one_case<R: Env + Files + Print + Eprint>(
+    rt: &R,
+    words_at: usize,
+    countries_at: usize,
+    name_at: usize,
+) {
+    let mut count = [0u8; 8];
+    let digits = arg(rt, words_at, &mut count);
+    let words = number(&count[..digits]);
+    let mut countries = [0u8; 4096];
+    let given = arg(rt, countries_at, &mut countries);
+    let mut name = [0u8; 4096];
+    let long = arg(rt, name_at, &mut name);
+    match str::from_utf8(&name[..long]) {
+        Ok(path) => open_case(rt, path, words, &countries[..given]),
+        Err(_) => streams::fail(rt, "a file's name", Error::from(ErrorKind::InvalidInput)),
+    }
+}
+
+fn open_case<R: Files + Print + Eprint>(rt: &R, name: &str, words: usize, countries: &[u8])
     requires { words ≤ 4096 }
 {
-    let mut buffer = io::large_buffer();
-    let mut list = [4294967295u32; 4096];
-    let input = streams::read_input(fd, &mut buffer);
-    match input {
-        Input::Whole(n) => judge(name, &buffer[..n], countries, &mut list[0..words]),
-        Input::Failed => os::fail(name),
+    match fs::open(rt, name) {
+        Ok(mut file) => run(rt, &mut file, name, words, countries),
+        Err(error) => streams::fail(rt, name, error),
     }
 }
 
-fn judge(name: &[u8], s: &[u8], countries: &[u8], list: &mut [u32]) {
-    streams::say(name);
-    streams::say(b" ");
-    streams::say_decimal(list.len() as u64);
-    streams::say(b" ");
-    streams::say(countries);
+fn run<R: Print + Eprint, I: Read>(
+    rt: &R,
+    input: &mut I,
+    name: &str,
+    words: usize,
+    countries: &[u8],
+)
+    requires { words ≤ 4096 }
+{
+    let mut buffer = [0u8; 65536];
+    let mut list = [4294967295u32; 4096];
+    let input = streams::read_input(input, &mut buffer);
+    match input {
+        Input::Whole(n) => judge(
+            rt,
+            name.as_bytes(),
+            &buffer[..n],
+            countries,
+            &mut list[0..words],
+        ),
+        Input::Failed(error) => streams::fail(rt, name, error),
+    }
+}
+
+fn judge<R: Print + Eprint>(rt: &R, name: &[u8], s: &[u8], countries: &[u8], list: &mut [u32]) {
+    streams::say(rt, name);
+    streams::say(rt, b" ");
+    streams::say_decimal(rt, list.len() as u64);
+    streams::say(rt, b" ");
+    streams::say(rt, countries);
     let answer = file::judge(s, lent(countries), list);
     match answer {
-        FileAnswer::Accepted(totals) => say_ok(totals),
-        FileAnswer::Refused(refusal) => say_no(refusal),
+        FileAnswer::Accepted(totals) => say_ok(rt, totals),
+        FileAnswer::Refused(refusal) => say_no(rt, refusal),
     }
-    streams::say(b" list ");
-    streams::say_decimal(sum(list));
-    streams::say(b"\n");
+    streams::say(rt, b" list ");
+    streams::say_decimal(rt, sum(list));
+    streams::say(rt, b"\n");
 }
 
 // The list of countries that an argument stands for.
@@ -110,19 +159,19 @@ fn value(b: u8) -> usize
     (b % 48) as usize
 }
 
-fn say_ok(totals: Totals) {
-    streams::say(b" ok ");
-    streams::say_decimal(totals.lines as u64);
-    streams::say(b" ");
-    streams::say_decimal(totals.parcels as u64);
-    streams::say(b" ");
-    streams::say_decimal(totals.cents);
+fn say_ok<R: Print + Eprint>(rt: &R, totals: Totals) {
+    streams::say(rt, b" ok ");
+    streams::say_decimal(rt, totals.lines as u64);
+    streams::say(rt, b" ");
+    streams::say_decimal(rt, totals.parcels as u64);
+    streams::say(rt, b" ");
+    streams::say_decimal(rt, totals.cents);
 }
 
-fn say_no(refusal: Refusal) {
+fn say_no<R: Print + Eprint>(rt: &R, refusal: Refusal) {
     let why = refusal.why;
-    streams::say(b" no ");
-    streams::say_decimal(refusal::number(why) as u64);
-    streams::say(b" ");
-    streams::say_decimal(refusal.place as u64);
+    streams::say(rt, b" no ");
+    streams::say_decimal(rt, refusal::number(why) as u64);
+    streams::say(rt, b" ");
+    streams::say_decimal(rt, refusal.place as u64);
 }

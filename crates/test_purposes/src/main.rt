@@ -7,22 +7,23 @@ ghost use Rattle.std.specs.Prelude.{◌≤◌, length};
 
 use purpose::PurposeAnswer;
 use refusal::Refusal;
+use std::io::{Eprint, Print};
 use streams::Input;
 
-fn main() {
-    let mut buffer = io::large_buffer();
-    let input = streams::read_input(libc::STDIN_FILENO, &mut buffer);
+fn main(rt: HostRuntime) {
+    let mut buffer = [0u8; 65536];
+    let input = streams::read_input(&mut rt.stdin(), &mut buffer);
     match input {
-        Input::Whole(n) => run(&buffer[..n]),
-        Input::Failed => os::fail(b"standard input"),
+        Input::Whole(n) => run(&rt, &buffer[..n]),
+        Input::Failed(error) => streams::fail(&rt, "standard input", error),
     }
 }
 
-fn run(s: &[u8]) {
+fn run<R: Print + Eprint>(rt: &R, s: &[u8]) {
     let mut start: usize = 0;
     while start < s.len() {
         let end = first_from(s, start, b'#');
-        run_case(&s[start..end]);
+        run_case(rt, &s[start..end]);
         start = end + 1;
     }
 }
@@ -43,7 +44,7 @@ fn first_from(s: &[u8], start: usize, b: u8) -> usize
 }
 
 // Nothing stands in front of the first `#`.
-fn run_case(case: &[u8]) {
+fn run_case<R: Print + Eprint>(rt: &R, case: &[u8]) {
     if case.len() < 9 {
         return;
     }
@@ -64,43 +65,43 @@ fn run_case(case: &[u8]) {
         &mut list[..words],
         &mut out[..room],
     );
-    say(answer);
-    streams::say(b" |");
-    streams::say(&out);
-    streams::say(b"|");
-    say_list(&list);
-    streams::say(b"\n");
+    say(rt, answer);
+    streams::say(rt, b" |");
+    streams::say(rt, &out);
+    streams::say(rt, b"|");
+    say_list(rt, &list);
+    streams::say(rt, b"\n");
 }
 
-fn say(answer: PurposeAnswer) {
+fn say<R: Print + Eprint>(rt: &R, answer: PurposeAnswer) {
     match answer {
         PurposeAnswer::Written(n) => {
-            streams::say(b"ok ");
-            streams::say_decimal(n as u64);
+            streams::say(rt, b"ok ");
+            streams::say_decimal(rt, n as u64);
         }
-        PurposeAnswer::Refused(refusal) => say_no(refusal),
+        PurposeAnswer::Refused(refusal) => say_no(rt, refusal),
     }
 }
 
-fn say_no(refusal: Refusal) {
+fn say_no<R: Print + Eprint>(rt: &R, refusal: Refusal) {
     let why = refusal.why;
-    streams::say(b"no ");
-    streams::say_decimal(refusal::number(why) as u64);
-    streams::say(b" ");
-    streams::say_decimal(refusal.place as u64);
+    streams::say(rt, b"no ");
+    streams::say_decimal(rt, refusal::number(why) as u64);
+    streams::say(rt, b" ");
+    streams::say_decimal(rt, refusal.place as u64);
 }
 
-fn say_list(list: &[u32]) {
+fn say_list<R: Print + Eprint>(rt: &R, list: &[u32]) {
     let mut i: usize = 0;
     while i < list.len() {
-        say_word(list[i]);
+        say_word(rt, list[i]);
         i += 1;
     }
 }
 
-fn say_word(word: u32) {
-    streams::say(b" ");
-    streams::say_decimal(word as u64);
+fn say_word<R: Print + Eprint>(rt: &R, word: u32) {
+    streams::say(rt, b" ");
+    streams::say_decimal(rt, word as u64);
 }
 
 fn two_digits(a: u8, b: u8) -> usize {

@@ -5,26 +5,27 @@
 ghost use Rattle.std.specs.Prelude.{◌≤◌, length};
 
 use refusal::Refusal;
+use std::io::{Eprint, Print};
 use streams::Input;
 use writer::WriteAnswer;
 
-fn main() {
-    let mut buffer = io::large_buffer();
-    let input = streams::read_input(libc::STDIN_FILENO, &mut buffer);
+fn main(rt: HostRuntime) {
+    let mut buffer = [0u8; 65536];
+    let input = streams::read_input(&mut rt.stdin(), &mut buffer);
     match input {
-        Input::Whole(n) => run(&buffer[..n]),
-        Input::Failed => os::fail(b"standard input"),
+        Input::Whole(n) => run(&rt, &buffer[..n]),
+        Input::Failed(error) => streams::fail(&rt, "standard input", error),
     }
 }
 
-fn run(s: &[u8]) {
+fn run<R: Print + Eprint>(rt: &R, s: &[u8]) {
     let mut start: usize = 0;
     while start < s.len() {
         let end = text::line_feed(s, start);
         if end <= start {
             return;
         }
-        one_call(&s[start..end]);
+        one_call(rt, &s[start..end]);
         start = end + 1;
     }
 }
@@ -37,7 +38,7 @@ struct Call {
     room: usize,
 }
 
-fn one_call(line: &[u8]) {
+fn one_call<R: Print + Eprint>(rt: &R, line: &[u8]) {
     let version = test_input::number(line, 0);
     let number = test_input::number(line, version.next);
     let fill = test_input::number(line, number.next);
@@ -50,11 +51,18 @@ fn one_call(line: &[u8]) {
         room: room.value % 5001,
     };
     let mut ends = [0usize; 64];
-    with_ends(call, line, count.next, &mut ends, count.value % 65);
+    with_ends(rt, call, line, count.next, &mut ends, count.value % 65);
 }
 
 // The call whose ends, so many, and text stand in the line from here on.
-fn with_ends(call: Call, line: &[u8], start: usize, ends: &mut [usize], many: usize)
+fn with_ends<R: Print + Eprint>(
+    rt: &R,
+    call: Call,
+    line: &[u8],
+    start: usize,
+    ends: &mut [usize],
+    many: usize,
+)
     requires { many ≤ length ends.old }
 {
     let at = read_ends(line, start, ends, many);
@@ -63,7 +71,7 @@ fn with_ends(call: Call, line: &[u8], start: usize, ends: &mut [usize], many: us
     if 5000 < room {
         return;
     }
-    write(call, &line[at..], &ends[0..many], &mut out[0..room]);
+    write(rt, call, &line[at..], &ends[0..many], &mut out[0..room]);
 }
 
 // Reads so many ends from here on; answers where the text starts behind them.
@@ -85,27 +93,27 @@ fn read_ends(line: &[u8], start: usize, ends: &mut [usize], many: usize) -> usiz
     at
 }
 
-fn write(call: Call, text: &[u8], ends: &[usize], out: &mut [u8]) {
+fn write<R: Print + Eprint>(rt: &R, call: Call, text: &[u8], ends: &[usize], out: &mut [u8]) {
     let answer = writer::write_line(call.version, call.number, text, ends, out, call.fill);
     match answer {
-        WriteAnswer::Written(n) => say_written(n),
-        WriteAnswer::Refused(refusal) => say_no(refusal),
+        WriteAnswer::Written(n) => say_written(rt, n),
+        WriteAnswer::Refused(refusal) => say_no(rt, refusal),
     }
-    streams::say(out);
-    streams::say(b"\n");
+    streams::say(rt, out);
+    streams::say(rt, b"\n");
 }
 
-fn say_written(n: usize) {
-    streams::say(b"written ");
-    streams::say_decimal(n as u64);
-    streams::say(b" ");
+fn say_written<R: Print + Eprint>(rt: &R, n: usize) {
+    streams::say(rt, b"written ");
+    streams::say_decimal(rt, n as u64);
+    streams::say(rt, b" ");
 }
 
-fn say_no(refusal: Refusal) {
+fn say_no<R: Print + Eprint>(rt: &R, refusal: Refusal) {
     let why = refusal.why;
-    streams::say(b"no ");
-    streams::say_decimal(refusal::number(why) as u64);
-    streams::say(b" ");
-    streams::say_decimal(refusal.place as u64);
-    streams::say(b" ");
+    streams::say(rt, b"no ");
+    streams::say_decimal(rt, refusal::number(why) as u64);
+    streams::say(rt, b" ");
+    streams::say_decimal(rt, refusal.place as u64);
+    streams::say(rt, b" ");
 }

@@ -13,13 +13,13 @@ use Rattle.test_input.proofs.number.Tie as tie
 
 ruleset laws = (rules, walk_on, value_on, given_stops, given_ends)
 
-abbrev invariant-loop : tie.invariant-loop
+abbrev invariant-loop : tie.invariant-loop-i
 invariant-loop s start value₀ i₀ value i =
     (value ≤ 999999)
     × (value_from value (drop i s) ≡ value_from 0 (drop start s))
     × (first_failing (λ _ b. digit b) i (drop i s) ≡ first_failing (λ _ b. digit b) start (drop start s))
 
-abbrev decreases-loop : tie.decreases-loop
+abbrev decreases-loop : tie.decreases-loop-i
 decreases-loop s start value₀ i₀ value i = length s - i
 
 pub number_spec : {M : Type 1} → statement M
