@@ -10,15 +10,15 @@ use Rattle.file.proofs.list.clear.Tie as tie
 
 ruleset laws = (rules, clear_on, clear_done)
 
-abbrev invariant-loop : tie.invariant-loop
-invariant-loop words₀ i₀ words i = (i ≤ length words₀) × (length words ≡ length words₀) × (words ≡ replicate i 0 ++ drop i words₀)
+abbrev invariant-loop-i : tie.invariant-loop-i
+invariant-loop-i words₀ i₀ words i = (i ≤ length words₀) × (length words ≡ length words₀) × (words ≡ replicate i 0 ++ drop i words₀)
 
-abbrev decreases-loop : tie.decreases-loop
-decreases-loop words₀ i₀ words i = length words₀ - i
+abbrev decreases-loop-i : tie.decreases-loop-i
+decreases-loop-i words₀ i₀ words i = length words₀ - i
 
 pub clear_spec : {M : Type 1} → statement M
 clear_spec =
     tie.close
     (tie.spec
-    invariant-loop decreases-loop (λ c. search laws) (λ c. search laws) (λ c. search laws) (λ c. search laws) (λ c. search laws)
+    invariant-loop-i decreases-loop-i (λ c. search laws) (λ c. search laws) (λ c. search laws) (λ c. search laws) (λ c. search laws)
     (λ c. search laws) (λ c. search laws) (λ c. search laws))

@@ -7,13 +7,13 @@ use Rattle.file.proofs.step.list_line.Tie as tie
 
 ruleset laws = (rules, word_there)
 
-returns : tie.Need-returns
+returns : tie.Need-returns-then-is_repeated
 returns c = (search (code_stops), (search (stopped_sown), search (stopped_listed)))
 
-returns_2 : tie.Need-returns-2
+returns_2 : tie.Need-returns-then-not-has_word
 returns_2 c = (search (list_stops), (search (stopped_sown), search (stopped_listed)))
 
-returns_3 : tie.Need-returns-3
+returns_3 : tie.Need-returns
 returns_3 c = (search (line_next), (search (line_sown), λ next e. refl))
 
 pub list_line_spec : {M : Type 1} → statement M

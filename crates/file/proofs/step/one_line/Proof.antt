@@ -7,17 +7,17 @@ use Rattle.file.proofs.step.one_line.Tie as tie
 
 ruleset laws = (rules, was_accepted, text_starts, text_inside, next_least)
 
-returns : tie.Need-returns
+returns : tie.Need-returns-then-lacks_contact
 returns c = (search (contact_stops), (search (stopped_sown), search (stopped_listed)))
 
-returns_2 : tie.Need-returns-2
+returns_2 : tie.Need-returns-else-lacks_contact
 returns_2 c = (search (line_listed), (search rules, search rules))
 
-returns_3 : tie.Need-returns-3
+returns_3 : tie.Need-returns-in-Refused
 returns_3 c = (search (line_stops), (search (stopped_sown), search (stopped_listed)))
 
 -- what `list_line` asks, clause by clause
-listed : tie.Need-list-line-requires
+listed : tie.Need-list_line-requires
 listed c κs = (
   (search laws, search rules, search rules, search rules, search rules, search rules),
   (search rules, search rules, search rules),
