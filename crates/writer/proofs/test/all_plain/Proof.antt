@@ -11,15 +11,15 @@ use Rattle.writer.proofs.test.all_plain.Tie as tie
 
 ruleset laws = (rules, all_on, all_stops, all_ends)
 
-abbrev invariant-loop : tie.invariant-loop
-invariant-loop field i₀ i = (i ≤ length field) × (all plain (drop i field) ≡ all plain field)
+abbrev invariant-loop-i : tie.invariant-loop-i
+invariant-loop-i field i₀ i = (i ≤ length field) × (all plain (drop i field) ≡ all plain field)
 
-abbrev decreases-loop : tie.decreases-loop
-decreases-loop field i₀ i = length field - i
+abbrev decreases-loop-i : tie.decreases-loop-i
+decreases-loop-i field i₀ i = length field - i
 
 pub all_plain_spec : {M : Type 1} → statement M
 all_plain_spec =
     tie.close
     (tie.spec
-    invariant-loop decreases-loop (λ c. search laws) (λ c. search laws) (λ c κs. search laws) (λ c. search laws) (λ c. search laws)
+    invariant-loop-i decreases-loop-i (λ c. search laws) (λ c. search laws) (λ c κs. search laws) (λ c. search laws) (λ c. search laws)
     (λ c. search laws) (λ c. search laws) (λ c. search laws))

@@ -10,16 +10,16 @@ use Rattle.writer.proofs.test.ends_hold.Tie as tie
 
 ruleset laws = (rules, ends_on, ends_fall, ends_end)
 
-abbrev invariant-loop : tie.invariant-loop
-invariant-loop ends long start₀ i₀ start i = (i ≤ length ends) × (rises_to long start (drop i ends) ≡ ends_hold ends long)
+abbrev invariant-loop-i : tie.invariant-loop-i
+invariant-loop-i ends long start₀ i₀ start i = (i ≤ length ends) × (rises_to long start (drop i ends) ≡ ends_hold ends long)
 
-abbrev decreases-loop : tie.decreases-loop
-decreases-loop ends long start₀ i₀ start i = length ends - i
+abbrev decreases-loop-i : tie.decreases-loop-i
+decreases-loop-i ends long start₀ i₀ start i = length ends - i
 
 pub ends_hold_spec : {M : Type 1} → statement M
 unfolding ends_hold
 ends_hold_spec =
     tie.close
     (tie.spec
-    invariant-loop decreases-loop (λ c. search laws) (λ c. search laws) (λ c. search laws) (λ c. search laws) (λ c. search laws)
+    invariant-loop-i decreases-loop-i (λ c. search laws) (λ c. search laws) (λ c. search laws) (λ c. search laws) (λ c. search laws)
     (λ c. search laws) (λ c. search laws) (λ c. search laws) (λ c. search laws) (λ c. search laws))

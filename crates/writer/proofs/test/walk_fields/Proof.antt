@@ -9,17 +9,17 @@ use Rattle.writer.proofs.test.walk_fields.Tie as tie
 
 ruleset laws = (rules, walking_none, walking_done, next_rises, next_inside, walking_stops, walking_on)
 
-abbrev invariant-loop : tie.invariant-loop
-invariant-loop version kind text ends beside₀ start₀ i₀ beside start i = Walking (profile version kind) kind text ends beside start i
+abbrev invariant-loop-i : tie.invariant-loop-i
+invariant-loop-i version kind text ends beside₀ start₀ i₀ beside start i = Walking (profile version kind) kind text ends beside start i
 
-abbrev decreases-loop : tie.decreases-loop
-decreases-loop version kind text ends beside₀ start₀ i₀ beside start i = length ends - i
+abbrev decreases-loop-i : tie.decreases-loop-i
+decreases-loop-i version kind text ends beside₀ start₀ i₀ beside start i = length ends - i
 
 pub walk_fields_spec : {M : Type 1} → statement M
 walk_fields_spec =
     tie.close
     (tie.spec
-    invariant-loop decreases-loop (λ c. search laws) (λ c. search laws) (λ c. search laws) (λ c. search laws) (λ c. search laws) (λ c. search laws)
+    invariant-loop-i decreases-loop-i (λ c. search laws) (λ c. search laws) (λ c. search laws) (λ c. search laws) (λ c. search laws) (λ c. search laws)
     (λ c. search laws) (λ c. search laws)
     (λ c. search laws) (λ c. search laws) (λ c κs. search laws) (λ c. search laws) (λ c. search laws) (λ c. search laws) (λ c. search laws)
     (λ c. search laws) (λ c. search laws) (λ c. search laws)

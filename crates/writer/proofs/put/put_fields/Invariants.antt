@@ -1,0 +1,11 @@
+-- `put::put_fields` meets its contract: what is left, put now, gives the whole.
+use Prim.Native.Nat.{◌-◌}
+use lib.ListN.{length}
+use Rattle.writer.proofs.Puts.{Putting, putting_none, putting_done, next_rises, next_inside, putting_on}
+use Rattle.writer.proofs.put.put_fields.Given as goal
+
+abbrev pub invariant-loop-i : goal.invariant-loop-i
+invariant-loop-i l = Putting l.initial.room l.text l.ends l.room l.start l.i
+
+abbrev pub decreases-loop-i : goal.decreases-loop-i
+decreases-loop-i l = length l.ends - l.i
