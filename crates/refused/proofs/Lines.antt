@@ -96,7 +96,7 @@ module _ (told : Told) (file : List ℕ) (offset : ℕ) where
       (λ t. choice (ltb (length file) offset) (NoText (because NoLineEnd (length file))) found (NoText refusal)
       (λ u q. is q (RefusedAt.past_the_file (ltb-false file_limit (length file) t) (ltb-true (length file) offset u)))
       (λ u. choice (not (ends_well file end)) (NoText (because NoLineEnd end)) (Ends end) (NoText refusal)
-      (λ w q. is q (RefusedAt.line_Refused (because NoLineEnd end) (ltb-false file_limit (length file) t) (ltb-false (length file) offset u)
+      (λ w q. is q (RefusedAt.line_refused (because NoLineEnd end) (ltb-false file_limit (length file) t) (ltb-false (length file) offset u)
       (open_line (not-true (ends_well file end) w))))
       (λ w q. absurd (no_pass text_verdict refl refl (sym q)))))
       e
@@ -115,7 +115,7 @@ module _ (told : Told) (file : List ℕ) (offset : ℕ) where
           let text = text_at file offset in
           let e' : of_text told offset text ≡ Refused refusal =
           ap (λ (i : ℕ). of_text told offset (take (i - offset) (drop offset file))) (sym t.is) ∙ e in
-          RefusedAt.line_Refused refusal t.short t.inside
+          RefusedAt.line_refused refusal t.short t.inside
           (of_text_lem told offset (drop offset file) refusal (name_of text) (fields_of text) (stands t.well)
           (ap (of_text told offset) (join_split text) ∙ e'))
 
@@ -159,7 +159,7 @@ module _ (told : Told) (file : List ℕ) (offset : ℕ) where
   unfolding line_answer text_answer
   refused_answer refusal (RefusedAt.file_too_long h) = rw (lt-ltb file_limit (length file) h)
   refused_answer refusal (RefusedAt.past_the_file h l) = rw (le-ltb file_limit (length file) h, lt-ltb (length file) offset l)
-  refused_answer refusal (RefusedAt.line_Refused other h l g) = line_answer_lem h l other g
+  refused_answer refusal (RefusedAt.line_refused other h l g) = line_answer_lem h l other g
 
   -- a line is refused, by this number and at this place, exactly when its own bytes and fields say so
   pub line_refused_exactly : (refusal : Refusal) → (line_answer told file offset ≡ Refused refusal) ↔ RefusedAt told file offset refusal

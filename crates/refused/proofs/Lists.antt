@@ -88,12 +88,12 @@ module _ (file countries others : List ℕ) (words : ℕ) (even : is_paired coun
   refused_with : (refusal : Refusal) → RefusedFile file (lent_with countries words) refusal → RefusedFile file (lent_with others words) refusal
   refused_with refusal (RefusedFile.file_too_long h) = RefusedFile.file_too_long h
   refused_with refusal (RefusedFile.countries_odd h odd) = clash even odd
-  refused_with refusal (RefusedFile.line_Refused ls left other b room some r) =
-      RefusedFile.line_Refused ls left other (begins_with ls left b) room some r
+  refused_with refusal (RefusedFile.line_refused ls left other b room some r) =
+      RefusedFile.line_refused ls left other (begins_with ls left b) room some r
   refused_with refusal (RefusedFile.contact_missing ls l left n room k listed u) = absurd (never_away ls (line_bytes l ++ left) n.begins u)
   refused_with refusal (RefusedFile.identcode_repeated ls l left n room k twice) =
       RefusedFile.identcode_repeated ls l left (next_with ls l left n) room k twice
-  refused_with refusal (RefusedFile.List-full ls l left b full) = RefusedFile.List-full ls l left (begins_with (ls ++ (l ∷ [])) left b) full
+  refused_with refusal (RefusedFile.list_full ls l left b full) = RefusedFile.list_full ls l left (begins_with (ls ++ (l ∷ [])) left b) full
   refused_with refusal (RefusedFile.file_ends ls b room e) = RefusedFile.file_ends ls (begins_with ls [] b) room e
 
   means_with : (answer : FileAnswer) (list : List ℕ) → Means file (lent_with countries words) answer list →

@@ -75,7 +75,7 @@ pub failing_code : (version : Version) (due : Due) (s : List ℕ) (at : ℕ) (co
     line_answer (told version due at (drop at s) code more) s at ≡ Refused (because FieldForm (at + 4))
 failing_code version due s at code more short inside counted filled narrow fails =
     (line_refused_exactly (told version due at (drop at s) code more) s at (because FieldForm (at + 4))).1
-    (RefusedAt.line_Refused (because FieldForm (at + 4)) short inside
+    (RefusedAt.line_refused (because FieldForm (at + 4)) short inside
     (code_refused version due at (drop at s) code more counted filled narrow fails))
 
 pub failing_file : (s : List ℕ) (lent : Lent) (ls : List FileLine) (left code : List ℕ) (more : List (List ℕ)) →
@@ -85,6 +85,6 @@ pub failing_file : (s : List ℕ) (lent : Lent) (ls : List FileLine) (left code 
 failing_file s lent ls left code more begins room counted filled narrow fails =
     let at = length (file_bytes ls) in
     let due = due_behind First ls in
-    RefusedFile.line_Refused ls left (because FieldForm (at + 4)) begins room
+    RefusedFile.line_refused ls left (because FieldForm (at + 4)) begins room
     (something_left (version_of s) due at left code more counted filled narrow fails)
     (code_refused (version_of s) due at left code more counted filled narrow fails)

@@ -118,7 +118,7 @@ module _ (s : List ℕ) (lent : Lent) where
   unfolding judged step_answer on_line
   refused_judged refusal (RefusedFile.file_too_long h) = rw (lt-ltb file_limit (length s) h)
   refused_judged refusal (RefusedFile.countries_odd h odd) = rw (le-ltb file_limit (length s) h, odd)
-  refused_judged refusal (RefusedFile.line_Refused ls left other b room some g) =
+  refused_judged refusal (RefusedFile.line_refused ls left other b room some g) =
       let r = reached ls left b room in
       let h = r.here in
       let e = line_answer_lem (told_by r.state) s r.state.at b.in_limit (inside s ls r.starts r.state h left b) other
@@ -145,7 +145,7 @@ module _ (s : List ℕ) (lent : Lent) where
       (before_end s ls r.starts r.state h lent l left f)
       (step_repeats s ls r.starts r.state h lent l left f (parcel_spared lent.countries ls l k) t)
       ∙ ap (λ (x : ℕ). Refused (because IdentcodeRepeated x)) p
-  refused_judged refusal (RefusedFile.List-full ls l left b full) =
+  refused_judged refusal (RefusedFile.list_full ls l left b full) =
       let n = next_at lent.countries s ls l [] left b in
       let r = reached ls (line_bytes l ++ left) n.follows.begins (omega arith) in
       let h = r.here in

@@ -55,7 +55,7 @@ in_line_lem : (told : Told) (s : List ℕ) (at : ℕ) → length s ≤ file_limi
     RefusedLine told at (drop at s) refusal
 in_line_lem told s at small l refusal (RefusedAt.file_too_long h) = absurd (omega arith)
 in_line_lem told s at small l refusal (RefusedAt.past_the_file h k) = absurd (omega arith)
-in_line_lem told s at small l refusal (RefusedAt.line_Refused other h k g) = g
+in_line_lem told s at small l refusal (RefusedAt.line_refused other h k g) = g
 
 module _ (s : List ℕ) (lent : Lent) where
   -- what is refused, from the lines so far on
@@ -128,7 +128,7 @@ module _ (s : List ℕ) (lent : Lent) where
           full f e =
               is (because ListFull state.at) e
               (subst (λ (x : ℕ). RefusedFile s lent (because ListFull x)) (sym h.place)
-              (RefusedFile.List-full ls l g.rest (begins_more lent.countries s ls l g.rest next) (omega (arith, h.count))))
+              (RefusedFile.list_full ls l g.rest (begins_more lent.countries s ls l g.rest next) (omega (arith, h.count))))
 
           goes_on : state.lines < lent.words → (on (behind s state line)).answer ≡ Refused refusal → RefusedFile s lent refusal
           unfolding line_of
@@ -151,7 +151,7 @@ module _ (s : List ℕ) (lent : Lent) where
       step_refused (RefusedAnswer other) ea e =
           let r = in_line_lem (told_by state) s state.at b.in_limit (inside s ls starts state h left b) other
           (answer_refused (told_by state) s state.at other ea) in
-          is other e (RefusedFile.line_Refused ls left other b room (λ z. omega (arith, h.place, left_long s ls left b, ap length z))
+          is other e (RefusedFile.line_refused ls left other b room (λ z. omega (arith, h.place, left_long s ls left b, ap length z))
           (line_here s ls starts state h left b other r))
       step_refused (AcceptedLine line) ea e =
           go (lacks_contact line.kind (split (text_at s state.at)) lent.countries state.contacts)

@@ -35,7 +35,7 @@ field_refused_exactly rules file offset n refusal = (λ e. forth (line_answer (a
 
     forth : (a : LineAnswer) → line_answer (alone rules) file offset ≡ a → in_line a file offset n ≡ Refused refusal →
         RefusedFind rules file offset n refusal
-    forth (RefusedLineAnswer other) ea e = is other (RefusedFind.line_Refused other (answer_refused (alone rules) file offset other ea)) e
+    forth (RefusedLineAnswer other) ea e = is other (RefusedFind.line_refused other (answer_refused (alone rules) file offset other ea)) e
     forth (Accepted line) ea e =
         let g = accepted_reads (alone rules) file offset line ea in
         choice (eqb n 0 || ltb line.count n) (Refused (because NotThere 0)) _ (Refused refusal)
@@ -45,6 +45,6 @@ field_refused_exactly rules file offset n refusal = (λ e. forth (line_answer (a
         (λ t q. absurd (no_pass field_verdict refl refl (sym q))) e
 
     back : (refusal : Refusal) → RefusedFind rules file offset n refusal → field_answer rules file offset n ≡ Refused refusal
-    back refusal (RefusedFind.line_Refused other g) =
+    back refusal (RefusedFind.line_refused other g) =
         field_refused rules file offset n other (refused_answer (alone rules) file offset other g)
     back refusal (RefusedFind.no_such_field line fs g h) = field_not_there g n h
