@@ -8,7 +8,7 @@ use native.Mathlib.Omega.{arith}
 use lib.Dec.{ltb}
 use lib.ListN.{length, length-append}
 use borrow.Author.Tests.{ltb-false, le-ltb, not-false}
-use Rattle.text.specs.Choice.{if◌then◌else◌}
+use Rattle.std.specs.Prelude.{if◌then◌else◌}
 use Rattle.text.proofs.Choices.{came_else}
 use Rattle.refusal.specs.declared.Reason.TheVariants.{FileTooLong, CountriesOdd}
 use Rattle.refusal.specs.declared.Refusal.{Refusal}

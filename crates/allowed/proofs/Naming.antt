@@ -10,7 +10,7 @@ use lib.Dec.{eqb}
 use lib.ListN.{length, drop, get_or, length-drop}
 use lib.Seq.{get_or-drop}
 use borrow.Author.Tests.{le-ltb, ne_eqb}
-use Rattle.text.specs.Choice.{if◌then◌else◌}
+use Rattle.std.specs.Prelude.{if◌then◌else◌}
 use Rattle.text.specs.Placed.{written}
 use Rattle.text.specs.Quoted.{bytes}
 use Rattle.records.specs.Record.{type_of}

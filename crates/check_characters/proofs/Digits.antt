@@ -8,7 +8,7 @@ use native.Mathlib.Nat.{mod-eq_of_lt, div-add-mod, add-mul-mod_self_left}
 use native.Mathlib.Numerals.{add-one}
 use lib.ListN.{length, take, drop, get_or, drop_of_length-le, length-drop}
 use lib.Seq.{drop-cons, take_all}
-use Rattle.text.specs.Choice.{if◌then◌else◌}
+use Rattle.std.specs.Prelude.{if◌then◌else◌}
 use Rattle.text.specs.Byte.{capital}
 use Rattle.check_characters.specs.Symbol.{value_of}
 use Rattle.check_characters.specs.Iban.{digits_of, spread, decimal_from, iban_number}

@@ -1,6 +1,5 @@
 -- Document 01, 'Check characters': what checking a number and issuing one answer, and what an issued one writes.
-use Rattle.std.specs.Prelude.{ℕ, List, ◌∷◌, ◌++◌, ltb, drop}
-use Rattle.text.specs.Choice.{if◌then◌else◌}
+use Rattle.std.specs.Prelude.{ℕ, List, ◌∷◌, ◌++◌, ltb, drop, if◌then◌else◌}
 use Rattle.refusal.specs.declared.Reason.TheVariants.{OutputTooShort}
 use Rattle.refusal.specs.Table.{because, verdict_of, Verdict}
 use Rattle.check_characters.specs.declared.answer.CheckAnswer.{CheckAnswer}

@@ -3,8 +3,7 @@
 --
 -- The 45 bytes 09980000020041F09980000020041G0998000002OO41F are three numbers. Their answers are 0, 18 and 17, and one passed
 -- (`example_day`).
-use Rattle.std.specs.Prelude.{ℕ, ◌*◌, ◌/◌, ◌%◌, ◌≡◌, not, List, eqb, ltb, length, take, drop}
-use Rattle.text.specs.Choice.{if◌then◌else◌}
+use Rattle.std.specs.Prelude.{ℕ, ◌*◌, ◌/◌, ◌%◌, ◌≡◌, not, List, eqb, ltb, length, take, drop, if◌then◌else◌}
 use Rattle.text.specs.Placed.{written}
 use Rattle.text.specs.Scan.{count}
 use Rattle.text.specs.Tabled.{tabled}

@@ -1,6 +1,5 @@
 -- ISO/IEC 7064, MOD 37,36 (document 01, 'Check characters').
-use Rattle.std.specs.Prelude.{ℕ, zero, suc, ◌+◌, ◌-◌, ◌*◌, ◌%◌, Bool, List, [], ◌∷◌, eqb, length, take, get_or}
-use Rattle.text.specs.Choice.{if◌then◌else◌}
+use Rattle.std.specs.Prelude.{ℕ, zero, suc, ◌+◌, ◌-◌, ◌*◌, ◌%◌, Bool, List, [], ◌∷◌, eqb, length, take, get_or, if◌then◌else◌}
 use Rattle.check_characters.specs.Symbol.{value_of, symbol_of}
 
 -- "0 read as 36"

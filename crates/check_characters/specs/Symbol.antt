@@ -1,6 +1,5 @@
 -- Document 01, 'Check characters': the symbols and their values.
-use Rattle.std.specs.Prelude.{ℕ, ◌+◌, ◌-◌, ltb}
-use Rattle.text.specs.Choice.{if◌then◌else◌}
+use Rattle.std.specs.Prelude.{ℕ, ◌+◌, ◌-◌, ltb, if◌then◌else◌}
 use Rattle.text.specs.Byte.{digit, capital}
 use Rattle.text.specs.Quoted.{byte}
 

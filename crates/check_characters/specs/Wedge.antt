@@ -2,8 +2,7 @@
 --
 -- It starts at 36, and the carry that one key is answered goes into the call for the next. For 09980000020041F the carries are those that
 -- src/number.rt lists, 35 behind the first `0` and 22 behind the `1`; behind the check `F` it is 2 (`example_keyed`).
-use Rattle.std.specs.Prelude.{ℕ, Bool, not, ◌&&◌, leb}
-use Rattle.text.specs.Choice.{if◌then◌else◌}
+use Rattle.std.specs.Prelude.{ℕ, Bool, not, ◌&&◌, leb, if◌then◌else◌}
 use Rattle.text.specs.Byte.{symbol}
 use Rattle.refusal.specs.declared.Reason.TheVariants.{NotThere, WrongSymbol}
 use Rattle.refusal.specs.Table.{because, verdict_of, Verdict}

@@ -17,7 +17,7 @@ use Rattle.refusal.specs.declared.Reason.TheVariants.{WrongLength, WrongSymbol, 
 use Rattle.refusal.specs.declared.Refusal.{Refusal}
 use Rattle.refusal.specs.Table.{because}
 use Rattle.refusal.proofs.Verdicts.{no_pass}
-use Rattle.text.specs.Choice.{if◌then◌else◌}
+use Rattle.std.specs.Prelude.{if◌then◌else◌}
 use Rattle.text.specs.Byte.{digit}
 use Rattle.text.proofs.Choices.{came_then, came_else}
 use Rattle.text.proofs.Bytes.{digit_range}

@@ -8,8 +8,7 @@
 --     85 46379 00327598 18 6342 6
 --
 -- With the check digit 7 it is refused by 18 at 21, with a letter by 17 at that letter, and without its check digit by 16 at 0.
-use Rattle.std.specs.Prelude.{ℕ, suc, ◌+◌, ◌-◌, ◌*◌, ◌%◌, ◌≡◌, Bool, not, List, [], ◌∷◌, eqb, ltb, length, get_or, take}
-use Rattle.text.specs.Choice.{if◌then◌else◌}
+use Rattle.std.specs.Prelude.{ℕ, suc, ◌+◌, ◌-◌, ◌*◌, ◌%◌, ◌≡◌, Bool, not, List, [], ◌∷◌, eqb, ltb, length, get_or, take, if◌then◌else◌}
 use Rattle.text.specs.Byte.{digit}
 use Rattle.text.specs.Scan.{first_failing}
 use Rattle.refusal.specs.declared.Reason.TheVariants.{WrongLength, WrongSymbol, WrongCheck}

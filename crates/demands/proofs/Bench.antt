@@ -7,7 +7,7 @@ use native.Mathlib.Omega.{arith}
 use lib.Dec.{eqb}
 use lib.ListN.{length}
 use borrow.Author.Tests.{eq-eqb, ne_eqb}
-use Rattle.text.specs.Choice.{if◌then◌else◌}
+use Rattle.std.specs.Prelude.{if◌then◌else◌}
 use Rattle.text.proofs.Numbers.{eq_or_ne}
 use Rattle.scans.specs.Scans.{whole_lines, number_on, line_answer}
 use Rattle.scans.specs.Pieces.{rest_of, last_answer}

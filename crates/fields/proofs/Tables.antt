@@ -8,7 +8,7 @@ use native.Mathlib.Omega.{arith}
 use lib.Dec.{leb, eqb}
 use lib.ListN.{get_or}
 use borrow.Author.Tests.{leb-true, lt-leb, eq-eqb, ne_eqb}
-use Rattle.text.specs.Choice.{if◌then◌else◌}
+use Rattle.std.specs.Prelude.{if◌then◌else◌}
 use Rattle.text.specs.Tabled.{tabled}
 use Rattle.text.proofs.Numbers.{eq_or_ne}
 use Rattle.text.proofs.Choices.{and_left, and_right}

@@ -1,6 +1,5 @@
 -- Document 01: the rule of one field, in the order of its refusals, "6, 7, 8 for each".
-use Rattle.std.specs.Prelude.{ℕ, List, ltb, eqb, length}
-use Rattle.text.specs.Choice.{if◌then◌else◌}
+use Rattle.std.specs.Prelude.{ℕ, List, ltb, eqb, length, if◌then◌else◌}
 use Rattle.refusal.specs.declared.Reason.TheVariants.{FieldTooLong, FieldEmpty, FieldForm}
 use Rattle.fields.specs.Profile.{Row, width_of, is_required, has_form}
 use Rattle.fields.specs.declared.field.Tested.{Tested}

@@ -1,6 +1,5 @@
 -- Document 01, 'The file': the form of each filled field. "Forms apply to filled fields."
-use Rattle.std.specs.Prelude.{ℕ, Bool, true, false, ◌||◌, List}
-use Rattle.text.specs.Choice.{if◌then◌else◌}
+use Rattle.std.specs.Prelude.{ℕ, Bool, true, false, ◌||◌, List, if◌then◌else◌}
 use Rattle.text.specs.Quoted.{bytes}
 use Rattle.text.specs.Scan.{same}
 use Rattle.forms.specs.Shape.{digits, purpose_text}

@@ -2,8 +2,7 @@
 -- stands under the paper's line that it says: which field, R if it must be filled, how wide it may be, and its form. Document 02, request
 -- 5: "For 7, document 002's field tables decide widths and duties wherever they give one, and our page the rest". So a row says both
 -- versions, and where they differ what each of them says.
-use Rattle.std.specs.Prelude.{ℕ, Bool, true, false, ◌&&◌, List, [], ◌∷◌, leb}
-use Rattle.text.specs.Choice.{if◌then◌else◌}
+use Rattle.std.specs.Prelude.{ℕ, Bool, true, false, ◌&&◌, List, [], ◌∷◌, leb, if◌then◌else◌}
 use Rattle.forms.specs.Shape.{all_digits, digits, capitals, customer, bic, mail, purpose_text}
 use Rattle.forms.specs.Amount.{amount}
 use Rattle.forms.specs.Date.{date_time}

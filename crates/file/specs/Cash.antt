@@ -1,6 +1,5 @@
 -- Document 01, 'Whole file': "the cash total in cents, which is the sum of 060.3 over lines with code 006 or 022 and currency `EUR`".
-use Rattle.std.specs.Prelude.{ℕ, List, [], get_or}
-use Rattle.text.specs.Choice.{if◌then◌else◌}
+use Rattle.std.specs.Prelude.{ℕ, List, [], get_or, if◌then◌else◌}
 use Rattle.text.specs.Quoted.{bytes}
 use Rattle.text.specs.Scan.{same}
 use Rattle.forms.specs.Amount.{cents, amount}

@@ -1,7 +1,6 @@
 -- Document 02, request 1: a sender's phone and mail, 020.12 and 020.13, "are needed only if some shipment under that sender has a
 -- consignee country on a list the caller lends". What the judge keeps of a sender, and what it asks of a shipment.
-use Rattle.std.specs.Prelude.{ℕ, Bool, not, ◌&&◌, List, [], ◌∷◌, get_or}
-use Rattle.text.specs.Choice.{if◌then◌else◌}
+use Rattle.std.specs.Prelude.{ℕ, Bool, not, ◌&&◌, List, [], ◌∷◌, get_or, if◌then◌else◌}
 use Rattle.text.specs.Scan.{all}
 use Rattle.countries.specs.List.{is_listed}
 use Rattle.records.specs.Record.{◌is_a◌}

@@ -1,6 +1,5 @@
 -- Document 01, 'Whole file': the lines of a file, one after the other, and what the list then holds.
-use Rattle.std.specs.Prelude.{ℕ, zero, suc, ◌+◌, ◌-◌, ◌≡◌, true, not, List, [], ◌∷◌, ◌++◌, ltb, length, replicate}
-use Rattle.text.specs.Choice.{if◌then◌else◌}
+use Rattle.std.specs.Prelude.{ℕ, zero, suc, ◌+◌, ◌-◌, ◌≡◌, true, not, List, [], ◌∷◌, ◌++◌, ltb, length, replicate, if◌then◌else◌}
 use Rattle.refusal.specs.Table.{because, verdict_of, Verdict}
 use Rattle.refusal.specs.declared.Reason.TheVariants.{FileTooLong, FileEnds, CountriesOdd}
 use Rattle.countries.specs.List.{is_paired}

@@ -1,7 +1,6 @@
 -- Document 01, 'Refusal numbers': "Lines go in file order", and on each line 10 and 11 after the line's own refusals.
 -- Document 02, request 1, puts 19 in front of the two: "after 9 on that line".
-use Rattle.std.specs.Prelude.{ℕ, ◌+◌, Bool, not, List, ltb, take}
-use Rattle.text.specs.Choice.{if◌then◌else◌}
+use Rattle.std.specs.Prelude.{ℕ, ◌+◌, Bool, not, List, ltb, take, if◌then◌else◌}
 use Rattle.refusal.specs.declared.Reason.TheVariants.{ContactMissing, IdentcodeRepeated, ListFull}
 use Rattle.refusal.specs.Table.{because}
 use Rattle.records.specs.Record.{◌is_a◌}

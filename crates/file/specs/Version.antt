@@ -1,6 +1,5 @@
 -- Document 02, request 5: "The version on the header decides for the whole file which field rules hold."
-use Rattle.std.specs.Prelude.{ℕ, ◌&&◌, List}
-use Rattle.text.specs.Choice.{if◌then◌else◌}
+use Rattle.std.specs.Prelude.{ℕ, ◌&&◌, List, if◌then◌else◌}
 use Rattle.text.specs.Scan.{same}
 use Rattle.records.specs.Record.{type_of}
 use Rattle.records.specs.Version.{is_version}

@@ -1,8 +1,7 @@
 -- Document 01, 'The file': "Date-time (010.3 and 010.4 only): `YYYY-MM-DDThh:mm:ss`, year 2000 to 2099, Gregorian, hour to 23, minute
 -- and second to 59."
-use Rattle.std.specs.Prelude.{ℕ, ◌%◌, Bool, ◌&&◌, ◌||◌, not, List, [], ◌∷◌, leb, eqb, take, drop}
+use Rattle.std.specs.Prelude.{ℕ, ◌%◌, Bool, ◌&&◌, ◌||◌, not, List, [], ◌∷◌, leb, eqb, take, drop, if◌then◌else◌}
 use Rattle.text.specs.Byte.{digit}
-use Rattle.text.specs.Choice.{if◌then◌else◌}
 use Rattle.text.specs.Decimal.{number}
 use Rattle.text.specs.Quoted.{byte, bytes}
 use Rattle.text.specs.Scan.{among, paired}

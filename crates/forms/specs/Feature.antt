@@ -1,6 +1,5 @@
 -- Document 01, 'The file': the feature codes.
-use Rattle.std.specs.Prelude.{ℕ, Bool, ◌&&◌, List, [], ◌∷◌}
-use Rattle.text.specs.Choice.{if◌then◌else◌}
+use Rattle.std.specs.Prelude.{ℕ, Bool, ◌&&◌, List, [], ◌∷◌, if◌then◌else◌}
 use Rattle.text.specs.Decimal.{number}
 use Rattle.text.specs.Scan.{among}
 use Rattle.forms.specs.Shape.{digits}

@@ -5,8 +5,7 @@
 //     999999.99    99999999 cents, the most
 //     0.00         no amount: it has the digits and the point, but no cent
 //     01.00        no amount: a zero stands before another digit
-ghost use Rattle.std.specs.Prelude.{◌≡◌, ◌≤◌, length};
-ghost use Rattle.text.specs.Choice.{if◌then◌else◌};
+ghost use Rattle.std.specs.Prelude.{◌≡◌, ◌≤◌, length, if◌then◌else◌};
 ghost use Rattle.forms.specs.Amount.{cents, pointed, leading_zero, amount};
 
 use crate::decimal::number;

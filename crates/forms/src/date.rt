@@ -1,6 +1,5 @@
 // A date-time: its pattern, a day of the calendar, a time of the day.
-ghost use Rattle.std.specs.Prelude.{◌≡◌, length};
-ghost use Rattle.text.specs.Choice.{if◌then◌else◌};
+ghost use Rattle.std.specs.Prelude.{◌≡◌, length, if◌then◌else◌};
 ghost use Rattle.forms.specs.Date.{stands_for, like, leap, days_in, calendar, good_day, good_time, date_time};
 
 use crate::decimal::number;

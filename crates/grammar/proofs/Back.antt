@@ -9,7 +9,7 @@ use lib.Dec.{leb}
 use lib.ListN.{length, take, drop, length-append}
 use lib.Seq.{take-append_seam, drop_at, take_at, length-take-le}
 use borrow.Author.Tests.{le-leb, leb-true, eq-eqb, not-false}
-use Rattle.text.specs.Choice.{if◌then◌else◌}
+use Rattle.std.specs.Prelude.{if◌then◌else◌}
 use Rattle.text.specs.Placed.{written}
 use Rattle.text.proofs.Choices.{and_both, came_then, came_else}
 use Rattle.refusal.specs.declared.Reason.TheVariants.{FieldCount, FeatureLacks, OutputTooShort, FieldEnds}

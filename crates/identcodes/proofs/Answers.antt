@@ -7,7 +7,7 @@ use native.Mathlib.Omega.{arith}
 use lib.Dec.{leb, ltb}
 use lib.ListN.{length}
 use borrow.Author.Tests.{le-leb, lt-ltb, ltb-true, leb-true}
-use Rattle.text.specs.Choice.{if◌then◌else◌}
+use Rattle.std.specs.Prelude.{if◌then◌else◌}
 use Rattle.text.proofs.Choices.{and_left, and_right}
 use Rattle.identcodes.specs.declared.CodeAnswer.TheVariants.{Known, New, NoRoom}
 use Rattle.identcodes.specs.Tree.{words_of, is_there, grown, has_room, code_answer, tree_after}

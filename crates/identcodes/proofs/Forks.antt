@@ -7,7 +7,7 @@ use native.Mathlib.Omega.{arith}
 use lib.Dec.{ltb}
 use lib.ListN.{get_or}
 use borrow.Author.Tests.{lt-ltb, le-ltb}
-use Rattle.text.specs.Choice.{if◌then◌else◌}
+use Rattle.std.specs.Prelude.{if◌then◌else◌}
 use Rattle.identcodes.specs.Tree.{fork, digit_of, byte_of, pair_of, leads_to}
 
 module _ (digit byte pair : ℕ) (hb : byte < 256) (hp : pair < 65536) where

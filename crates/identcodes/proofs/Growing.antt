@@ -10,7 +10,7 @@ use lib.ListN.{length, get_or, set}
 use lib.Seq.{get_or-set_same}
 use borrow.Author.Tests.{lt-leb, ltb-true, ltb-false, leb-true, leb-false, ne_eqb}
 use Rattle.text.specs.Byte.{digit}
-use Rattle.text.specs.Choice.{if◌then◌else◌}
+use Rattle.std.specs.Prelude.{if◌then◌else◌}
 use Rattle.text.specs.Scan.{same}
 use Rattle.text.proofs.Choices.{true_or_false, and_right}
 use Rattle.text.proofs.Numbers.{eq_or_ne}

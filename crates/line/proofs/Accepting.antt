@@ -9,7 +9,7 @@ use lib.ListN.{length, take, drop, length-take, length-drop}
 use borrow.Author.Tests.{ltb-false, not-false}
 use Rattle.text.specs.Byte.{text_byte}
 use Rattle.text.specs.Quoted.{bytes}
-use Rattle.text.specs.Choice.{if◌then◌else◌}
+use Rattle.std.specs.Prelude.{if◌then◌else◌}
 use Rattle.text.proofs.Choices.{came_else}
 use Rattle.text.proofs.Runs.{first_least, first_most}
 use Rattle.refusal.specs.declared.Reason.TheVariants.{FileTooLong, NoLineEnd, OutOfOrder, FieldCount, FeatureLacks}

@@ -12,7 +12,7 @@ use lib.Seq.{drop-drop, get_or-drop}
 use mir.Val.{Fits}
 use mir.Syntax.{w64}
 use borrow.Author.Tests.{le-leb, lt-leb, lt-ltb, le-ltb}
-use Rattle.text.specs.Choice.{if◌then◌else◌}
+use Rattle.std.specs.Prelude.{if◌then◌else◌}
 use Rattle.text.proofs.Runs.{first_least, first_most, first_shift}
 use Rattle.text.specs.Scan.{first_failing, count}
 use Rattle.text.proofs.Numbers.{le_or_lt}

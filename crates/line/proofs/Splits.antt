@@ -5,7 +5,7 @@ use mathlib.Core.Bool.{Bool, true, false}
 use mathlib.Core.List.{List, [], ◌∷◌, ◌++◌, append-nil}
 use lib.ListN.{drop, get_or}
 use borrow.Author.Tests.{eqb-true, not-true}
-use Rattle.text.specs.Choice.{if◌then◌else◌}
+use Rattle.std.specs.Prelude.{if◌then◌else◌}
 use Rattle.text.specs.Scan.{all}
 use Rattle.text.proofs.Choices.{and_left, and_right, and_both}
 use Rattle.line.specs.Parts.{semicolon, into_first, split, name_of, fields_of, in_field}

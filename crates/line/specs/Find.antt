@@ -1,6 +1,5 @@
 -- Document 01, "One field adds a field number, then 15 for 0 or above the count, and answers start and length."
-use Rattle.std.specs.Prelude.{ℕ, ◌+◌, ◌||◌, List, ltb, eqb, length}
-use Rattle.text.specs.Choice.{if◌then◌else◌}
+use Rattle.std.specs.Prelude.{ℕ, ◌+◌, ◌||◌, List, ltb, eqb, length, if◌then◌else◌}
 use Rattle.refusal.specs.Table.{because, verdict_of, Verdict}
 use Rattle.refusal.specs.declared.Reason.TheVariants.{NotThere}
 use Rattle.fields.specs.Profile.{Rules, profile}

@@ -1,6 +1,5 @@
 -- Document 01, "One line at an offset, judged alone (1, 2, 3, 5 to 9)", and in a file with 4 at its place in the order.
-use Rattle.std.specs.Prelude.{ℕ, ◌+◌, ◌-◌, Bool, not, List, ltb, length, take, drop}
-use Rattle.text.specs.Choice.{if◌then◌else◌}
+use Rattle.std.specs.Prelude.{ℕ, ◌+◌, ◌-◌, Bool, not, List, ltb, length, take, drop, if◌then◌else◌}
 use Rattle.text.specs.Byte.{text_byte}
 use Rattle.text.specs.Quoted.{bytes}
 use Rattle.text.specs.Scan.{first_failing, same}

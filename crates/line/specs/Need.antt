@@ -1,7 +1,6 @@
 -- Document 01, 'The file': "What a feature needs depends on its three-digit code alone: 006 and 022 need 3, 4, 5, 6, 7; 011 and 063
 -- need 3 and 4; 054 needs 9 or 10; the rest need nothing."
-use Rattle.std.specs.Prelude.{ℕ, Bool, true, not, ◌&&◌, ◌||◌, List, [], ◌∷◌, eqb, length, get_or}
-use Rattle.text.specs.Choice.{if◌then◌else◌}
+use Rattle.std.specs.Prelude.{ℕ, Bool, true, not, ◌&&◌, ◌||◌, List, [], ◌∷◌, eqb, length, get_or, if◌then◌else◌}
 use Rattle.text.specs.Scan.{all, among}
 use Rattle.forms.specs.Feature.{code_of}
 use Rattle.records.specs.Record.{◌is_a◌}

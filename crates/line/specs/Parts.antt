@@ -1,7 +1,6 @@
 -- Document 01, 'The file': "Semicolons divide fields; nothing quotes them. The first field is the record type. Fields are numbered
 -- from 1 after it."
-use Rattle.std.specs.Prelude.{ℕ, zero, suc, ◌+◌, ◌-◌, Bool, not, List, [], ◌∷◌, eqb, length, drop, get_or}
-use Rattle.text.specs.Choice.{if◌then◌else◌}
+use Rattle.std.specs.Prelude.{ℕ, zero, suc, ◌+◌, ◌-◌, Bool, not, List, [], ◌∷◌, eqb, length, drop, get_or, if◌then◌else◌}
 use Rattle.text.specs.Quoted.{byte}
 use Rattle.text.specs.Scan.{first_failing}
 

@@ -1,6 +1,5 @@
 -- Document 01, 'Payment purpose': the text, what is answered, and what the lent list and the output then hold.
-use Rattle.std.specs.Prelude.{ℕ, ◌≡◌, List, [], ◌++◌, ltb, length, take, replicate}
-use Rattle.text.specs.Choice.{if◌then◌else◌}
+use Rattle.std.specs.Prelude.{ℕ, ◌≡◌, List, [], ◌++◌, ltb, length, take, replicate, if◌then◌else◌}
 use Rattle.text.specs.Placed.{written}
 use Rattle.text.specs.Quoted.{bytes}
 use Rattle.refusal.specs.Table.{because, verdict_of, Verdict}

@@ -1,7 +1,6 @@
 -- Document 01, 'Payment purpose' (document 000, 5.6.4): which field, or which two, supply the text. A file's lines are known here by
 -- where they start.
-use Rattle.std.specs.Prelude.{ℕ, zero, suc, ◌+◌, Bool, ◌&&◌, List, [], ◌∷◌, leb, length, drop, get_or}
-use Rattle.text.specs.Choice.{if◌then◌else◌}
+use Rattle.std.specs.Prelude.{ℕ, zero, suc, ◌+◌, Bool, ◌&&◌, List, [], ◌∷◌, leb, length, drop, get_or, if◌then◌else◌}
 use Rattle.text.specs.Quoted.{bytes}
 use Rattle.text.specs.Scan.{same}
 use Rattle.purpose.specs.At.{field_at, filled_at, is_typed}

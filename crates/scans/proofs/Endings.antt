@@ -1,7 +1,7 @@
 -- A line's number, which a carriage return may follow.
 use Rattle.std.proofs.Common.{◌≡◌, ℕ, ◌-◌, Bool, true, false, eqb, List, length, get_or, take, drop, sym, ◌∙◌, arith, length-take-le, eq-eqb, ne_eqb}
 use lib.Seq.{take-length}
-use Rattle.text.specs.Choice.{if◌then◌else◌}
+use Rattle.std.specs.Prelude.{if◌then◌else◌}
 use Rattle.text.specs.Placed.{placed}
 use Rattle.text.proofs.Scans.{no_bytes}
 use Rattle.scans.specs.Scans.{number_on}

@@ -2,7 +2,7 @@
 use Rattle.std.proofs.Common.{◌≡◌, ℕ, zero, suc, ◌+◌, ◌-◌, ◌<◌, ◌≤◌, Bool, true, false, eqb, List, [], ◌∷◌, ◌++◌, map, length, get_or, take, drop, sym, refl, ap, ◌∙◌, ⊎_elim, append_assoc, append-nil, arith, length-append, take-append-drop, length-take-le, get_or-drop, take_all, take-take, drop_at, ne_eqb, eqb-true}
 use lib.Seq.{append_snoc}
 use borrow.Author.Tests.{not-true}
-use Rattle.text.specs.Choice.{if◌then◌else◌}
+use Rattle.std.specs.Prelude.{if◌then◌else◌}
 use Rattle.text.specs.Scan.{all, in_line}
 use Rattle.text.proofs.Choices.{and_left, and_right, and_both}
 use Rattle.text.proofs.Numbers.{le_or_lt}

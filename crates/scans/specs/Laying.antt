@@ -1,7 +1,6 @@
 -- How lines are laid out for one call of a day's numbers: the number of each, 15 bytes after 15 bytes, and a mark for each, which is 0, or
 -- the answer of a line that has no number.
-use Rattle.std.specs.Prelude.{◌≡◌, ℕ, ◌≤◌, List, map, length, take, ◌==◌, slice_index}
-use Rattle.text.specs.Choice.{if◌then◌else◌}
+use Rattle.std.specs.Prelude.{◌≡◌, ℕ, ◌≤◌, List, map, length, take, ◌==◌, slice_index, if◌then◌else◌}
 use Rattle.text.specs.Placed.{written, placed}
 use Rattle.text.specs.Tabled.{tabled}
 use Rattle.refusal.specs.Table.{number_told}

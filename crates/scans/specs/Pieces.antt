@@ -1,8 +1,7 @@
 -- What the returns bench answers to an input that comes in pieces (R6e of docs/DECISIONS.md). It works each piece off as it comes:
 -- `answer_lines` answers the whole lines in front, call after call, and `keep` keeps what is left for the next piece. The program's own
 -- functions are held to that by returns/specs/Turns.
-use Rattle.std.specs.Prelude.{ℕ, List, [], ◌∷◌, ◌++◌, map, take, ◌==◌}
-use Rattle.text.specs.Choice.{if◌then◌else◌}
+use Rattle.std.specs.Prelude.{ℕ, List, [], ◌∷◌, ◌++◌, map, take, ◌==◌, if◌then◌else◌}
 use Rattle.scans.specs.Scans.{whole_lines, line_answer}
 
 -- what stands behind the last line feed of a text, where the text stands behind the start of a line

@@ -2,8 +2,7 @@
 -- 2 ^ 64 lines one would begin again.
 --
 -- The answers 0, 16, 0, 18 make `lines` 4, `passed` 2, `length` and `check` 1 each, and `symbol` 0 (`example_tally`).
-use Rattle.std.specs.Prelude.{ℕ, ◌+◌, ◌%◌, ◌^◌, Bool, true, List, [], ◌∷◌, ◌==◌, nat_eq}
-use Rattle.text.specs.Choice.{if◌then◌else◌}
+use Rattle.std.specs.Prelude.{ℕ, ◌+◌, ◌%◌, ◌^◌, Bool, true, List, [], ◌∷◌, ◌==◌, nat_eq, if◌then◌else◌}
 use Rattle.text.specs.Scan.{count}
 use Rattle.scans.specs.declared.tally.Tally.{Tally}
 

@@ -14,7 +14,7 @@ use borrow.Author.Tests.{eqb-true, eq-eqb, ltb-false, leb-true, le-leb, le-ltb, 
 use Rattle.refusal.specs.declared.Reason.TheVariants.{WrongLength, WrongSymbol, WrongCheck}
 use Rattle.refusal.specs.Table.{because}
 use Rattle.refusal.proofs.Verdicts.{no_pass}
-use Rattle.text.specs.Choice.{if◌then◌else◌}
+use Rattle.std.specs.Prelude.{if◌then◌else◌}
 use Rattle.text.specs.Byte.{digit, capital}
 use Rattle.text.proofs.Choices.{and_left, and_right, or_cases, came_then, came_else, clash}
 use Rattle.text.proofs.Bytes.{digit_range, capital_range, capital_low}

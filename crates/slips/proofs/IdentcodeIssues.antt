@@ -12,7 +12,7 @@ use Rattle.refusal.specs.declared.Reason.TheVariants.{WrongLength, WrongSymbol}
 use Rattle.refusal.specs.Table.{because}
 use Rattle.refusal.proofs.Verdicts.{no_pass}
 use Rattle.text.specs.Byte.{digit}
-use Rattle.text.specs.Choice.{if◌then◌else◌}
+use Rattle.std.specs.Prelude.{if◌then◌else◌}
 use Rattle.text.proofs.Choices.{came_else, and_both}
 use Rattle.text.proofs.Runs.{all_append}
 use Rattle.text.proofs.Scans.{all_at, all_of}

@@ -13,7 +13,7 @@ use Rattle.refusal.specs.declared.Reason.TheVariants.{WrongLength, WrongSymbol, 
 use Rattle.refusal.specs.Table.{because}
 use Rattle.refusal.proofs.Verdicts.{no_pass}
 use Rattle.text.specs.Byte.{digit, capital, symbol}
-use Rattle.text.specs.Choice.{if◌then◌else◌}
+use Rattle.std.specs.Prelude.{if◌then◌else◌}
 use Rattle.text.proofs.Choices.{came_then, came_else, or_cases, clash, true_or_false}
 use Rattle.text.proofs.Numbers.{le_or_lt}
 use Rattle.text.proofs.Bytes.{digit_range, capital_range}

@@ -1,9 +1,8 @@
 -- What a read means, and what is in the buffer once the reading is over.
-use Rattle.std.specs.Prelude.{◌≢◌, ℕ, ◌<◌, ◌≤◌, Bool, List, length, take, Option}
+use Rattle.std.specs.Prelude.{◌≢◌, ℕ, ◌<◌, ◌≤◌, Bool, List, length, take, Option, if◌then◌else◌}
 use Rattle.std.specs.Io.KnownBytes.{Keeps, Consumes, IsAtEnd}
 use Rattle.std.specs.IoError.{error_kind}
 use Rattle.std.specs.declared.io.ErrorKind.{ErrorKind}
-use Rattle.text.specs.Choice.{if◌then◌else◌}
 use Rattle.streams.specs.Counts.{IsPrefixLen}
 use Rattle.streams.specs.declared.Input.{Input}
 use Rattle.streams.specs.declared.Piece.{Piece}

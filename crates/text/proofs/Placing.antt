@@ -10,7 +10,7 @@ use lib.Dec.{leb}
 use lib.ListN.{length, set, take, drop, get_or, length-append, length-drop, take-append-drop, drop_of_length-le}
 use lib.Seq.{paste, paste-suc, take_all, take-nil, take_at, drop_at, drop-drop, length-take-le}
 use borrow.Author.Tests.{le-leb, lt-leb, leb-true}
-use Rattle.text.specs.Choice.{if◌then◌else◌}
+use Rattle.std.specs.Prelude.{if◌then◌else◌}
 use Rattle.text.specs.Placed.{written, placed}
 
 -- the first i bytes of src are in: each premise is a fact that the loop has

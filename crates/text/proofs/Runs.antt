@@ -7,7 +7,7 @@ use native.Mathlib.Omega.{arith}
 use native.Mathlib.Nat.{add-zero, add-suc, suc-add}
 use lib.ListN.{length, take, drop, get_or}
 use lib.Seq.{take-append_seam, drop-append_seam}
-use Rattle.text.specs.Choice.{if◌then◌else◌}
+use Rattle.std.specs.Prelude.{if◌then◌else◌}
 use Rattle.text.specs.Scan.{first_failing, all}
 use Rattle.text.proofs.Choices.{and_left, and_right, and_both}
 

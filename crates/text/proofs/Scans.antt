@@ -11,7 +11,7 @@ use lib.ListN.{length, drop, get_or, drop_of_length-le}
 use lib.Seq.{drop-cons}
 use lib.Dec.{eqb}
 use borrow.Author.Tests.{not-true, not-false, eq-eqb, ne_eqb, eqb-true}
-use Rattle.text.specs.Choice.{if◌then◌else◌}
+use Rattle.std.specs.Prelude.{if◌then◌else◌}
 use Rattle.text.specs.Scan.{first_failing, in_line, line_feed, all, count, among, paired, same}
 use Rattle.text.proofs.Choices.{and_left, and_right, and_both, true_or_false}
 

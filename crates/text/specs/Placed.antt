@@ -1,6 +1,5 @@
 -- A run of bytes written into an output; every other byte of the output stays.
-use Rattle.std.specs.Prelude.{ℕ, ◌+◌, List, ◌++◌, leb, length, take, drop}
-use Rattle.text.specs.Choice.{if◌then◌else◌}
+use Rattle.std.specs.Prelude.{ℕ, ◌+◌, List, ◌++◌, leb, length, take, drop, if◌then◌else◌}
 
 -- the bytes of src stand in out from the place at on
 abbrev pub written : List ℕ → ℕ → List ℕ → List ℕ

@@ -1,6 +1,5 @@
 -- Tests of a run's bytes: the first that fails one, whether all pass, how many do, where a line ends, and two runs byte for byte.
-use Rattle.std.specs.Prelude.{ℕ, suc, ◌+◌, min, Bool, true, false, not, ◌&&◌, ◌||◌, List, [], ◌∷◌, eqb, length, drop}
-use Rattle.text.specs.Choice.{if◌then◌else◌}
+use Rattle.std.specs.Prelude.{ℕ, suc, ◌+◌, min, Bool, true, false, not, ◌&&◌, ◌||◌, List, [], ◌∷◌, eqb, length, drop, if◌then◌else◌}
 
 -- the place of the first byte that fails a test of its place and itself, where the first of these bytes stands at the place i;
 -- the place past the last where none fails

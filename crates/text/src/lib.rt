@@ -2,9 +2,8 @@
 // the desk stands on.
 #![tactic(auto)]
 
-ghost use Rattle.std.specs.Prelude.{◌≡◌, ◌+◌, ◌≤◌, eqb, length, take, drop};
+ghost use Rattle.std.specs.Prelude.{◌≡◌, ◌+◌, ◌≤◌, eqb, length, take, drop, if◌then◌else◌};
 ghost use Rattle.text.specs.Byte.{digit, capital, small, symbol, text_byte, purpose_byte, in_class};
-ghost use Rattle.text.specs.Choice.{if◌then◌else◌};
 ghost use Rattle.text.specs.Scan.{all, count, among, same, in_line, line_feed};
 ghost use Rattle.text.specs.Placed.{placed, written};
 

@@ -1,7 +1,6 @@
 -- Document 01, 'Writer': "Record type as a number (10 for 010, up to 60), one text with all fields joined, a list of field ends, an
 -- output and its fill. Order: 3, 14, 5, fields (6, 7, 8), 9, 13."
-use Rattle.std.specs.Prelude.{ℕ, suc, ◌+◌, ◌-◌, ◌≡◌, Bool, not, ◌&&◌, List, [], ◌∷◌, leb, eqb, length, take, drop}
-use Rattle.text.specs.Choice.{if◌then◌else◌}
+use Rattle.std.specs.Prelude.{ℕ, suc, ◌+◌, ◌-◌, ◌≡◌, Bool, not, ◌&&◌, List, [], ◌∷◌, leb, eqb, length, take, drop, if◌then◌else◌}
 use Rattle.text.specs.Placed.{written}
 use Rattle.text.specs.Scan.{all}
 use Rattle.refusal.specs.Table.{because, verdict_of, Verdict}
