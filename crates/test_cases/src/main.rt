@@ -61,18 +61,13 @@ fn one_case<R: Env + Files + Print + Eprint>(
     let given = arg(rt, countries_at, &mut countries);
     let mut name = [0u8; 4096];
     let long = arg(rt, name_at, &mut name);
-    match str::from_utf8(&name[..long]) {
-        Ok(path) => open_case(rt, path, words, &countries[..given]),
-        Err(_) => streams::fail(rt, "a file's name", Error::from(ErrorKind::InvalidInput)),
-    }
-}
-
-fn open_case<R: Files + Print + Eprint>(rt: &R, name: &str, words: usize, countries: &[u8])
-    requires { words ≤ 4096 }
-{
-    match fs::open(rt, name) {
-        Ok(mut file) => run(rt, &mut file, name, words, countries),
-        Err(error) => streams::fail(rt, name, error),
+    let Ok(path) = str::from_utf8(&name[..long]) else {
+        streams::fail(rt, "a file's name", Error::from(ErrorKind::InvalidInput));
+        return;
+    };
+    match fs::open(rt, path) {
+        Ok(mut file) => run(rt, &mut file, path, words, &countries[..given]),
+        Err(error) => streams::fail(rt, path, error),
     }
 }
 
