@@ -1,7 +1,8 @@
 """Holds the contracts of all functions that leave their crates to two rules, so that a weaker one fails the gate.
 
 No such function has a `requires`. Its `ensures` are equations with definitions, for its answer and for what each lent buffer holds
-afterwards, or named relations that are made of such equations. And each statement of the demands has a proof under its name.
+afterwards, or named relations that are made of such equations. And each statement of the demands has a proof under its name. What crate
+peliranopi_c exports for C has the names and the clauses of crate peliranopi's functions.
 """
 
 import glob
@@ -138,6 +139,11 @@ def faults(function, relations):
     return wrong + ["no equation has " + one + ".new" for one in lent if one + ".new" not in holds]
 
 
+def stated(function):
+    """A function's parameters and clauses, whatever the lines are."""
+    return [" ".join(text.split()).rstrip(", ") for text in (function.parameters, *(part for clause in function.clauses for part in clause))]
+
+
 def module(folder, path):
     """The file of a module."""
     for end in (".rt", "/mod.rt"):
@@ -267,6 +273,8 @@ def main():
                 found = [fault for fault in found if not fault.startswith("no equation")]
             wrong += ["tests/contracts.py: %s::%s: %s" % (crate, function.name, fault) for fault in found]
             count += 1
+    own, for_c = ({function.name: stated(function) for _, function in exported(crate)} for crate in ("peliranopi", "peliranopi_c"))
+    wrong += ["tests/contracts.py: peliranopi_c::%s: not as in peliranopi" % name for name in own | for_c if own.get(name) != for_c.get(name)]
     if wrong:
         sys.exit("\n".join(wrong))
     print("test: %d exported contracts: equations with definitions, without a requires" % count)
