@@ -3,6 +3,10 @@
 // of countries that it lends is empty: no sender needs contacts.
 #![tactic(auto)]
 
+ghost use Rattle.std.specs.Prelude.{◌≡◌, take};
+ghost use Rattle.streams.specs.Counts.{IsPrefixLen};
+ghost use Rattle.dispatch.specs.Answer.{answer_to, ok_line, no_line};
+
 use file::{FileAnswer, Totals};
 use refusal::Refusal;
 use std::io::{Eprint, Print};
@@ -18,33 +22,45 @@ fn main(rt: HostRuntime) {
 }
 
 fn judge<R: Print + Eprint>(rt: &R, s: &[u8]) {
+    let mut line = [0u8; 72];
+    let end = answer(s, &mut line);
+    streams::say(rt, &line[..end]);
+}
+
+// Puts the answer at the line's front; answers how long it is.
+fn answer(s: &[u8], line: &mut [u8; 72]) -> usize
+    ensures fits { IsPrefixLen result line.new }
+    ensures told { take result line.new ≡ answer_to s.now }
+{
     let mut list = [0u32; 4096];
     let answer = file::judge(s, b"", &mut list);
     match answer {
-        FileAnswer::Accepted(totals) => say_ok(rt, totals),
-        FileAnswer::Refused(refusal) => say_no(rt, refusal),
+        FileAnswer::Accepted(totals) => say_ok(totals, line),
+        FileAnswer::Refused(refusal) => say_no(refusal, line),
     }
 }
 
-fn say_ok<R: Print + Eprint>(rt: &R, totals: Totals) {
-    let mut line = [0u8; 72];
-    let ok = streams::add(&mut line, 0, b"ok ");
-    let lines = streams::add_decimal(&mut line, ok, totals.lines as u64);
-    let space = streams::add(&mut line, lines, b" ");
-    let parcels = streams::add_decimal(&mut line, space, totals.parcels as u64);
-    let second = streams::add(&mut line, parcels, b" ");
-    let cents = streams::add_decimal(&mut line, second, totals.cents);
-    let end = streams::add(&mut line, cents, b"\n");
-    streams::say(rt, &line[..end]);
+fn say_ok(totals: Totals, line: &mut [u8; 72]) -> usize
+    ensures fits { IsPrefixLen result line.new }
+    ensures told { take result line.new ≡ ok_line totals }
+{
+    let ok = streams::add(line, 0, b"ok ");
+    let lines = streams::add_decimal(line, ok, totals.lines as u64);
+    let space = streams::add(line, lines, b" ");
+    let parcels = streams::add_decimal(line, space, totals.parcels as u64);
+    let second = streams::add(line, parcels, b" ");
+    let cents = streams::add_decimal(line, second, totals.cents);
+    streams::add(line, cents, b"\n")
 }
 
-fn say_no<R: Print + Eprint>(rt: &R, refusal: Refusal) {
+fn say_no(refusal: Refusal, line: &mut [u8; 72]) -> usize
+    ensures fits { IsPrefixLen result line.new }
+    ensures told { take result line.new ≡ no_line refusal }
+{
     let why = refusal.why;
-    let mut line = [0u8; 72];
-    let no = streams::add(&mut line, 0, b"no ");
-    let number = streams::add_decimal(&mut line, no, refusal::number(why) as u64);
-    let space = streams::add(&mut line, number, b" ");
-    let place = streams::add_decimal(&mut line, space, refusal.place as u64);
-    let end = streams::add(&mut line, place, b"\n");
-    streams::say(rt, &line[..end]);
+    let no = streams::add(line, 0, b"no ");
+    let number = streams::add_decimal(line, no, refusal::number(why) as u64);
+    let space = streams::add(line, number, b" ");
+    let place = streams::add_decimal(line, space, refusal.place as u64);
+    streams::add(line, place, b"\n")
 }

@@ -1,3 +1,5 @@
+pub mod Adding
+pub mod Decimal
 pub mod Filling
 pub mod Held
 pub mod Powers

@@ -1,4 +1,4 @@
--- A number's decimal digits.
+-- A number's decimal digits, from the last on. Together they are what std writes for the number.
 use Rattle.std.specs.Prelude.{ℕ, zero, suc, ◌+◌, ◌-◌, ◌/◌, ◌%◌, ◌^◌, ◌<◌, ◌≤◌, List, [], ◌∷◌, ◌++◌}
 
 -- the last k digits of n, the most significant first

@@ -1,3 +1,4 @@
 pub mod Counts
 pub mod Digits
+pub mod Lines
 pub mod Reads

@@ -3,12 +3,14 @@
 
 mod number;
 
-ghost use Rattle.std.specs.Prelude.{◌≡◌, ◌≢◌, ◌↔◌, ◌<◌, ◌≤◌, IsTrue};
+ghost use Rattle.std.specs.Prelude.{◌≡◌, ◌≢◌, ◌↔◌, ◌+◌, ◌<◌, ◌≤◌, IsTrue, min, length};
+ghost use Rattle.std.specs.Fmt.{decimal};
 ghost use Rattle.std.specs.IoError.{error_kind};
 ghost use Rattle.streams.specs.Counts.{IsPrefixLen};
+ghost use Rattle.streams.specs.Lines.{Adds};
 ghost use Rattle.streams.specs.Reads.{Held, HeldPiece, Took, TookPiece, meaning_of};
 
-use number::decimal;
+use number::put_decimal;
 use std::io::{Eprint, Error, ErrorKind, Print, Read};
 
 // How many bytes of the buffer are the input: all of it, or as much as the buffer takes.
@@ -134,13 +136,14 @@ pub fn fail<P: Eprint>(rt: &P, what: &str, error: Error) {
 // Says a number's decimal digits.
 pub fn say_decimal<P: Print + Eprint>(rt: &P, n: u64) {
     let mut digits = [0u8; 20];
-    let count = decimal(n, &mut digits);
+    let count = put_decimal(n, &mut digits);
     say(rt, &digits[..count]);
 }
 
 // Puts a run behind the bytes that a line has, where there is room; answers how many it then has. So a line can be written at once.
 pub fn add(line: &mut [u8], fill: usize, run: &[u8]) -> usize
-    ensures { IsPrefixLen result line.new }
+    ensures fits { IsPrefixLen result line.new }
+    ensures added { Adds line.old fill run.now result line.new }
 {
     let room = line.len();
     text::place(line, fill, run);
@@ -149,15 +152,19 @@ pub fn add(line: &mut [u8], fill: usize, run: &[u8]) -> usize
 
 // The same for a number's decimal digits.
 pub fn add_decimal(line: &mut [u8], fill: usize, n: u64) -> usize
-    ensures { IsPrefixLen result line.new }
+    ensures fits { IsPrefixLen result line.new }
+    ensures added { Adds line.old fill (decimal n) result line.new }
+    ensures short { length (decimal n) ≤ 20 }
 {
     let mut digits = [0u8; 20];
-    let count = decimal(n, &mut digits);
+    let count = put_decimal(n, &mut digits);
     add(line, fill, &digits[..count])
 }
 
 fn filled(room: usize, fill: usize, more: usize) -> usize
-    ensures { result ≤ room }
+    ensures fits { result ≤ room }
+    ensures whole { fill + more ≤ room → result ≡ fill + more }
+    ensures none { room < fill + more → result ≡ min fill room }
 {
     if room < fill {
         return room;

@@ -1,13 +1,13 @@
 // A number's decimal digits, in ASCII.
 ghost use Rattle.std.specs.Prelude.{◌≡◌, ◌+◌, ◌<◌, ◌≤◌, length, take, drop};
+ghost use Rattle.std.specs.Fmt.{decimal};
 ghost use Rattle.streams.specs.Counts.{IsPrefixLen};
 ghost use Rattle.streams.specs.Digits.{last_digits, IsDigitCount};
 
 // Puts n's decimal digits at the front of out; answers how many there are.
-pub fn decimal(n: u64, out: &mut [u8; 20]) -> usize
+pub fn put_decimal(n: u64, out: &mut [u8; 20]) -> usize
     ensures fits { IsPrefixLen result out.new }
-    ensures count { IsDigitCount n result }
-    ensures digits { take result out.new ≡ last_digits result n }
+    ensures digits { take result out.new ≡ decimal n }
     ensures rest { drop result out.new ≡ drop result out.old }
 {
     let k = digit_count(n);

@@ -1,0 +1,34 @@
+-- The line that answers a file.
+use Rattle.std.specs.Prelude.{ℕ, List, [], ◌∷◌, ◌++◌, codes}
+use Rattle.std.specs.Fmt.{decimal}
+use Rattle.refusal.specs.Table.{number_of}
+use Rattle.refusal.specs.declared.Refusal.{Refusal}
+use Rattle.file.specs.declared.whole.Totals.{Totals}
+use Rattle.file.specs.declared.whole.FileAnswer.{FileAnswer}
+use Rattle.file.specs.File.{judged}
+use Rattle.file.specs.Lent.{Lent}
+
+-- numbers, each behind a space, and the line feed
+abbrev pub numbers : List ℕ → List ℕ
+numbers [] = 10 ∷ []
+numbers (n ∷ rest) = codes " " ++ decimal n ++ numbers rest
+
+-- `ok LINES PARCELS CENTS`
+abbrev pub ok_line : Totals → List ℕ
+ok_line totals = codes "ok" ++ numbers (totals.lines ∷ totals.parcels ∷ totals.cents ∷ [])
+
+-- `no NUMBER PLACE`
+abbrev pub no_line : Refusal → List ℕ
+no_line refusal = codes "no" ++ numbers (number_of refusal.why ∷ refusal.place ∷ [])
+
+abbrev pub line_of : FileAnswer → List ℕ
+line_of (FileAnswer.Accepted totals) = ok_line totals
+line_of (FileAnswer.Refused refusal) = no_line refusal
+
+-- what the program lends: 4,096 words, and no country
+abbrev pub lent : Lent
+lent = record { countries = []; words = 4096 }
+
+-- the answer to a file
+abbrev pub answer_to : List ℕ → List ℕ
+answer_to file = line_of (judged file lent).answer

@@ -1,0 +1,28 @@
+-- What a line has, behind a run that was added.
+use Rattle.std.proofs.Common.{◌≡◌, ℕ, ◌+◌, ◌<◌, ◌≤◌, min, List, ◌++◌, length, take, drop, ap, ◌∙◌, arith, length-append, length-take-le}
+use Rattle.std.proofs.lemmas.List.{take_at}
+use borrow.Author.Tests.{lt-leb}
+use Rattle.text.specs.Placed.{placed}
+use Rattle.text.proofs.Placing.{placed_there}
+use Rattle.streams.specs.Lines.{Adds}
+
+module _ (line : List ℕ) (fill : ℕ) (run : List ℕ) where
+  front : fill + length run ≤ length line → take (fill + length run) (placed line fill run) ≡ take fill line ++ run
+  front h =
+      let long : fill ≤ length line = omega arith in
+      let both : length (take fill line ++ run) ≡ fill + length run =
+      omega (arith, length-append (take fill line) run, length-take-le fill line long) in
+      rw (placed_there line fill run h) (take_at (take fill line ++ run) (drop (fill + length run) line) (fill + length run) both)
+
+  full : length line < fill + length run → placed line fill run ≡ line
+  unfolding placed
+  full h = simp (lt-leb (fill + length run) (length line) h)
+
+  pub adds : (count : ℕ) (after : List ℕ) → after ≡ placed line fill run
+      → (fill + length run ≤ length line → count ≡ fill + length run)
+      → (length line < fill + length run → count ≡ min fill (length line)) → Adds line fill run count after
+  adds count after there whole none = record {
+    there = there;
+    whole = λ h. (whole h, ap (λ n. take n after) (whole h) ∙ ap (λ l. take (fill + length run) l) there ∙ front h);
+    none = λ h. (none h, there ∙ full h);
+  }

@@ -1,0 +1,10 @@
+-- A line that is put together run by run, and then written at once.
+use Rattle.std.specs.Prelude.{◌≡◌, ℕ, ◌+◌, ◌<◌, ◌≤◌, min, List, ◌++◌, length, take}
+use Rattle.text.specs.Placed.{placed}
+
+-- A run stands behind the bytes that a line has, where the line has room for it, and so many bytes it then has; where it has no room, it
+-- stays as it was.
+pub record Adds (line : List ℕ) (fill : ℕ) (run : List ℕ) (count : ℕ) (after : List ℕ) : Type 0 where
+  pub there : after ≡ placed line fill run
+  pub whole : fill + length run ≤ length line → (count ≡ fill + length run) × (take count after ≡ take fill line ++ run)
+  pub none : length line < fill + length run → (count ≡ min fill (length line)) × (after ≡ line)
