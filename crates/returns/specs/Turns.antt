@@ -1,6 +1,7 @@
--- What a turn of the returns bench leaves: the lines so far are counted, and what stands behind the last line feed waits.
-use Rattle.std.specs.Prelude.{ℕ, ◌≡◌, true, List, map, take}
-use Rattle.scans.specs.Scans.{whole_lines, line_answer, bytes_of}
+-- What a turn of the returns bench leaves: the lines so far are answered and counted, and what stands behind the last line feed waits.
+use Rattle.std.specs.Prelude.{ℕ, ◌≡◌, true, List, [], ◌∷◌, ◌++◌, map, take, Option}
+use Rattle.std.specs.Io.KnownBytes.{Appends, Consumes}
+use Rattle.scans.specs.Scans.{whole_lines, line_answer, bytes_of, printed}
 use Rattle.scans.specs.Pieces.{rest_of}
 use Rattle.scans.specs.Tallying.{tallied}
 use Rattle.scans.specs.declared.tally.Tally.{Tally}
@@ -13,9 +14,29 @@ Tells text before (Telling.Said told) =
     (told.next ≡ bytes_of (whole_lines text)) × (told.counts ≡ tallied before (map line_answer (whole_lines text)))
 Tells text before Telling.Failed = Unit {0}
 
+-- and they are printed, behind what was: an output whose bytes are known, before and after, has grown by them
+unfoldable pub Says : List ℕ → Option (List ℕ) → Option (List ℕ) → Telling → Type 0
+Says text output after (Telling.Said told) = Appends output after (printed (map line_answer (whole_lines text)))
+Says text output after Telling.Failed = Unit {0}
+
 -- where it goes on, the lines of the text are counted, and 17 bytes of the rest wait at the buffer's front: what `bench_answers` says of a
 -- piece
 unfoldable pub Leaves : List ℕ → Tally → Bench → List ℕ → Type 0
 Leaves text before bench buffer =
     bench.«open» ≡ true →
     (bench.counts ≡ tallied before (map line_answer (whole_lines text))) × (take bench.waiting buffer ≡ take 17 (rest_of text))
+
+-- What a turn does that goes on: the input loses a piece, and the lines that the piece makes whole, behind what waited, are answered,
+-- counted and printed.
+pub record Turns (input output input' output' : Option (List ℕ)) (waiting : List ℕ) (before : Tally) (bench : Bench) (buffer : List ℕ)
+    : Type 0 where
+  pub piece : List ℕ
+  pub lost : Consumes input input' piece
+  pub said : Appends output output' (printed (map line_answer (whole_lines (waiting ++ piece))))
+  pub counted : bench.counts ≡ tallied before (map line_answer (whole_lines (waiting ++ piece)))
+  pub kept : take bench.waiting buffer ≡ take 17 (rest_of (waiting ++ piece))
+
+-- the answer of a last line, where bytes wait: it is answered as if a line feed ended it
+abbrev pub waiting_answers : List ℕ → List ℕ
+waiting_answers [] = []
+waiting_answers (b ∷ line) = map line_answer (whole_lines ((b ∷ line) ++ (10 ∷ [])))

@@ -70,7 +70,7 @@ take_plain (suc n) (x ∷ s) e =
     let rest = and_right (in_line x) (all in_line s) e in
     and_both (in_line x) (all in_line (take n s)) here (take_plain n s rest)
 
-rest_run : (line run : List ℕ) → all in_line run ≡ true → rest_from line run ≡ line ++ run
+pub rest_run : (line run : List ℕ) → all in_line run ≡ true → rest_from line run ≡ line ++ run
 rest_run line [] e = sym (append-nil line)
 rest_run line (x ∷ run) e =
     let n : eqb x 10 ≡ false = not-true (eqb x 10) (and_left (in_line x) (all in_line run) e) in
@@ -196,10 +196,10 @@ rest_alike x y (c ∷ b) e = go (eqb c 10) (rest_alike (x ++ (c ∷ [])) (y ++ (
 
 -- one piece behind what was kept of another
 module _ (a b : List ℕ) where
-  plain : all in_line (take 17 (rest_of a)) ≡ true
+  pub plain : all in_line (take 17 (rest_of a)) ≡ true
   plain = take_plain 17 (rest_of a) (rest_plain [] a refl)
 
-  pieces_answered :
+  pub pieces_answered :
       map line_answer (whole_lines a) ++ map line_answer (whole_lines (take 17 (rest_of a) ++ b)) ≡ map line_answer (whole_lines (a ++ b))
   pieces_answered =
       ap (λ l. map line_answer (whole_lines a) ++ l)
@@ -208,13 +208,13 @@ module _ (a b : List ℕ) where
       ∙ sym (map_both (whole_lines a) (lines_from (rest_of a) b))
       ∙ ap (λ l. map line_answer l) (sym (lines_both [] a b))
 
-  pieces_kept : take 17 (rest_of (take 17 (rest_of a) ++ b)) ≡ take 17 (rest_of (a ++ b))
+  pub pieces_kept : take 17 (rest_of (take 17 (rest_of a) ++ b)) ≡ take 17 (rest_of (a ++ b))
   pieces_kept =
       ap (λ l. take 17 l) (rest_both [] (take 17 (rest_of a)) b ∙ ap (λ l. rest_from l b) (rest_run [] (take 17 (rest_of a)) plain))
       ∙ rest_alike (take 17 (rest_of a)) (rest_of a) b (take-take 17 17 (rest_of a) (omega arith))
       ∙ ap (λ l. take 17 l) (sym (rest_both [] a b))
 
-last_cut : (line : List ℕ) → last_answer (take 17 line) ≡ last_answer line
+pub last_cut : (line : List ℕ) → last_answer (take 17 line) ≡ last_answer line
 last_cut [] = refl
 last_cut (b ∷ line) = ap (λ a. a ∷ []) (seventeen_do (b ∷ line))
 

@@ -14,7 +14,7 @@ module _ (answer : ℕ) (before after : List ℕ) (fill : ℕ) where
       (fill + 3 ≡ fill + length (printed_one answer)) × (fill + 3 ≤ fill + 3) × (after ≡ placed before fill (printed_one answer))
   two_digits h e = (rw (le-ltb answer 10 h), omega arith, rw (le-ltb answer 10 h) e)
 
-printed_both : (a b : List ℕ) → printed (a ++ b) ≡ printed a ++ printed b
+pub printed_both : (a b : List ℕ) → printed (a ++ b) ≡ printed a ++ printed b
 printed_both [] b = refl
 printed_both (x ∷ a) b = ap (λ l. printed_one x ++ l) (printed_both a b) ∙ sym (append_assoc (printed_one x) (printed a) (printed b))
 

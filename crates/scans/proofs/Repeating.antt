@@ -54,11 +54,11 @@ module _ {text : List ℕ} {before : Tally} {at : ℕ} {counts : Tally} (s : Goi
     unfolding answered_of
     lines_due = ap (λ (a : Answered). a.lines) e.0
 
-    bytes_due : answered.next ≡ bytes_of due
+    pub bytes_due : answered.next ≡ bytes_of due
     unfolding answered_of
     bytes_due = ap (λ (a : Answered). a.next) e.0
 
-    front : take answered.lines after ≡ map line_answer due
+    pub front : take answered.lines after ≡ map line_answer due
     front =
         ap (λ l. take answered.lines l) e.1
         ∙ take_at (map line_answer due) (drop (0 + length (map line_answer due)) answers) answered.lines (map_long due ∙ sym lines_due)

@@ -20,13 +20,18 @@ slice_range-put_mid a k n xs ys within fits =
     ∙ ap (λ m. take m (ys ++ after)) same
     ∙ take-append-le n ys after fits
 
+-- n bytes of the part stand behind the front
+pub filled_on : (there k n : ℕ) (buffer part : List ℕ) → there ≤ length buffer → n ≤ length part
+    → take there buffer ++ take n part ≡ take (there + n) (put_mid there k buffer part)
+filled_on there k n buffer part within fits =
+    ap (λ l. take there buffer ++ l) (sym (slice_range-put_mid there k n buffer part within fits))
+    ∙ take_split there (there + n) buffer (put_mid there k buffer part) (omega arith)
+    (take-put_mid_below _ _ _ _ _ (le_refl _) within)
+
 -- a reader loses n bytes to the part, behind those that it lost to the front
 pub consumes_on : (before between after : Option (List ℕ)) (there k n : ℕ) (buffer part : List ℕ) → there ≤ length buffer → n ≤ length part
     → Consumes before between (take there buffer) → Consumes between after (take n part)
     → Consumes before after (take (there + n) (put_mid there k buffer part))
 consumes_on before between after there k n buffer part within fits front more =
-    let at = slice_range-put_mid there k n buffer part within fits in
-    let joined = take_split there (there + n) buffer (put_mid there k buffer part) (omega arith)
-    (take-put_mid_below _ _ _ _ _ (le_refl _) within) in
-    subst (Consumes before after) (ap (λ l. take there buffer ++ l) (sym at) ∙ joined)
+    subst (Consumes before after) (filled_on there k n buffer part within fits)
     (Consumes-trans before between after (take there buffer) (take n part) front more)

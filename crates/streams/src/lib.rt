@@ -5,13 +5,15 @@ mod number;
 
 ghost use Rattle.std.specs.Prelude.{◌≡◌, ◌≢◌, ◌↔◌, ◌+◌, ◌<◌, ◌≤◌, IsTrue, min, length};
 ghost use Rattle.std.specs.Fmt.{decimal};
+ghost use Rattle.std.specs.Io.KnownBytes.{Appends};
 ghost use Rattle.std.specs.IoError.{error_kind};
 ghost use Rattle.streams.specs.Counts.{IsPrefixLen};
 ghost use Rattle.streams.specs.Lines.{Adds};
 ghost use Rattle.streams.specs.Reads.{Held, HeldPiece, Took, TookPiece, meaning_of};
 
 use number::put_decimal;
-use std::io::{Eprint, Error, ErrorKind, Print, Read};
+use std::io;
+use std::io::{Eprint, Error, ErrorKind, Print, Read, Write};
 
 // How many bytes of the buffer are the input: all of it, or as much as the buffer takes.
 #[derive(Clone, Copy)]
@@ -113,13 +115,15 @@ fn meaning(nothing: bool, failed: bool, interrupted: bool) -> Reading
 }
 
 // Writes to standard output, and says on standard error where that failed.
-pub fn say<P: Print + Eprint>(rt: &P, text: &[u8]) {
-    write_out(rt, text);
+pub fn say<R: Print + Eprint>(rt: &R, text: &[u8]) {
+    write_out(rt, &mut io::writer(rt), text);
 }
 
-// The same, for who has to stop where it failed: whether all of it was written.
-pub fn write_out<P: Print + Eprint>(rt: &P, text: &[u8]) -> bool {
-    match rt.write_all(text) {
+// The same, for who has to stop where it failed, and to any output: whether all of it was written.
+pub fn write_out<R: Eprint, W: Write>(rt: &R, output: &mut W, text: &[u8]) -> bool
+    ensures { IsTrue result → Appends (W.contents output.old) (W.contents output.new) text.now }
+{
+    match output.write_all(text) {
         Ok(()) => true,
         Err(error) => {
             fail(rt, "standard output", error);
@@ -129,12 +133,12 @@ pub fn write_out<P: Print + Eprint>(rt: &P, text: &[u8]) -> bool {
 }
 
 // Says on standard error what failed, and why.
-pub fn fail<P: Eprint>(rt: &P, what: &str, error: Error) {
+pub fn fail<R: Eprint>(rt: &R, what: &str, error: Error) {
     let _ = rt.eprintln(format_args!("{what}: {error}"));
 }
 
 // Says a number's decimal digits.
-pub fn say_decimal<P: Print + Eprint>(rt: &P, n: u64) {
+pub fn say_decimal<R: Print + Eprint>(rt: &R, n: u64) {
     let mut digits = [0u8; 20];
     let count = put_decimal(n, &mut digits);
     say(rt, &digits[..count]);
