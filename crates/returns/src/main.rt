@@ -243,3 +243,53 @@ fn add_count(line: &mut [u8], fill: usize, count: u64) -> usize
     let space = streams::add(line, fill, b" ");
     streams::add_decimal(line, space, count)
 }
+
+#[cfg(test)]
+mod tests {
+    use super::*;
+    use std::io::{Error, ErrorKind, Result};
+    use std::test::Fail;
+
+    // Takes so many writes, and fails then.
+    #[derive(Drop)]
+    struct Failing {
+        writes: u8,
+    }
+
+    impl Write for Failing {
+        fn write(&mut self, buf: &[u8]) -> Result<usize> {
+            if self.writes == 0 {
+                return Err(Error::from(ErrorKind::Other));
+            }
+            self.writes -= 1;
+            Ok(buf.len())
+        }
+
+        fn flush(&mut self) -> Result<()> {
+            Ok(())
+        }
+    }
+
+    #[test]
+    fn an_input_in_memory(rt: HostRuntime) -> std::result::Result<(), Fail> {
+        let mut input: &[u8] = b"09980000020041F\r\n0998\n0998";
+        let mut output = Vec::new(rt.alloc());
+        assert!(rt; answer_input(&rt, &mut input, &mut output));
+        assert_eq!(rt;
+            output.as_slice(),
+            b"0\n16\n16\ncounts 3 1 2 0 0\n".as_slice()
+        );
+        Ok(())
+    }
+
+    #[test]
+    fn a_failed_write_is_no_end(rt: HostRuntime) -> std::result::Result<(), Fail> {
+        let mut first: &[u8] = b"0998\n0998";
+        assert!(rt; !answer_input(&rt, &mut first, &mut Failing { writes: 0 }));
+        let mut last: &[u8] = b"0998\n0998";
+        assert!(rt; !answer_input(&rt, &mut last, &mut Failing { writes: 2 }));
+        let mut all: &[u8] = b"0998\n0998";
+        assert!(rt; answer_input(&rt, &mut all, &mut Failing { writes: 3 }));
+        Ok(())
+    }
+}

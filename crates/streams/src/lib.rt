@@ -178,3 +178,89 @@ fn filled(room: usize, fill: usize, more: usize) -> usize
     }
     fill + more
 }
+
+#[cfg(test)]
+mod tests {
+    use super::*;
+    use std::test::Fail;
+
+    // Gives a byte a read, `a` and so on, but for the reads with these two numbers: a signal interrupts the one, and the other fails.
+    #[derive(Drop)]
+    struct Reads {
+        turn: u8,
+        interrupted: u8,
+        failing: u8,
+    }
+
+    impl Read for Reads {
+        fn read(&mut self, buf: &mut [u8]) -> io::Result<usize> {
+            let turn = self.turn;
+            self.turn = turn.wrapping_add(1);
+            if turn == self.interrupted {
+                return Err(Error::from(ErrorKind::Interrupted));
+            }
+            if turn == self.failing {
+                return Err(Error::from(ErrorKind::Other));
+            }
+            if turn > 5 || buf.is_empty() {
+                return Ok(0);
+            }
+            buf[0] = b'a' + turn;
+            Ok(1)
+        }
+    }
+
+    fn whole(input: Input) -> Option<usize> {
+        match input {
+            Input::Whole(n) => Some(n),
+            Input::Failed(_) => None,
+        }
+    }
+
+    #[test]
+    fn an_interrupted_read_is_made_again(rt: HostRuntime) -> Result<(), Fail> {
+        let mut reads = Reads {
+            turn: 0,
+            interrupted: 2,
+            failing: 99,
+        };
+        let mut buffer = [0u8; 8];
+        assert_eq!(rt; whole(read_input(&mut reads, &mut buffer)), Some(5));
+        assert_eq!(rt; buffer.as_slice(), b"abdef\0\0\0".as_slice());
+        Ok(())
+    }
+
+    #[test]
+    fn a_failed_read_is_no_end(rt: HostRuntime) -> Result<(), Fail> {
+        let mut reads = Reads {
+            turn: 0,
+            interrupted: 1,
+            failing: 3,
+        };
+        let mut buffer = [0u8; 8];
+        assert_eq!(rt; whole(read_input(&mut reads, &mut buffer)), None);
+        Ok(())
+    }
+
+    #[test]
+    fn a_full_buffer_ends_the_reading(rt: HostRuntime) -> Result<(), Fail> {
+        let mut input: &[u8] = b"twelve bytes";
+        let mut buffer = [0u8; 6];
+        assert_eq!(rt; whole(read_input(&mut input, &mut buffer)), Some(6));
+        assert_eq!(rt; buffer.as_slice(), b"twelve".as_slice());
+        assert_eq!(rt; input, b" bytes".as_slice());
+        Ok(())
+    }
+
+    #[test]
+    fn a_line_is_put_together(rt: HostRuntime) -> Result<(), Fail> {
+        let mut line = [b'.'; 8];
+        let end = add(&mut line, 0, b"no ");
+        let number = add_decimal(&mut line, end, 18446744073709551615);
+        assert_eq!(rt; number, 3);
+        let fits = add_decimal(&mut line, end, 4096);
+        assert_eq!(rt; fits, 7);
+        assert_eq!(rt; line.as_slice(), b"no 4096.".as_slice());
+        Ok(())
+    }
+}
