@@ -1,7 +1,7 @@
 #!/usr/bin/env python3
-"""Holds each wrong program of crates/*/must-fail against its crate as it stands, so that one whose text a change took away is told at once,
-and not by `rt ci` behind all proofs: python3 tests/edits.py. Whether it compiles only the prover says: `rt ci` calls one that does not a BAD
-EDIT, and ./test fails there."""
+"""Holds each wrong program of crates/*/must-fail against its crate as it stands, so that one whose text a change took away is told at
+once, and not by `rt ci` behind all proofs: python3 tests/edits.py. Whether it compiles only the prover says: `rt ci` calls one that does not
+a BAD EDIT, and ./test fails there."""
 import pathlib
 import re
 import sys
