@@ -3,28 +3,41 @@
 // of countries that it lends is empty: no sender needs contacts.
 #![tactic(auto)]
 
-ghost use Rattle.std.specs.Prelude.{◌≡◌, take};
+ghost use Rattle.std.specs.Prelude.{◌≡◌, take, IsTrue, IfSome};
+ghost use Rattle.std.specs.Io.KnownBytes.{Appends};
 ghost use Rattle.streams.specs.Counts.{IsPrefixLen};
 ghost use Rattle.dispatch.specs.Answer.{answer_to, ok_line, no_line};
 
 use file::{FileAnswer, Totals};
 use refusal::Refusal;
-use std::io::{Eprint, Print};
+use std::io::{Eprint, Read, Write};
 use streams::Input;
 
 fn main(rt: HostRuntime) {
+    judge_input(&rt, &mut rt.stdin(), &mut rt.stdout());
+}
+
+// Reads a file, and prints the answer to it: whether neither failed.
+fn judge_input<R: Eprint, I: Read, W: Write>(rt: &R, input: &mut I, output: &mut W) -> bool
+    ensures { IsTrue result → IfSome (I.remaining input.old)
+        (λ file. Appends (W.contents output.old) (W.contents output.new) (answer_to file)) }
+{
     let mut buffer = [0u8; 65536];
-    let input = streams::read_input(&mut rt.stdin(), &mut buffer);
-    match input {
-        Input::Whole(n) => judge(&rt, &buffer[..n]),
-        Input::Failed(error) => streams::fail(&rt, "standard input", error),
+    match streams::read_input(input, &mut buffer) {
+        Input::Whole(n) => judge(rt, output, &buffer[..n]),
+        Input::Failed(error) => {
+            streams::fail(rt, "standard input", error);
+            false
+        }
     }
 }
 
-fn judge<R: Print + Eprint>(rt: &R, s: &[u8]) {
+fn judge<R: Eprint, W: Write>(rt: &R, output: &mut W, s: &[u8]) -> bool
+    ensures { IsTrue result → Appends (W.contents output.old) (W.contents output.new) (answer_to s.now) }
+{
     let mut line = [0u8; 72];
     let end = answer(s, &mut line);
-    streams::say(rt, &line[..end]);
+    streams::write_out(rt, output, &line[..end])
 }
 
 // Puts the answer at the line's front; answers how long it is.
@@ -63,4 +76,20 @@ fn say_no(refusal: Refusal, line: &mut [u8; 72]) -> usize
     let space = streams::add(line, number, b" ");
     let place = streams::add_decimal(line, space, refusal.place as u64);
     streams::add(line, place, b"\n")
+}
+
+#[cfg(test)]
+mod tests {
+    use super::*;
+    use std::test::Fail;
+
+    #[test]
+    fn a_file_that_is_too_long(rt: HostRuntime) -> Result<(), Fail> {
+        let file = [b'0'; 70000];
+        let mut input: &[u8] = &file;
+        let mut output = Vec::new(rt.alloc());
+        assert!(rt; judge_input(&rt, &mut input, &mut output));
+        assert_eq!(rt; output.as_slice(), b"no 1 65535\n".as_slice());
+        Ok(())
+    }
 }
