@@ -1,17 +1,12 @@
 -- The line that answers a file.
 use Rattle.std.specs.Prelude.{ℕ, List, [], ◌∷◌, ◌++◌, codes}
-use Rattle.std.specs.Fmt.{decimal}
+use Rattle.streams.specs.Lines.{numbers}
 use Rattle.refusal.specs.Table.{number_of}
 use Rattle.refusal.specs.declared.Refusal.{Refusal}
 use Rattle.file.specs.declared.whole.Totals.{Totals}
 use Rattle.file.specs.declared.whole.FileAnswer.{FileAnswer}
 use Rattle.file.specs.File.{judged}
 use Rattle.file.specs.Lent.{Lent}
-
--- numbers, each behind a space, and the line feed
-abbrev pub numbers : List ℕ → List ℕ
-numbers [] = 10 ∷ []
-numbers (n ∷ rest) = codes " " ++ decimal n ++ numbers rest
 
 -- `ok LINES PARCELS CENTS`
 abbrev pub ok_line : Totals → List ℕ

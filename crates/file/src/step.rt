@@ -39,15 +39,15 @@ pub fn one_line(
     codes: &mut [u32],
     state: State,
 ) -> Step
-    requires at_le_file_limit { (state.at ≤ file_limit) × (state.lines ≤ state.at) × (state.lines ≤ length list.old) × (state.parcels ≤ state.lines)
+    requires within { (state.at ≤ file_limit) × (state.lines ≤ state.at) × (state.lines ≤ length list.old) × (state.parcels ≤ state.lines)
         × (state.cents ≤ 99999999 * state.lines) }
     requires sown { Sown file.now (listed_so_far state.lines list.old) state.parcels codes.old × (state.parcels ≤ parcels_most)
         × (tree_words ≤ length codes.old) }
     ensures value { result ≡ step_answer file.now (record { countries = countries.now; words = length list.old })
         (listed_so_far state.lines list.old) state }
-    ensures sown_2 { (next : State) → result ≡ Next next →
+    ensures sown_after { (next : State) → result ≡ Next next →
         Sown file.now (listed_so_far state.lines list.old ++ (state.at ∷ [])) next.parcels codes.new }
-    ensures list_after { (next : State) → result ≡ Next next → list.new ≡ set list.old state.lines state.at }
+    ensures listed { (next : State) → result ≡ Next next → list.new ≡ set list.old state.lines state.at }
 {
     let offset = state.at;
     let version = state.version;
@@ -71,14 +71,14 @@ pub fn one_line(
 
 // Lists an accepted line, unless it repeats an identcode or the list has no word for it.
 fn list_line(file: &[u8], list: &mut [u32], codes: &mut [u32], state: State, line: Line) -> Step
-    requires at_value { (line_answer (told_by state) file.now state.at ≡ Accepted line) × (state.at ≤ file_limit) × (state.lines ≤ state.at)
+    requires accepted { (line_answer (told_by state) file.now state.at ≡ Accepted line) × (state.at ≤ file_limit) × (state.lines ≤ state.at)
         × (state.lines ≤ length list.old) × (state.parcels ≤ state.lines) × (state.cents ≤ 99999999 * state.lines) }
     requires sown { Sown file.now (listed_so_far state.lines list.old) state.parcels codes.old × (state.parcels ≤ parcels_most)
         × (tree_words ≤ length codes.old) }
     ensures value { result ≡ listing file.now (length list.old) (listed_so_far state.lines list.old) state line }
-    ensures sown_2 { (next : State) → result ≡ Next next →
+    ensures sown_after { (next : State) → result ≡ Next next →
         Sown file.now (listed_so_far state.lines list.old ++ (state.at ∷ [])) next.parcels codes.new }
-    ensures list_after { (next : State) → result ≡ Next next → list.new ≡ set list.old state.lines state.at }
+    ensures listed { (next : State) → result ≡ Next next → list.new ≡ set list.old state.lines state.at }
 {
     let offset = state.at;
     let lines = state.lines;

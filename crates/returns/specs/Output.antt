@@ -1,15 +1,10 @@
 -- What the returns bench prints.
 use Rattle.std.specs.Prelude.{ℕ, List, [], ◌∷◌, ◌++◌, codes}
-use Rattle.std.specs.Fmt.{decimal}
+use Rattle.streams.specs.Lines.{numbers}
 use Rattle.scans.specs.Scans.{printed}
 use Rattle.scans.specs.Pieces.{input_answers}
 use Rattle.scans.specs.Tallying.{tallied, no_line}
 use Rattle.scans.specs.declared.tally.Tally.{Tally}
-
--- numbers, each behind a space, and the line feed
-abbrev pub numbers : List ℕ → List ℕ
-numbers [] = 10 ∷ []
-numbers (n ∷ rest) = 32 ∷ (decimal n ++ numbers rest)
 
 -- `counts LINES PASSED LENGTH SYMBOL CHECK`
 abbrev pub counts_line : Tally → List ℕ

@@ -1,9 +1,10 @@
--- What a line has, behind a run that was added.
-use Rattle.std.proofs.Common.{◌≡◌, ℕ, ◌+◌, ◌<◌, ◌≤◌, min, List, ◌++◌, length, take, drop, ap, ◌∙◌, arith, length-append, length-take-le}
+-- What a line has, behind a run that was added; two outcomes are equal.
+use Rattle.std.proofs.Common.{◌≡◌, ℕ, ◌+◌, ◌<◌, ◌≤◌, min, List, ◌++◌, length, take, drop, ap, sym, ◌∙◌, ⊎_elim, arith, length-append, length-take-le}
 use Rattle.std.proofs.lemmas.List.{take_at}
 use borrow.Author.Tests.{lt-leb}
 use Rattle.text.specs.Placed.{placed}
 use Rattle.text.proofs.Placing.{placed_there}
+use Rattle.text.proofs.Numbers.{le_or_lt}
 use Rattle.streams.specs.Lines.{Adds}
 
 module _ (line : List ℕ) (fill : ℕ) (run : List ℕ) where
@@ -26,3 +27,12 @@ module _ (line : List ℕ) (fill : ℕ) (run : List ℕ) where
     whole = λ h. (whole h, ap (λ n. take n after) (whole h) ∙ ap (λ l. take (fill + length run) l) there ∙ front h);
     none = λ h. (none h, there ∙ full h);
   }
+
+  pub adds_unique : (m n : ℕ) (after other : List ℕ) → Adds line fill run m after → Adds line fill run n other → (m ≡ n) × (after ≡ other)
+  adds_unique m n after other a b = (⊎_elim fits full_up (le_or_lt (fill + length run) (length line)), a.there ∙ sym b.there)
+    where
+      fits : fill + length run ≤ length line → m ≡ n
+      fits h = (a.whole h).0 ∙ sym (b.whole h).0
+
+      full_up : length line < fill + length run → m ≡ n
+      full_up h = (a.none h).0 ∙ sym (b.none h).0

@@ -1,12 +1,9 @@
 -- The digits that are written are those that std writes for a number.
 use Rattle.std.proofs.Common.{◌≡◌, ℕ, zero, suc, ◌+◌, ◌-◌, ◌*◌, ◌/◌, ◌%◌, ◌^◌, ◌<◌, ◌≤◌, List, [], ◌∷◌, ◌++◌, false, sym, ◌∙◌, arith, append_assoc, append-nil}
 use Rattle.std.proofs.lemmas.Bool.Decides.{nat_tests}
-use Rattle.std.specs.Fmt.{digit_glyph, digits, digits_onto, decimal}
+use Rattle.std.specs.Fmt.{digits, digits_onto, decimal}
 use Rattle.std.proofs.Math.Nat.{pow-suc, pow-le-pow_right, le-div_iff_mul-le, div-lt_iff_lt-mul}
 use Rattle.streams.specs.Digits.{last_digits, IsDigitCount}
-
-glyph : (n : ℕ) → digit_glyph false (n % 10) ≡ 48 + n % 10
-glyph n = grind (arith, nat_tests)
 
 one_digit : (n m : ℕ) (acc : List ℕ) → n < 10 → digits_onto (suc m) 10 false n acc ≡ (48 + n % 10) ∷ acc
 one_digit n m acc h = grind (arith, nat_tests)

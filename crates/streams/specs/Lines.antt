@@ -1,5 +1,6 @@
 -- A line that is put together run by run, and then written at once.
-use Rattle.std.specs.Prelude.{◌≡◌, ℕ, ◌+◌, ◌<◌, ◌≤◌, min, List, ◌++◌, length, take}
+use Rattle.std.specs.Prelude.{◌≡◌, ℕ, ◌+◌, ◌<◌, ◌≤◌, min, List, [], ◌∷◌, ◌++◌, length, take, codes}
+use Rattle.std.specs.Fmt.{decimal}
 use Rattle.text.specs.Placed.{placed}
 
 -- A run stands behind the bytes that a line has, where the line has room for it, and so many bytes it then has; where it has no room, it
@@ -8,3 +9,8 @@ pub record Adds (line : List ℕ) (fill : ℕ) (run : List ℕ) (count : ℕ) (a
   pub there : after ≡ placed line fill run
   pub whole : fill + length run ≤ length line → (count ≡ fill + length run) × (take count after ≡ take fill line ++ run)
   pub none : length line < fill + length run → (count ≡ min fill (length line)) × (after ≡ line)
+
+-- numbers, each behind a space, and the line feed
+abbrev pub numbers : List ℕ → List ℕ
+numbers [] = 10 ∷ []
+numbers (n ∷ rest) = codes " " ++ decimal n ++ numbers rest

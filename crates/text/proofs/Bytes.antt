@@ -51,22 +51,6 @@ module _ (b : ℕ) where
   pub text_upper : 126 < b → b ≤ 255 → leb 160 b ≡ text_byte b
   text_upper l h = simp (lt-leb b 126, le-leb b 255, and-false, and-true)
 
-  pub purpose_small : (t : Bool) → t ≡ small b → t ≡ true → true ≡ purpose_byte b
-  purpose_small t e q = let g : small b ≡ true = sym e ∙ q in simp g
-
-  pub purpose_symbol : (t u : Bool) → t ≡ small b → t ≡ false → u ≡ symbol b → u ≡ true → true ≡ purpose_byte b
-  purpose_symbol t u e q d r =
-      let g : small b ≡ false = sym e ∙ q in
-      let k : symbol b ≡ true = sym d ∙ r in
-      simp (g, k)
-
-  pub purpose_mark : (t u v : Bool) → t ≡ small b → t ≡ false → u ≡ symbol b → u ≡ false → v ≡ among b (bytes ".,:'+-/()? ") →
-      v ≡ purpose_byte b
-  purpose_mark t u v e q d r m =
-      let g : small b ≡ false = sym e ∙ q in
-      let k : symbol b ≡ false = sym d ∙ r in
-      simp (g, k) m
-
   -- an arm of the match is a case of the class
   pub class_arm : (class case : Class) (t : Bool) → class ≡ case → t ≡ in_class case b → t ≡ in_class class b
   class_arm class case t e f = rw e f
