@@ -1,5 +1,5 @@
 -- Identcodes: what the judge compares are the first fields of the parcel lines.
-use Prim.Native.Nat.{ℕ, ◌+◌}
+use Prim.Native.Nat.{ℕ}
 use mathlib.Core.Path.{◌≡◌, refl, sym, ap, ◌∙◌}
 use mathlib.Core.Bool.{Bool, false, ◌||◌, or_assoc, or-false, false≢true}
 use mathlib.Core.List.{List, [], ◌∷◌, ◌++◌}

@@ -25,7 +25,8 @@ use Rattle.allowed.specs.Allowed.{FileLine, AllowedFile, line_starts, totals_of}
 use Rattle.allowed.proofs.Files.{allowed_accepted, starts_count}
 use Rattle.purpose.specs.At.{is_typed}
 use Rattle.purpose.specs.Source.{shipment_above, first_parcel, from_shipment, in_shipment, for_feature, source_of}
-use Rattle.purpose.specs.Purpose.{purpose_long, cut, source_text, text_from, on_source, on_file, purpose_answer, purpose_of, list_after, output_after, Purposes}
+use Rattle.purpose.specs.Purpose.{purpose_long, cut, source_text, text_from, on_source, on_file, purpose_answer, purpose_of, list_after}
+use Rattle.purpose.specs.Purpose.{output_after, Purposes}
 use Rattle.allowed.specs.Sentence.{LineNo, CashLine, Belongs, first_filled, named_text}
 use Rattle.purpose.specs.declared.source.Source.{Source}
 use Rattle.purpose.specs.declared.source.Source.TheVariants.{Field, Joined}

@@ -7,7 +7,6 @@ use mathlib.Core.Logic.{⊎_elim}
 use native.Mathlib.Omega.{arith}
 use lib.ListN.{length, drop, get_or}
 use lib.Seq.{drop-drop, drop-append_seam}
-use Rattle.text.specs.Quoted.{bytes}
 use Rattle.text.specs.Scan.{same}
 use Rattle.text.proofs.Choices.{true_or_false}
 use Rattle.text.proofs.Scans.{same_eq, same_refl}

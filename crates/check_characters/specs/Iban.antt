@@ -2,7 +2,8 @@
 --
 -- AT611904300234573201 stands for 1904300234573201102961: the account, then `A` as 10, `T` as 29, and 61. Its remainder by 97 is 1, and
 -- it passes. AT161904300234573201 stands for 1904300234573201102916, which leaves 53: it is refused by 18 at 2 (`example_iban`).
-use Rattle.std.specs.Prelude.{ℕ, ◌+◌, ◌*◌, ◌/◌, ◌%◌, Bool, not, ◌&&◌, ◌||◌, List, [], ◌∷◌, ◌++◌, eqb, ltb, leb, length, get_or, take, drop, if◌then◌else◌}
+use Rattle.std.specs.Prelude.{ℕ, ◌+◌, ◌*◌, ◌/◌, ◌%◌, Bool, not, ◌&&◌, ◌||◌, List, [], ◌∷◌, ◌++◌, eqb, ltb, leb, length, get_or, take, drop}
+use Rattle.std.specs.Prelude.{if◌then◌else◌}
 use Rattle.text.specs.Byte.{digit, capital, symbol}
 use Rattle.text.specs.Decimal.{number_from}
 use Rattle.text.specs.Scan.{first_failing}

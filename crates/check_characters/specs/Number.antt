@@ -8,7 +8,7 @@
 -- The carry of all but the check is 31 (`example_label`), and 31 + 6 leaves 1 modulo 36: it passes. With the check 7 it is refused by
 -- 18 at 27, with a small letter by 17 at that letter, and without its check by 16 at 0. src/number.rt has the carries of a tracking
 -- number, symbol by symbol (`example_tracking`).
-use Rattle.std.specs.Prelude.{ℕ, ◌+◌, ◌-◌, ◌≡◌, Bool, false, List, [], ◌∷◌, ◌++◌, eqb, ltb, length, get_or, replicate, if◌then◌else◌}
+use Rattle.std.specs.Prelude.{ℕ, ◌-◌, ◌≡◌, Bool, false, List, [], ◌∷◌, ◌++◌, eqb, ltb, length, get_or, replicate, if◌then◌else◌}
 use Rattle.text.specs.Byte.{digit, symbol}
 use Rattle.text.specs.Scan.{first_failing}
 use Rattle.refusal.specs.declared.Reason.TheVariants.{WrongLength, WrongSymbol, WrongCheck}

@@ -35,7 +35,8 @@ use Rattle.line.specs.Line.{line_answer, alone, read_answer}
 use Rattle.line.specs.Find.{field_answer, find_answer}
 use Rattle.fields.proofs.Rules.{sound}
 use Rattle.records.proofs.Versions.{under_is, under_passes}
-use Rattle.writer.specs.Write.{record_numbered, rises_to, ends_hold, fields_from, between, tested_to_write, next_number, walked, of_fields, after_walk, write_verdict}
+use Rattle.writer.specs.Write.{record_numbered, rises_to, ends_hold, fields_from, between, tested_to_write, next_number, walked, of_fields}
+use Rattle.writer.specs.Write.{after_walk, write_verdict}
 use Rattle.writer.specs.Write.{of_record, answer_under, write_answer, written_to, Writes}
 use Rattle.writer.specs.declared.write.WriteAnswer.{WriteAnswer}
 use Rattle.writer.specs.declared.write.WriteAnswer.TheVariants.{Written, Refused}

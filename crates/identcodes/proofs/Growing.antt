@@ -1,5 +1,5 @@
 -- A tree grown by the code of one parcel line: it has that code more than before, and no other.
-use Prim.Native.Nat.{ℕ, ◌+◌, ◌-◌, ◌<◌, ◌≤◌}
+use Prim.Native.Nat.{ℕ, ◌+◌, ◌<◌, ◌≤◌}
 use mathlib.Core.Path.{◌≡◌, refl, sym, ap, ◌∙◌}
 use mathlib.Core.Bool.{Bool, true, false, ◌||◌, or-false, or_comm}
 use mathlib.Core.Logic.{⊎_elim}

@@ -4,7 +4,8 @@
 --
 -- Of the three parcel lines below, which start at the offsets 0, 30 and 60, the row is 338755585 3276803 30 0 60 (`example_grows`):
 -- word 0 asks digit 20 for `1` and has the pair 1 and 2, word 1 asks digit 0 for `2` and has the pair 3 and 4.
-use Rattle.std.specs.Prelude.{ℕ, zero, suc, ◌+◌, ◌*◌, ◌-◌, ◌/◌, ◌%◌, ◌≡◌, Bool, false, ◌&&◌, List, leb, ltb, eqb, length, take, drop, get_or, set, if◌then◌else◌}
+use Rattle.std.specs.Prelude.{ℕ, zero, suc, ◌+◌, ◌*◌, ◌-◌, ◌/◌, ◌%◌, ◌≡◌, Bool, false, ◌&&◌, List, leb, ltb, eqb, length, take, drop}
+use Rattle.std.specs.Prelude.{get_or, set, if◌then◌else◌}
 use Rattle.text.specs.Quoted.{bytes}
 use Rattle.identcodes.specs.declared.CodeAnswer.{CodeAnswer}
 use Rattle.identcodes.specs.declared.CodeAnswer.TheVariants.{Known, New, NoRoom}

@@ -1,5 +1,6 @@
 -- The lines of a text, laid out, checked as a day's numbers and overruled by their marks, have their answers.
-use Rattle.std.proofs.Common.{◌≡◌, ℕ, ◌+◌, ◌*◌, ◌%◌, ◌<◌, ◌≤◌, min, List, map, length, get_or, take, drop, sym, ap, ◌∙◌, zero-add, arith, length-append, take-append-drop, length-take-le, get_or-take, le-ltb, eq-eqb}
+use Rattle.std.proofs.Common.{◌≡◌, ℕ, ◌+◌, ◌*◌, ◌%◌, ◌<◌, ◌≤◌, min, List, map, length, get_or, take, drop, sym, ap, ◌∙◌, zero-add, arith}
+use Rattle.std.proofs.Common.{length-append, take-append-drop, length-take-le, get_or-take, le-ltb, eq-eqb}
 use lib.ListN.{get_or-append}
 use Rattle.text.specs.Placed.{written}
 use Rattle.text.specs.Tabled.{tabled}

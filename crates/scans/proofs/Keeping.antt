@@ -1,5 +1,6 @@
 -- What waits for the rest of its line, moved to the buffer's front.
-use Rattle.std.proofs.Common.{◌≡◌, ℕ, ◌+◌, ◌-◌, ◌<◌, ◌≤◌, min, List, length, take, drop, sym, refl, ap, ◌∙◌, ⊎_elim, arith, length-drop, length-take, take_all, take-take, take_at}
+use Rattle.std.proofs.Common.{◌≡◌, ℕ, ◌+◌, ◌-◌, ◌<◌, ◌≤◌, min, List, length, take, drop, sym, refl, ap, ◌∙◌, ⊎_elim, arith, length-drop}
+use Rattle.std.proofs.Common.{length-take, take_all, take-take, take_at}
 use Rattle.text.specs.Placed.{written, placed}
 use Rattle.text.proofs.Numbers.{le_or_lt}
 use Rattle.text.proofs.Placing.{placed_there}

@@ -1,5 +1,7 @@
 -- The loop that lays lines out: what it has found at a place of the text.
-use Rattle.std.proofs.Common.{◌≡◌, ℕ, suc, ◌+◌, ◌-◌, ◌*◌, ◌<◌, ◌≤◌, List, [], ◌∷◌, ◌++◌, map, length, get_or, take, drop, set, sym, refl, ap, ◌∙◌, zero-add, add-one, arith, length-drop, length-set, length-take, length-take-le, take_all, drop-cons, take-suc}
+use Rattle.std.proofs.Common.{◌≡◌, ℕ, suc, ◌+◌, ◌-◌, ◌*◌, ◌<◌, ◌≤◌, List, [], ◌∷◌, ◌++◌, map, length, get_or, take, drop, set, sym, refl}
+use Rattle.std.proofs.Common.{ap, ◌∙◌, zero-add, add-one, arith, length-drop, length-set, length-take, length-take-le, take_all, drop-cons}
+use Rattle.std.proofs.Common.{take-suc}
 use Rattle.text.specs.Scan.{line_feed}
 use Rattle.text.specs.Tabled.{tabled}
 use Rattle.scans.specs.Scans.{whole_lines, line_answer, bytes_of, answered_of}

@@ -1,5 +1,7 @@
 -- A text in pieces has the lines that it has as one.
-use Rattle.std.proofs.Common.{◌≡◌, ℕ, zero, suc, ◌+◌, ◌-◌, ◌<◌, ◌≤◌, Bool, true, false, eqb, List, [], ◌∷◌, ◌++◌, map, length, get_or, take, drop, sym, refl, ap, ◌∙◌, ⊎_elim, append_assoc, append-nil, arith, length-append, take-append-drop, length-take-le, get_or-drop, take_all, take-take, drop_at, ne_eqb, eqb-true}
+use Rattle.std.proofs.Common.{◌≡◌, ℕ, zero, suc, ◌+◌, ◌-◌, ◌<◌, ◌≤◌, Bool, true, false, eqb, List, [], ◌∷◌, ◌++◌, map, length, get_or}
+use Rattle.std.proofs.Common.{take, drop, sym, refl, ap, ◌∙◌, ⊎_elim, append_assoc, append-nil, arith, length-append, take-append-drop}
+use Rattle.std.proofs.Common.{length-take-le, get_or-drop, take_all, take-take, drop_at, ne_eqb, eqb-true}
 use lib.Seq.{append_snoc}
 use borrow.Author.Tests.{not-true}
 use Rattle.std.specs.Prelude.{if◌then◌else◌}

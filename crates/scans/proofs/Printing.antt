@@ -1,5 +1,6 @@
 -- Answers printed one behind the other.
-use Rattle.std.proofs.Common.{◌≡◌, ℕ, suc, ◌+◌, ◌*◌, ◌/◌, ◌%◌, ◌<◌, ◌≤◌, List, [], ◌∷◌, ◌++◌, length, get_or, take, sym, refl, ap, ◌∙◌, append_assoc, append-nil, zero-add, add-one, arith, length-append, take_all, take-suc, le-ltb, lt-ltb}
+use Rattle.std.proofs.Common.{◌≡◌, ℕ, suc, ◌+◌, ◌*◌, ◌/◌, ◌%◌, ◌<◌, ◌≤◌, List, [], ◌∷◌, ◌++◌, length, get_or, take, sym, refl, ap, ◌∙◌}
+use Rattle.std.proofs.Common.{append_assoc, append-nil, zero-add, add-one, arith, length-append, take_all, take-suc, le-ltb, lt-ltb}
 use Rattle.text.specs.Placed.{placed}
 use Rattle.text.proofs.Placing.{placed_on, placed_none, placed_long}
 use Rattle.scans.specs.Scans.{printed_one, printed, Prints}

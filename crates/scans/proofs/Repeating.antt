@@ -1,5 +1,6 @@
 -- A text answered call after call, up to so many lines at a time: it is answered whole once no line is left, and then its rest is kept.
-use Rattle.std.proofs.Common.{◌≡◌, ℕ, zero, suc, ◌+◌, ◌-◌, ◌<◌, ◌≤◌, List, [], ◌∷◌, ◌++◌, map, length, take, drop, sym, refl, ap, ◌∙◌, subst, append-nil, arith, length-drop, take-append-drop, drop_of_length-le, take_all, take_at, take-add}
+use Rattle.std.proofs.Common.{◌≡◌, ℕ, zero, suc, ◌+◌, ◌-◌, ◌<◌, ◌≤◌, List, [], ◌∷◌, ◌++◌, map, length, take, drop, sym, refl, ap, ◌∙◌}
+use Rattle.std.proofs.Common.{subst, append-nil, arith, length-drop, take-append-drop, drop_of_length-le, take_all, take_at, take-add}
 use lib.Seq.{take-nil}
 use Rattle.scans.specs.declared.Answered.{Answered}
 use Rattle.scans.specs.declared.tally.Tally.{Tally}

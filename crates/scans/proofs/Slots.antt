@@ -1,5 +1,7 @@
 -- Numbers 15 bytes after 15 bytes: one more is laid at its place, and those in front of it stay.
-use Rattle.std.proofs.Common.{◌≡◌, ℕ, ◌+◌, ◌*◌, ◌<◌, ◌≤◌, Bool, true, false, eqb, List, ◌++◌, length, take, drop, set, sym, refl, ap, ◌∙◌, append_assoc, arith, take-append-drop, length-take-le, get_or-set_other, get_or-set_same, take_at, drop_at, eqb-true}
+use Rattle.std.proofs.Common.{◌≡◌, ℕ, ◌+◌, ◌*◌, ◌<◌, ◌≤◌, Bool, true, false, eqb, List, ◌++◌, length, take, drop, set, sym, refl, ap, ◌∙◌}
+use Rattle.std.proofs.Common.{append_assoc, arith, take-append-drop, length-take-le, get_or-set_other, get_or-set_same, take_at, drop_at}
+use Rattle.std.proofs.Common.{eqb-true}
 use Rattle.std.specs.Prelude.{if◌then◌else◌}
 use Rattle.text.specs.Placed.{written, placed}
 use Rattle.text.proofs.Placing.{placed_there, placed_long}

@@ -1,5 +1,6 @@
 -- The lines of a text: the next one from a place on, where there is one, and a text taken in pieces.
-use Rattle.std.proofs.Common.{◌≡◌, ℕ, ◌+◌, ◌-◌, ◌<◌, ◌≤◌, true, false, eqb, List, [], ◌∷◌, ◌++◌, length, take, drop, sym, ap, ◌∙◌, append_assoc, append-nil, arith, length-append, length-drop, drop-drop, take_at, drop_at}
+use Rattle.std.proofs.Common.{◌≡◌, ℕ, ◌+◌, ◌-◌, ◌<◌, ◌≤◌, true, false, eqb, List, [], ◌∷◌, ◌++◌, length, take, drop, sym, ap, ◌∙◌}
+use Rattle.std.proofs.Common.{append_assoc, append-nil, arith, length-append, length-drop, drop-drop, take_at, drop_at}
 use lib.Seq.{append_snoc}
 use borrow.Author.Tests.{not-true, not-false}
 use Rattle.text.specs.Scan.{all, in_line, line_feed}

@@ -1,5 +1,6 @@
 -- The counts on their way over answers, and what they tell.
-use Rattle.std.proofs.Common.{◌≡◌, ℕ, ◌+◌, ◌%◌, ◌^◌, ◌<◌, ◌≤◌, Bool, true, false, eqb, List, [], ◌∷◌, ◌++◌, length, get_or, drop, sym, refl, ap, ◌∙◌, mod-eq_of_lt, add-one, arith, drop_of_length-le, drop-cons}
+use Rattle.std.proofs.Common.{◌≡◌, ℕ, ◌+◌, ◌%◌, ◌^◌, ◌<◌, ◌≤◌, Bool, true, false, eqb, List, [], ◌∷◌, ◌++◌, length, get_or, drop, sym}
+use Rattle.std.proofs.Common.{refl, ap, ◌∙◌, mod-eq_of_lt, add-one, arith, drop_of_length-le, drop-cons}
 use Rattle.std.specs.Prelude.{if◌then◌else◌}
 use Rattle.scans.specs.declared.tally.Tally.{Tally}
 use Rattle.scans.specs.Tallying.{one_more, with_answer, tallied, no_line, how_often}

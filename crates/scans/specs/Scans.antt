@@ -3,7 +3,8 @@
 --
 -- The text `09980000020041F CR LF 0998 LF 0998` has two whole lines. Their answers are 0 and 16; the four bytes behind the last line feed
 -- are no whole line yet (`example_scans`).
-use Rattle.std.specs.Prelude.{◌≡◌, ℕ, suc, ◌+◌, ◌-◌, ◌/◌, ◌%◌, ◌≤◌, min, ltb, List, [], ◌∷◌, ◌++◌, map, length, take, ◌==◌, nat_lt, slice_index, slice_range, if◌then◌else◌}
+use Rattle.std.specs.Prelude.{◌≡◌, ℕ, suc, ◌+◌, ◌-◌, ◌/◌, ◌%◌, ◌≤◌, min, ltb, List, [], ◌∷◌, ◌++◌, map, length, take, ◌==◌, nat_lt}
+use Rattle.std.specs.Prelude.{slice_index, slice_range, if◌then◌else◌}
 use Rattle.text.specs.Placed.{written, placed}
 use Rattle.text.specs.Quoted.{byte}
 use Rattle.refusal.specs.Table.{number_told}

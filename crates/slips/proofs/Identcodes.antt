@@ -20,7 +20,8 @@ use Rattle.text.proofs.Bytes.{digit_range}
 use Rattle.text.proofs.Runs.{all_append, all_apart}
 use Rattle.text.proofs.Scans.{all_at, all_of}
 use Rattle.check_characters.specs.Symbol.{value_of}
-use Rattle.check_digits.specs.Identcode.{allowed_in_identcode, wrong_in_identcode, weight_at, weighed_from, weighed, check_digit_of, passes, checked_identcode}
+use Rattle.check_digits.specs.Identcode.{allowed_in_identcode, wrong_in_identcode, weight_at, weighed_from, weighed, check_digit_of}
+use Rattle.check_digits.specs.Identcode.{passes, checked_identcode}
 use Rattle.check_characters.specs.declared.answer.CheckAnswer.TheVariants.{Accepted}
 use Rattle.check_characters.proofs.Symbols.{value_digit}
 use Rattle.check_digits.proofs.Identcodes.{weight_three, weight_one, weighed_append, passes_leaves, leaves_passes, accepted_whole}

@@ -5,10 +5,8 @@ use mathlib.Core.Bool.{Bool, true, false, and-true, and-false}
 use native.Mathlib.Omega.{arith}
 use lib.Dec.{leb}
 use borrow.Author.Tests.{le-leb, lt-leb, leb-true}
-use Rattle.text.specs.Byte.{digit, capital, small, symbol, text_byte, purpose_byte, in_class}
-use Rattle.text.specs.Quoted.{bytes}
+use Rattle.text.specs.Byte.{digit, capital, small, symbol, text_byte, in_class}
 use Rattle.text.specs.declared.Class.{Class}
-use Rattle.text.specs.Scan.{among}
 use Rattle.text.proofs.Choices.{and_left, and_right}
 
 module _ (b : ℕ) where

@@ -1,7 +1,6 @@
 -- The bytes of a quoted text, so that a byte, a list of them and a worked example read as text.
 use Rattle.std.specs.Prelude.{ℕ, List, [], ◌∷◌}
 use Prim.Native.Char.{Char, code}
-use Prim.Native.String as text
 use Prim.Native.String.{String}
 
 abbrev pub byte : Char → ℕ

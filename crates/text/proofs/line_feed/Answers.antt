@@ -1,8 +1,4 @@
 -- `line_feed` meets its contract: the next from here on is the next from the start.
-use Prim.Native.Nat.{◌-◌}
-use mathlib.Core.Path.{◌≡◌}
-use lib.ListN.{length, drop}
-use Rattle.text.specs.Scan.{first_failing, in_line}
 use Rattle.text.proofs.Scans.{walk_on, feed_here, feed_nowhere}
 use borrow.Author.Rules.{rules}
 use Rattle.text.proofs.line_feed.Goals as goal

@@ -3,7 +3,6 @@ use Prim.Native.Nat.{◌-◌}
 use mathlib.Core.Path.{◌≡◌}
 use lib.ListN.{length, drop}
 use Rattle.text.specs.Scan.{first_failing, in_line}
-use Rattle.text.proofs.Scans.{walk_on, feed_here, feed_nowhere}
 use Rattle.text.proofs.line_feed.Given as goal
 
 abbrev pub invariant-loop-i : goal.invariant-loop-i

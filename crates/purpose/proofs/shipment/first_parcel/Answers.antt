@@ -1,8 +1,4 @@
 -- `shipment::first_parcel` meets its contract: the first parcel from the line reached on is the shipment's first.
-use Prim.Native.Nat.{◌≤◌, ◌+◌, ◌-◌}
-use mathlib.Core.Path.{◌≡◌}
-use lib.ListN.{length, drop}
-use Rattle.purpose.specs.Source.{first_parcel}
 use Rattle.purpose.proofs.Seeking.{parcel_here, parcel_on, parcel_none}
 use borrow.Author.Rules.{rules}
 use Rattle.purpose.proofs.shipment.first_parcel.Goals as goal

@@ -3,7 +3,6 @@ use Prim.Native.Nat.{◌≤◌, ◌+◌, ◌-◌}
 use mathlib.Core.Path.{◌≡◌}
 use lib.ListN.{length, drop}
 use Rattle.purpose.specs.Source.{first_parcel}
-use Rattle.purpose.proofs.Seeking.{parcel_here, parcel_on, parcel_none}
 use Rattle.purpose.proofs.shipment.first_parcel.Given as goal
 
 abbrev pub invariant-loop-i : goal.invariant-loop-i

@@ -1,7 +1,4 @@
 -- `shipment::shipment_above` meets its contract: the shipment above the line reached is the one above the line given.
-use Prim.Native.Nat.{◌≤◌}
-use mathlib.Core.Path.{◌≡◌}
-use Rattle.purpose.specs.Source.{shipment_above}
 use Rattle.purpose.proofs.Seeking.{ship_here, ship_up, ship_none}
 use borrow.Author.Rules.{rules}
 use Rattle.purpose.proofs.shipment.shipment_above.Goals as goal

@@ -2,7 +2,6 @@
 use Prim.Native.Nat.{◌≤◌}
 use mathlib.Core.Path.{◌≡◌}
 use Rattle.purpose.specs.Source.{shipment_above}
-use Rattle.purpose.proofs.Seeking.{ship_here, ship_up, ship_none}
 use Rattle.purpose.proofs.shipment.shipment_above.Given as goal
 
 abbrev pub invariant-loop-i : goal.invariant-loop-i

@@ -1,7 +1,7 @@
 -- `put::put_fields` meets its contract: what is left, put now, gives the whole.
 use Prim.Native.Nat.{◌-◌}
 use lib.ListN.{length}
-use Rattle.writer.proofs.Puts.{Putting, putting_none, putting_done, next_rises, next_inside, putting_on}
+use Rattle.writer.proofs.Puts.{Putting}
 use Rattle.writer.proofs.put.put_fields.Given as goal
 
 abbrev pub invariant-loop-i : goal.invariant-loop-i
