@@ -1,5 +1,5 @@
 -- What each call for C and Rust leaves: the number that it returns, the numbers behind the pointers, and the lent buffers.
-use Rattle.std.specs.Prelude.{ℕ, ◌≡◌, List, length}
+use Rattle.std.specs.Prelude.{ℕ, ◌≡◌, List, length, Result}
 use Rattle.refusal.specs.Table.{Verdict, number_told, place_told}
 use Rattle.check_characters.specs.Answer.{issued_to, check_verdict, issue_verdict}
 use Rattle.check_characters.specs.Mod37.{check_of}
@@ -8,7 +8,6 @@ use Rattle.check_characters.specs.Day.{day_answer, answers_after, day_verdict}
 use Rattle.check_characters.specs.Wedge.{next_carry, carry_verdict}
 use Rattle.check_characters.specs.Iban.{checked_iban}
 use Rattle.check_digits.specs.Identcode.{check_digit_of, checked_identcode, parts_answer, issue_identcode_answer, parts_verdict}
-use Rattle.check_characters.specs.declared.answer.IssueAnswer.{IssueAnswer}
 use Rattle.line.specs.Line.{read_answer, line_verdict}
 use Rattle.line.specs.Find.{find_answer, field_verdict}
 use Rattle.file.specs.Lent.{Lent}
@@ -17,6 +16,7 @@ use Rattle.writer.specs.Write.{record_numbered, between, write_answer, written_t
 use Rattle.purpose.specs.Purpose.{purpose_answer, purpose_of, list_after, output_after, purpose_verdict}
 use Rattle.peliranopi.specs.Told.{lines_told, parcels_told, cents_told, record_told, count_told, next_told, start_told, length_told}
 use Rattle.peliranopi.specs.Told.{written_told, purpose_told, issued_told, kind_told, carry_told, passed_told, parts_told}
+use Rattle.refusal.specs.declared.Refusal.{Refusal}
 
 -- what every call tells: its number, and the place
 abbrev pub Tells : Verdict → ℕ → ℕ → Type 0
@@ -73,7 +73,7 @@ DayTells numbers answers number passed place after =
     Tells (day_verdict answer) number place × (passed ≡ passed_told answer) × (after ≡ answers_after answer numbers answers)
 
 -- issuing a number with its check: what the answer tells, and the output then
-abbrev pub IssuedTells : IssueAnswer → List ℕ → ℕ → List ℕ → ℕ → ℕ → ℕ → List ℕ → Type 0
+abbrev pub IssuedTells : Result ℕ Refusal → List ℕ → ℕ → List ℕ → ℕ → ℕ → ℕ → List ℕ → Type 0
 IssuedTells answer body check output number bytes place after =
     Tells (issue_verdict answer) number place × (bytes ≡ issued_told answer) × (after ≡ issued_to answer body check output)
 
