@@ -1,12 +1,12 @@
 // One line of a file, judged behind the lines before it.
 ghost use Rattle.std.specs.Prelude.{◌≡◌, ◌*◌, ◌≤◌, length, set, [], ◌∷◌, ◌++◌, Ok};
 ghost use Rattle.line.specs.Line.{file_limit, line_answer};
-ghost use Rattle.file.specs.Result<State, Refusal>.{told_by, parcels_in, behind, listed_so_far, has_word, listing, step_answer};
+ghost use Rattle.file.specs.Step.{told_by, parcels_in, behind, listed_so_far, has_word, listing, step_answer};
 ghost use Rattle.file.specs.Identcode.{parcels_most, tree_words, Sown};
 ghost use Rattle.file.specs.declared.step.State.{State};
 
 use crate::{cash, contact, identcode};
-use line::{Line};
+use line::Line;
 use records::{Due, Record, Version};
 use refusal::{Reason, Refusal};
 
@@ -62,7 +62,13 @@ pub fn one_line(
 }
 
 // Lists an accepted line, unless it repeats an identcode or the list has no word for it.
-fn list_line(file: &[u8], list: &mut [u32], codes: &mut [u32], state: State, line: Line) -> Result<State, Refusal>
+fn list_line(
+    file: &[u8],
+    list: &mut [u32],
+    codes: &mut [u32],
+    state: State,
+    line: Line,
+) -> Result<State, Refusal>
     requires accepted { (line_answer (told_by state) file.now state.at ≡ Ok line) × (state.at ≤ file_limit) × (state.lines ≤ state.at)
         × (state.lines ≤ length list.old) × (state.parcels ≤ state.lines) × (state.cents ≤ 99999999 * state.lines) }
     requires sown { Sown file.now (listed_so_far state.lines list.old) state.parcels codes.old × (state.parcels ≤ parcels_most)

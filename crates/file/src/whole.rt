@@ -6,7 +6,7 @@ ghost use Rattle.file.specs.File.{Judges};
 ghost use Rattle.file.specs.Identcode.{tree_words};
 
 use crate::identcode::TREE_WORDS;
-use crate::step::{State};
+use crate::step::State;
 use crate::{list, step, version};
 use line::FILE_LIMIT;
 use records::Due;
@@ -43,7 +43,12 @@ pub fn judge(file: &[u8], countries: &[u8], list: &mut [u32]) -> Result<Totals, 
 }
 
 // The lines of a file that is not too long, with a list that is clear, and room for a tree of their identcodes.
-fn run(file: &[u8], countries: &[u8], list: &mut [u32], codes: &mut [u32]) -> Result<Totals, Refusal>
+fn run(
+    file: &[u8],
+    countries: &[u8],
+    list: &mut [u32],
+    codes: &mut [u32],
+) -> Result<Totals, Refusal>
     requires { (length file.now ≤ file_limit) × (is_paired countries.now ≡ true) × (list.old ≡ replicate (length list.old) 0)
         × (tree_words ≤ length codes.old) }
     ensures { Judges file.now (record { countries = countries.now; words = length list.old })

@@ -4,7 +4,6 @@ ghost use Rattle.purpose.specs.Purpose.{Purposes};
 
 use crate::cut::PURPOSE_LONG;
 use crate::{cut, source};
-
 use refusal::{Reason, Refusal};
 
 // Writes the purpose of the line with this number at the output's start. Written, the list is as for the whole file; otherwise all

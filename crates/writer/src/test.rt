@@ -26,7 +26,12 @@ pub fn ends_hold(ends: &[usize], long: usize) -> bool
 }
 
 // Tests the fields. Beside a field stands the one in front of it; no rule of a first field looks beside it.
-pub fn walk_fields(version: Version, kind: Record, text: &[u8], ends: &[usize]) -> Result<(), Refusal>
+pub fn walk_fields(
+    version: Version,
+    kind: Record,
+    text: &[u8],
+    ends: &[usize],
+) -> Result<(), Refusal>
     requires { ends_hold ends.now (length text.now) ≡ true }
     ensures { result ≡ walked (profile version kind) 1 (type_of kind) (between text.now ends.now) }
 {

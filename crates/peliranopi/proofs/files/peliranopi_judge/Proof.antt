@@ -6,10 +6,10 @@ use borrow.Author.Rules.{rules}
 use Rattle.peliranopi.proofs.files.peliranopi_judge.Statement.{statement}
 use Rattle.peliranopi.proofs.files.peliranopi_judge.Tie as tie
 
-returns : tie.Need-returns-in-Accepted
+returns : tie.Need-returns-in-Ok
 returns c = search (rules, told_number file_verdict, told_place file_verdict, told lines_told, told parcels_told, told cents_told)
 
-returns_2 : tie.Need-returns-in-Refused
+returns_2 : tie.Need-returns-in-Err
 returns_2 c = search (rules, told_number file_verdict, told_place file_verdict, told lines_told, told parcels_told, told cents_told)
 
 pub peliranopi_judge_spec : {M : Type 1} → statement M

@@ -6,10 +6,10 @@ use borrow.Author.Rules.{rules}
 use Rattle.peliranopi.proofs.files.peliranopi_write_purpose.Statement.{statement}
 use Rattle.peliranopi.proofs.files.peliranopi_write_purpose.Tie as tie
 
-returns : tie.Need-returns-in-Written
+returns : tie.Need-returns-in-Ok
 returns c = search (rules, told_number purpose_verdict, told_place purpose_verdict, told purpose_told, list_left, purpose_left)
 
-returns_2 : tie.Need-returns-in-Refused
+returns_2 : tie.Need-returns-in-Err
 returns_2 c = search (rules, told_number purpose_verdict, told_place purpose_verdict, told purpose_told, list_left, purpose_left)
 
 pub peliranopi_write_purpose_spec : {M : Type 1} → statement M

@@ -6,10 +6,10 @@ use borrow.Author.Rules.{rules}
 use Rattle.peliranopi.proofs.lines.peliranopi_find_field.Statement.{statement}
 use Rattle.peliranopi.proofs.lines.peliranopi_find_field.Tie as tie
 
-returns : tie.Need-returns-in-Found
+returns : tie.Need-returns-in-Ok
 returns c = search (rules, told_number field_verdict, told_place field_verdict, told start_told, told length_told)
 
-returns_2 : tie.Need-returns-in-Refused
+returns_2 : tie.Need-returns-in-Err
 returns_2 c = search (rules, told_number field_verdict, told_place field_verdict, told start_told, told length_told)
 
 pub peliranopi_find_field_spec : {M : Type 1} → statement M

@@ -6,10 +6,10 @@ use borrow.Author.Rules.{rules}
 use Rattle.peliranopi.proofs.lines.peliranopi_read_line.Statement.{statement}
 use Rattle.peliranopi.proofs.lines.peliranopi_read_line.Tie as tie
 
-returns : tie.Need-returns-in-Accepted
+returns : tie.Need-returns-in-Ok
 returns c = search (rules, told_number line_verdict, told_place line_verdict, told record_told, told count_told, told next_told)
 
-returns_2 : tie.Need-returns-in-Refused
+returns_2 : tie.Need-returns-in-Err
 returns_2 c = search (rules, told_number line_verdict, told_place line_verdict, told record_told, told count_told, told next_told)
 
 pub peliranopi_read_line_spec : {M : Type 1} → statement M

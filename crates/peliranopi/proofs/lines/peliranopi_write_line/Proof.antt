@@ -6,10 +6,10 @@ use borrow.Author.Rules.{rules}
 use Rattle.peliranopi.proofs.lines.peliranopi_write_line.Statement.{statement}
 use Rattle.peliranopi.proofs.lines.peliranopi_write_line.Tie as tie
 
-returns : tie.Need-returns-in-Written
+returns : tie.Need-returns-in-Ok
 returns c = search (rules, told_number write_verdict, told_place write_verdict, told written_told, line_left)
 
-returns_2 : tie.Need-returns-in-Refused
+returns_2 : tie.Need-returns-in-Err
 returns_2 c = search (rules, told_number write_verdict, told_place write_verdict, told written_told, line_left)
 
 pub peliranopi_write_line_spec : {M : Type 1} → statement M

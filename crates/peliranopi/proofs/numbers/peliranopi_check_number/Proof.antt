@@ -6,10 +6,10 @@ use borrow.Author.Rules.{rules}
 use Rattle.peliranopi.proofs.numbers.peliranopi_check_number.Statement.{statement}
 use Rattle.peliranopi.proofs.numbers.peliranopi_check_number.Tie as tie
 
-returns : tie.Need-returns-in-Accepted
+returns : tie.Need-returns-in-Ok
 returns c = search (rules, told_number number_verdict, told_place number_verdict, told kind_told)
 
-returns_2 : tie.Need-returns-in-Refused
+returns_2 : tie.Need-returns-in-Err
 returns_2 c = search (rules, told_number number_verdict, told_place number_verdict, told kind_told)
 
 pub peliranopi_check_number_spec : {M : Type 1} → statement M

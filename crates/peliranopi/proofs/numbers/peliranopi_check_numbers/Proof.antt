@@ -6,10 +6,10 @@ use borrow.Author.Rules.{rules}
 use Rattle.peliranopi.proofs.numbers.peliranopi_check_numbers.Statement.{statement}
 use Rattle.peliranopi.proofs.numbers.peliranopi_check_numbers.Tie as tie
 
-returns : tie.Need-returns-in-Answered
+returns : tie.Need-returns-in-Ok
 returns c = search (rules, told_number day_verdict, told_place day_verdict, told passed_told, day_left)
 
-returns_2 : tie.Need-returns-in-Refused
+returns_2 : tie.Need-returns-in-Err
 returns_2 c = search (rules, told_number day_verdict, told_place day_verdict, told passed_told, day_left)
 
 pub peliranopi_check_numbers_spec : {M : Type 1} → statement M

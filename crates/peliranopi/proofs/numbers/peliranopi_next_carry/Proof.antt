@@ -6,10 +6,10 @@ use borrow.Author.Rules.{rules}
 use Rattle.peliranopi.proofs.numbers.peliranopi_next_carry.Statement.{statement}
 use Rattle.peliranopi.proofs.numbers.peliranopi_next_carry.Tie as tie
 
-returns : tie.Need-returns-in-Next
+returns : tie.Need-returns-in-Ok
 returns c = search (rules, told_number carry_verdict, told_place carry_verdict, told carry_told)
 
-returns_2 : tie.Need-returns-in-Refused
+returns_2 : tie.Need-returns-in-Err
 returns_2 c = search (rules, told_number carry_verdict, told_place carry_verdict, told carry_told)
 
 pub peliranopi_next_carry_spec : {M : Type 1} → statement M

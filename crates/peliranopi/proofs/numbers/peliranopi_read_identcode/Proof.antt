@@ -6,10 +6,10 @@ use borrow.Author.Rules.{rules}
 use Rattle.peliranopi.proofs.numbers.peliranopi_read_identcode.Statement.{statement}
 use Rattle.peliranopi.proofs.numbers.peliranopi_read_identcode.Tie as tie
 
-returns : tie.Need-returns-in-Read
+returns : tie.Need-returns-in-Ok
 returns c = search (rules, told_number parts_verdict, told_place parts_verdict, told parts_told)
 
-returns_2 : tie.Need-returns-in-Refused
+returns_2 : tie.Need-returns-in-Err
 returns_2 c = search (rules, told_number parts_verdict, told_place parts_verdict, told parts_told)
 
 pub peliranopi_read_identcode_spec : {M : Type 1} → statement M
