@@ -18,9 +18,9 @@ use Rattle.line.specs.Find.{find_answer}
 use Rattle.file.specs.File.{judged}
 use Rattle.writer.specs.Write.{record_numbered, between, written_to}
 use Rattle.purpose.specs.Purpose.{purpose_of, list_after, output_after}
-use Rattle.demands.specs.Demand1.{
 use Rattle.std.specs.Prelude.{Result}
 use Rattle.refusal.specs.declared.Refusal.{Refusal}
+use Rattle.demands.specs.Demand1.{
   CheckNumberUnique,
   CheckNumbersUnique,
   IssueNumberUnique,

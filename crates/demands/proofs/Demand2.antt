@@ -26,8 +26,8 @@ use Rattle.slips.proofs.Identcodes as identcodes
 use Rattle.slips.proofs.IdentcodeIssues as codes
 use Rattle.slips.proofs.Parts as parts
 use Rattle.refused.proofs.Parcels.{parcel_passes}
-use Rattle.demands.specs.Demand2.{
 use Rattle.std.specs.Prelude.{Ok, Err}
+use Rattle.demands.specs.Demand2.{
   FileExactly,
   OneDivisionIntoLines,
   LineExactly,

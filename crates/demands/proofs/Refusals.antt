@@ -24,9 +24,9 @@ use Rattle.refused.proofs.Keys as keys
 use Rattle.refused.proofs.Identcodes as identcodes
 use Rattle.refused.proofs.Parcels as parcels
 use Rattle.refused.proofs.Either as either
-use Rattle.demands.specs.Refusals.{
 use Rattle.std.specs.Prelude.{Err, Result}
 use Rattle.line.specs.declared.find.Span.{Span}
+use Rattle.demands.specs.Refusals.{
   FileRefusedExactly,
   JudgeExactly,
   AlwaysOne,

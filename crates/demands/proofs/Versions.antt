@@ -18,8 +18,8 @@ use Rattle.allowed.proofs.Versions.{first_header, header_says, version_on_lem, u
 use Rattle.allowed.proofs.Saying as saying
 use Rattle.refused.proofs.Deciding.{judge_exactly}
 use Rattle.refused.proofs.Told.{same_version, no_version}
-use Rattle.demands.specs.Versions.{
 use Rattle.std.specs.Prelude.{Some, Ok}
+use Rattle.demands.specs.Versions.{
   VersionExactly,
   FileExactlyUnder,
   OneVersion,

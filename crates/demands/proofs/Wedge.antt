@@ -10,9 +10,9 @@ use Rattle.check_characters.proofs.Keying.{next_no_carry}
 use Rattle.slips.proofs.Typing as typing
 use Rattle.refused.proofs.Keys as keys
 use Rattle.peliranopi.specs.Told.{carry_told}
-use Rattle.demands.specs.Wedge.{
 use Rattle.std.specs.Prelude.{Result, Ok, Err}
 use Rattle.refusal.specs.declared.Refusal.{Refusal}
+use Rattle.demands.specs.Wedge.{
   EachEntry,
   KeyExactly,
   TypedExactly,

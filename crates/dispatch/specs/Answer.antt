@@ -1,5 +1,5 @@
 -- The line that answers a file.
-use Rattle.std.specs.Prelude.{ℕ, List, [], ◌∷◌, ◌++◌, codes, Result}
+use Rattle.std.specs.Prelude.{ℕ, List, [], ◌∷◌, ◌++◌, codes, Result, Ok, Err}
 use Rattle.streams.specs.Lines.{numbers}
 use Rattle.refusal.specs.Table.{number_of}
 use Rattle.refusal.specs.declared.Refusal.{Refusal}
@@ -16,8 +16,8 @@ abbrev pub no_line : Refusal → List ℕ
 no_line refusal = codes "no" ++ numbers (number_of refusal.why ∷ refusal.place ∷ [])
 
 abbrev pub line_of : Result Totals Refusal → List ℕ
-line_of (Result Totals Refusal.Accepted totals) = ok_line totals
-line_of (Result Totals Refusal.Refused refusal) = no_line refusal
+line_of (Ok totals) = ok_line totals
+line_of (Err refusal) = no_line refusal
 
 -- what the program lends: 4,096 words, and no country
 abbrev pub lent : Lent

@@ -8,7 +8,7 @@ ghost use Rattle.std.specs.Io.KnownBytes.{Appends};
 ghost use Rattle.streams.specs.Counts.{IsPrefixLen};
 ghost use Rattle.dispatch.specs.Answer.{answer_to, ok_line, no_line};
 
-use file::{Totals};
+use file::Totals;
 use refusal::Refusal;
 use std::io::{Eprint, Read, Write};
 use streams::Input;

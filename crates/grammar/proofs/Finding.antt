@@ -16,6 +16,7 @@ use Rattle.refusal.specs.declared.Refusal.{Refusal}
 use Rattle.refusal.proofs.Verdicts.{no_pass}
 use Rattle.records.specs.Record.{type_of}
 use Rattle.fields.specs.Profile.{Rules}
+use Rattle.line.specs.declared.find.Span.{Span}
 use Rattle.line.specs.Parts.{start_in, start_of, fields_of, field_no}
 use Rattle.line.specs.Render.{joined, text_of}
 use Rattle.line.specs.Line.{text_at, line_answer, alone}
@@ -100,11 +101,13 @@ module _ {told : Told} {s : List ℕ} {at : ℕ} {line : Line} {fs : List (List 
           (λ l. absurd (no_pass field_verdict refl refl (sym (field_not_there (λ x y. omega arith)) ∙ e)))
           (le_or_lt 1 n)
         where
-          go : 1 ≤ n → n ≤ length fs → Ok (record { start = at + length (front (n - 1)); long = length (field_no fs n) }) ≡ Ok (record { start = start; long = long }) →
+          go : 1 ≤ n → n ≤ length fs →
+              ◌≡◌ {A = Result Span Refusal} (Ok (record { start = at + length (front (n - 1)); long = length (field_no fs n) })) (Ok (record { start = start; long = long })) →
               FieldStands line.kind fs s at n start long
           go l m e =
-              let a : start ≡ at + length (front (n - 1)) = cc in
-              let b : long ≡ length (field_no fs n) = cc in
+              let same : ◌≡◌ {A = Span} (record { start = at + length (front (n - 1)); long = length (field_no fs n) }) (record { start = start; long = long }) = cc in
+              let a : start ≡ at + length (front (n - 1)) = sym (ap (λ (s : Span). s.start) same) in
+              let b : long ≡ length (field_no fs n) = sym (ap (λ (s : Span). s.long) same) in
               record { first = l; last = m; starts = a; measures = b; there = rw (a, b) (there (n - 1) (omega arith)) }
 
       finds_found : FieldStands line.kind fs s at n start long → field_answer told.rules s at n ≡ Ok (record { start = start; long = long })

@@ -48,11 +48,11 @@ next_told (Err refusal) = 0
 
 -- of one field: "start and length"
 abbrev pub start_told : Result Span Refusal → ℕ
-start_told (Ok span) = start
+start_told (Ok span) = span.start
 start_told (Err refusal) = 0
 
 abbrev pub length_told : Result Span Refusal → ℕ
-length_told (Ok span) = length
+length_told (Ok span) = span.long
 length_told (Err refusal) = 0
 
 -- of what is written: "how many bytes were written"

@@ -6,8 +6,8 @@ ghost use Rattle.peliranopi.specs.Calls.{Tells, NumberTells, IssueTells, CarryTe
 ghost use Rattle.peliranopi.specs.Calls.{DayTells, IssueIdentcodeTells};
 
 use crate::tell;
-use check_characters::{Kind};
-use check_digits::{Parts};
+use check_characters::Kind;
+use check_digits::Parts;
 use refusal::Refusal;
 
 pub fn peliranopi_check_number(symbols: &[u8], kind: &mut u32, place: &mut usize) -> u32

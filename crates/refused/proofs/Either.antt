@@ -57,7 +57,7 @@ module _ (rules : Rules) (s : List ℕ) (at n : ℕ) where
     where
       go : (a : Result Span Refusal) → field_answer rules s at n ≡ a →
           ((start : ℕ) × ((long : ℕ) × IsThere start long)) ⊎ ((refusal : Refusal) × RefusedFind rules s at n refusal)
-      go (Ok span) e = inl (start, (long, (found_exactly rules s at n start long).0 e))
+      go (Ok span) e = inl (span.start, (span.long, (found_exactly rules s at n span.start span.long).0 e))
       go (Err refusal) e = inr (refusal, (field_refused_exactly rules s at n refusal).0 e)
 
   pub field_never_both : (start long : ℕ) (refusal : Refusal) → IsThere start long → RefusedFind rules s at n refusal → ⊥

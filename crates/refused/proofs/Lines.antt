@@ -51,11 +51,8 @@ ill_end file end [] d f e = tt
 ill_end file end (b ∷ behind) d f e =
     (f, λ q. clash (ap (λ (l : List ℕ). same (take 2 l) (bytes "\r\n")) d ∙ ap (λ (l : List ℕ). same l (bytes "\r\n")) q) e)
 
-refused_same : {refusal other : Refusal} → ◌≡◌ {A = Result Line Refusal} (Err refusal) (Err other) → refusal ≡ other
+refused_same : {T : Type 0} {refusal other : Refusal} → ◌≡◌ {A = Result T Refusal} (Err refusal) (Err other) → refusal ≡ other
 refused_same e = cc
-
-line_same : {refusal other : Refusal} → ◌≡◌ {A = Result Line Refusal} (Err refusal) (Err other) → refusal ≡ other
-line_same e = cc
 
 module _ (told : Told) (file : List ℕ) (offset : ℕ) where
   -- what the text of a line that ends well is made of
@@ -98,7 +95,7 @@ module _ (told : Told) (file : List ℕ) (offset : ℕ) where
       (λ w q. absurd (no_pass text_verdict refl refl (sym q)))))
       e
     where
-      is : {other : Refusal} → ◌≡◌ {A = Result Line Refusal} (Err other) (Err refusal) → RefusedAt told file offset other → RefusedAt told file offset refusal
+      is : {other : Refusal} → ◌≡◌ {A = Result ℕ Refusal} (Err other) (Err refusal) → RefusedAt told file offset other → RefusedAt told file offset refusal
       is q g = subst (RefusedAt told file offset) (refused_same q) g
 
   pub answer_refused : (refusal : Refusal) → line_answer told file offset ≡ Err refusal → RefusedAt told file offset refusal
@@ -106,7 +103,7 @@ module _ (told : Told) (file : List ℕ) (offset : ℕ) where
   answer_refused refusal e = go (text_answer file offset) refl e
     where
       go : (a : Result ℕ Refusal) → text_answer file offset ≡ a → on_text a told file offset ≡ Err refusal → RefusedAt told file offset refusal
-      go (Err other) q e = subst (RefusedAt told file offset) (line_same e) (text_refused other q)
+      go (Err other) q e = subst (RefusedAt told file offset) (refused_same e) (text_refused other q)
       go (Ok end) q e =
           let t = text_ends file offset end q in
           let text = text_at file offset in

@@ -91,7 +91,7 @@ module _ (s : List ℕ) (lent : Lent) where
         abbrev lacks : Bool
         lacks = lacks_contact line.kind (parts_of l) lent.countries (contacts_after true ls)
 
-        missing : lacks ≡ true → ◌≡◌ {A = Result State Refusal} (Err (because ContactMissing state.at)) (Err refusal) → RefusedFile s lent refusal
+        missing : lacks ≡ true → ◌≡◌ {A = Result Totals Refusal} (Err (because ContactMissing state.at)) (Err refusal) → RefusedFile s lent refusal
         missing m e =
             let away = lacks_told lent.countries ls l m in
             is (because ContactMissing state.at) e
@@ -99,7 +99,7 @@ module _ (s : List ℕ) (lent : Lent) where
             (RefusedFile.contact_missing ls l g.rest follows room away.0 away.1 away.2))
 
         repeated : repeats line.kind s starts state.at ≡ true →
-            ◌≡◌ {A = Result State Refusal} (Err (because IdentcodeRepeated (state.at + 4))) (Err refusal) →
+            ◌≡◌ {A = Result Totals Refusal} (Err (because IdentcodeRepeated (state.at + 4))) (Err refusal) →
             RefusedFile s lent refusal
         repeated r e =
             let k = repeats_parcel line.kind s starts state.at r in
@@ -121,7 +121,7 @@ module _ (s : List ℕ) (lent : Lent) where
                     g.stands g.allowed fresh;
               }
 
-          full : lent.words ≤ state.lines → ◌≡◌ {A = Result State Refusal} (Err (because ListFull state.at)) (Err refusal) → RefusedFile s lent refusal
+          full : lent.words ≤ state.lines → ◌≡◌ {A = Result Totals Refusal} (Err (because ListFull state.at)) (Err refusal) → RefusedFile s lent refusal
           full f e =
               is (because ListFull state.at) e
               (subst (λ (x : ℕ). RefusedFile s lent (because ListFull x)) (sym h.place)

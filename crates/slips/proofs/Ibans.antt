@@ -39,7 +39,7 @@ accepted_sound s e =
     let wrong = ltb (wrong_in_iban s) (length s) in
     let tail = if sound_of s then Ok tt else Err (because WrongCheck 2) in
     let a = came_else (not inside) (Err (because WrongLength 0)) (if wrong then Err (because WrongSymbol (wrong_in_iban s)) else tail)
-    Ok tt (no_pass check_verdict refl refl) e in
+    (Ok tt) (no_pass check_verdict refl refl) e in
     let b = came_else wrong (Err (because WrongSymbol (wrong_in_iban s))) tail (Ok tt) (no_pass check_verdict refl refl) a.1 in
     let c = came_then (sound_of s) (Ok tt) (Err (because WrongCheck 2)) (Ok tt) (no_pass check_verdict refl refl) b.1 in
     let long = not-false inside a.0 in

@@ -6,7 +6,7 @@
 ghost use Rattle.std.specs.Prelude.{◌<◌, ◌≤◌};
 ghost use Rattle.streams.specs.Counts.{IsPrefixLen};
 
-use file::{Totals};
+use file::Totals;
 use refusal::Refusal;
 use std::env::{Env, FillError};
 use std::io::{Eprint, Error, ErrorKind, Print, Read};

@@ -5,7 +5,7 @@
 // checked, where the text is how many answer bytes are lent, a space and the numbers; each answer byte is given too.
 #![tactic(auto)]
 
-use check_characters::{Kind};
+use check_characters::Kind;
 use check_digits::{Part, Parts};
 use refusal::Refusal;
 use std::io::{Eprint, Print};
