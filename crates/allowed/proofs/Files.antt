@@ -12,7 +12,7 @@ use Rattle.std.specs.Prelude.{if◌then◌else◌, Ok, Err, Result}
 use Rattle.text.proofs.Choices.{came_else}
 use Rattle.refusal.specs.declared.Reason.TheVariants.{FileTooLong, CountriesOdd}
 use Rattle.refusal.specs.declared.Refusal.{Refusal}
-use Rattle.refusal.specs.Table.{because}
+use Rattle.refusal.specs.Table.{because, verdict_on}
 use Rattle.refusal.proofs.Verdicts.{no_pass}
 use Rattle.records.specs.declared.record.Record.{Record}
 use Rattle.records.specs.declared.record.Due.{Due}
@@ -25,7 +25,7 @@ use Rattle.records.specs.declared.version.Version.{Version}
 use Rattle.file.specs.Lent.{Lent}
 use Rattle.file.specs.Version.{version_of}
 use Rattle.file.specs.Contact.{contacts_behind}
-use Rattle.file.specs.File.{Judged, begin, file_from, judged, file_verdict}
+use Rattle.file.specs.File.{Judged, begin, file_from, judged}
 use Rattle.file.specs.declared.whole.Totals.{Totals}
 use Rattle.allowed.specs.Allowed.{FileLine, line_bytes, file_bytes, LinesOk, InOrder, codes_on, identcodes, NoneTwice}
 use Rattle.allowed.specs.Allowed.{AllowedFile, parcel_count, cash_total, totals_of, line_starts}
@@ -103,7 +103,7 @@ abbrev refused : Refusal → Judged
 refused refusal = record { answer = Err refusal; starts = [] }
 
 not_refused : {refusal : Refusal} {totals : Totals} {starts : List ℕ} → refused refusal ≡ record { answer = Ok totals; starts = starts } → ⊥
-not_refused q = no_pass file_verdict refl refl (ap (λ (j : Judged). j.answer) q)
+not_refused q = no_pass verdict_on refl refl (ap (λ (j : Judged). j.answer) q)
 
 totals_told : {a b : Totals} → ◌≡◌ {A = Result Totals Refusal} (Ok a) (Ok b) → a ≡ b
 totals_told e = cc

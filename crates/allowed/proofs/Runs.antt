@@ -12,7 +12,7 @@ use lib.Seq.{append_snoc}
 use borrow.Author.Tests.{ltb-false, lt-ltb, le-ltb}
 use Rattle.text.proofs.Choices.{came_then, true_or_false}
 use Rattle.refusal.specs.declared.Reason.TheVariants.{FileEnds}
-use Rattle.refusal.specs.Table.{because}
+use Rattle.refusal.specs.Table.{because, verdict_on}
 use Rattle.refusal.proofs.Verdicts.{no_pass}
 use Rattle.records.specs.Record.{type_of, may_come, may_end}
 use Rattle.records.specs.declared.record.Due.{Due}
@@ -29,7 +29,7 @@ use Rattle.file.specs.Lent.{Lent}
 use Rattle.file.specs.Contact.{contacts_behind, lacks_contact}
 use Rattle.file.specs.Cash.{cash_of}
 use Rattle.file.specs.Step.{behind, listing, on_line, step_answer, told_by}
-use Rattle.file.specs.File.{Judged, ended, on_step, file_from, file_verdict}
+use Rattle.file.specs.File.{Judged, ended, on_step, file_from}
 use Rattle.file.specs.declared.step.State.{State}
 use Rattle.file.specs.declared.whole.Totals.{Totals}
 use Rattle.file.proofs.Lists.{word_left, left_word}
@@ -109,7 +109,7 @@ module _ (s : List ℕ) (lent : Lent) (in_limit : length s ≤ file_limit) (tota
             Ok (record { lines = state.lines; parcels = state.parcels; cents = state.cents });
         starts = starts;
       })
-      (record { answer = Err (because FileEnds (length s)); starts = [] }) result (λ q. (no_pass file_verdict refl refl)
+      (record { answer = Err (because FileEnds (length s)); starts = [] }) result (λ q. (no_pass verdict_on refl refl)
       (ap (λ (j : Judged). j.answer) q)) e in
       record {
         lines = [];
@@ -128,7 +128,7 @@ module _ (s : List ℕ) (lent : Lent) (in_limit : length s ≤ file_limit) (tota
       Seen s starts codes →
       (step : Result State Refusal) → step_answer s lent starts state ≡ step → on_step step
       (λ next. file_from turns s lent (starts ++ (state.at ∷ [])) next) ≡ result → Ran s lent starts codes state result
-  ran_step turns more starts codes state h seen (Err refusal) es e = absurd (no_pass file_verdict refl refl (ap (λ (j : Judged). j.answer) e))
+  ran_step turns more starts codes state h seen (Err refusal) es e = absurd (no_pass verdict_on refl refl (ap (λ (j : Judged). j.answer) e))
   ran_step turns more starts codes state h seen (Ok next) es e =
       let w = went s lent starts state next es in
       let line = w.line in

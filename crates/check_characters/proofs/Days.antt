@@ -12,12 +12,12 @@ use mir.Syntax.{w8}
 use borrow.Author.Tests.{eq-eqb, ne_eqb, lt-ltb, le-ltb}
 use Rattle.refusal.specs.declared.Reason.{Reason}
 use Rattle.refusal.specs.declared.Reason.TheVariants.{OutputTooShort, WrongLength}
-use Rattle.refusal.specs.Table.{because, number_of, number_told}
+use Rattle.refusal.specs.Table.{because, number_of, number_told, verdict_on}
 use Rattle.refusal.proofs.Verdicts.{number_small}
 use Rattle.text.specs.Placed.{written}
 use Rattle.text.proofs.Placing.{copy_done, clip_whole}
 use Rattle.text.proofs.Tables.{tabled_at, tabled_long}
-use Rattle.check_characters.specs.Number.{length_of, checked_as, checked_number, number_verdict}
+use Rattle.check_characters.specs.Number.{length_of, checked_as, checked_number}
 use Rattle.check_characters.specs.Day.{number_at, how_many, day_answers, zeros, day_answer}
 use Rattle.check_characters.specs.declared.number.Kind.TheVariants.{Tracking}
 use Rattle.check_characters.proofs.Checking.{checked_tracking}
@@ -38,12 +38,12 @@ number_front numbers behind i h =
 module _ (numbers : List ℕ) where
   pub answers_long : length (day_answers numbers) ≡ how_many numbers
   unfolding day_answers
-  answers_long = tabled_long (λ i. number_told (number_verdict (checked_number (number_at numbers i)))) 0 (how_many numbers)
+  answers_long = tabled_long (λ i. number_told (verdict_on (checked_number (number_at numbers i)))) 0 (how_many numbers)
 
   module _ (i : ℕ) (h : i < how_many numbers) where
-    pub answer_at : get_or (day_answers numbers) i 0 ≡ number_told (number_verdict (checked_number (number_at numbers i)))
+    pub answer_at : get_or (day_answers numbers) i 0 ≡ number_told (verdict_on (checked_number (number_at numbers i)))
     unfolding day_answers
-    answer_at = tabled_at (λ j. number_told (number_verdict (checked_number (number_at numbers j)))) (how_many numbers) i 0 h
+    answer_at = tabled_at (λ j. number_told (verdict_on (checked_number (number_at numbers j)))) (how_many numbers) i 0 h
 
     -- where it stands
     pub number_inside : 15 * i + 15 ≤ length numbers
@@ -55,16 +55,16 @@ module _ (numbers : List ℕ) where
 
     -- and what it is answered
     pub answer_of : (a : Result Kind Refusal) (v : ℕ) → a ≡ checked_as Tracking (take (15 * i + 15 - 15 * i) (drop (15 * i) numbers)) →
-        v ≡ number_told (number_verdict a) → v ≡ get_or (day_answers numbers) i 0
+        v ≡ number_told (verdict_on a) → v ≡ get_or (day_answers numbers) i 0
     answer_of a v ea ev =
         let alone : a ≡ checked_number (number_at numbers i) =
         ea ∙ sym (checked_tracking (take (15 * i + 15 - 15 * i) (drop (15 * i) numbers)) number_long) ∙ ap checked_number (clip_whole numbers (15 * i) 15) in
-        ev ∙ ap (λ (b : Result Kind Refusal). number_told (number_verdict b)) alone ∙ sym answer_at
+        ev ∙ ap (λ (b : Result Kind Refusal). number_told (verdict_on b)) alone ∙ sym answer_at
 
   -- the first i answers are in: each premise is a fact that the loop has
   module _ (out₀ out : List ℕ) (i : ℕ) (room : how_many numbers ≤ length out₀) (e : out ≡ paste out₀ 0 (day_answers numbers) i) where
     pub day_again : (a : Result Kind Refusal) (v : ℕ) → i < how_many numbers →
-        a ≡ checked_as Tracking (take (15 * i + 15 - 15 * i) (drop (15 * i) numbers)) → v ≡ number_told (number_verdict a) →
+        a ≡ checked_as Tracking (take (15 * i + 15 - 15 * i) (drop (15 * i) numbers)) → v ≡ number_told (verdict_on a) →
         set out i v ≡ paste out₀ 0 (day_answers numbers) (i + 1)
     day_again a v h ea ev =
         let there : 0 + i ≡ i = zero-add i in

@@ -10,11 +10,11 @@ use lib.ListN.{length, drop, set}
 use lib.Seq.{drop-cons, set-append_seam}
 use borrow.Author.Tests.{eq-eqb, ne_eqb, lt-ltb, le-ltb, le-leb}
 use Rattle.refusal.specs.declared.Reason.TheVariants.{OutputTooShort, WrongLength, WrongSymbol}
-use Rattle.refusal.specs.Table.{because}
+use Rattle.refusal.specs.Table.{because, verdict_on}
 use Rattle.refusal.proofs.Verdicts.{no_pass}
 use Rattle.text.specs.Placed.{placed}
 use Rattle.text.proofs.Choices.{came_else}
-use Rattle.check_characters.specs.Answer.{room_for, issued_to, issue_verdict}
+use Rattle.check_characters.specs.Answer.{room_for, issued_to}
 use Rattle.check_characters.specs.Number.{length_of, wrong_in_number, issue_as, issue_answer}
 use Rattle.check_characters.specs.declared.number.Kind.{Kind}
 use Rattle.check_characters.specs.declared.number.Kind.TheVariants.{Tracking, Label}
@@ -33,7 +33,7 @@ module _ (n room : ℕ) where
 module _ (whole room : ℕ) where
   pub room_whole : (n : ℕ) → room_for whole room ≡ Ok n → n ≡ whole
   unfolding room_for
-  room_whole n e = let w = came_else (ltb room whole) (Err (because OutputTooShort 0)) (Ok whole) (Ok n) (no_pass issue_verdict refl refl) e in cc
+  room_whole n e = let w = came_else (ltb room whole) (Err (because OutputTooShort 0)) (Ok whole) (Ok n) (no_pass verdict_on refl refl) e in cc
 
 -- the body placed at the start, and the check behind it
 pub issue_written : (body out placedOut : List ℕ) (check : ℕ) → length body < length out → placedOut ≡ placed out 0 body →

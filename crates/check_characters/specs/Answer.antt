@@ -12,12 +12,3 @@ room_for whole room = if ltb room whole then Err (because OutputTooShort 0) else
 unfoldable pub issued_to : Result ℕ Refusal → List ℕ → ℕ → List ℕ → List ℕ
 issued_to (Ok n) body check output = body ++ check ∷ drop n output
 issued_to (Err refusal) body check output = output
-
--- the paper's number and place for each answer
-abbrev pub check_verdict : Result ⊤ Refusal → Verdict
-check_verdict (Ok _) = Verdict.passes
-check_verdict (Err refusal) = verdict_of refusal
-
-abbrev pub issue_verdict : Result ℕ Refusal → Verdict
-issue_verdict (Ok n) = Verdict.passes
-issue_verdict (Err refusal) = verdict_of refusal

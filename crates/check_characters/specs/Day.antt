@@ -8,8 +8,8 @@ use Rattle.text.specs.Placed.{written}
 use Rattle.text.specs.Scan.{count}
 use Rattle.text.specs.Tabled.{tabled}
 use Rattle.refusal.specs.declared.Reason.TheVariants.{OutputTooShort, WrongLength}
-use Rattle.refusal.specs.Table.{because, number_told, verdict_of, Verdict}
-use Rattle.check_characters.specs.Number.{number_verdict, checked_number}
+use Rattle.refusal.specs.Table.{because, number_told, verdict_of, Verdict, verdict_on}
+use Rattle.check_characters.specs.Number.{checked_number}
 use Rattle.refusal.specs.declared.Refusal.{Refusal}
 
 -- "15 bytes after 15 bytes": the number at the place i
@@ -22,7 +22,7 @@ how_many numbers = length numbers / 15
 
 -- "an answer byte each: 0, 17 or 18 as each number would get alone"
 unfoldable pub day_answers : List ℕ → List ℕ
-day_answers numbers = tabled (λ i. number_told (number_verdict (checked_number (number_at numbers i)))) 0 (how_many numbers)
+day_answers numbers = tabled (λ i. number_told (verdict_on (checked_number (number_at numbers i)))) 0 (how_many numbers)
 
 -- "the count of zeros"
 abbrev pub zeros : List ℕ → ℕ
@@ -44,8 +44,3 @@ answers_after (Err refusal) numbers answers = answers
 abbrev pub ChecksDay : List ℕ → List ℕ → Result ℕ Refusal → List ℕ → Type 0
 ChecksDay numbers answers answer after =
     (answer ≡ day_answer numbers (length answers)) × (after ≡ answers_after answer numbers answers)
-
--- the paper's number and place for each answer
-abbrev pub day_verdict : Result ℕ Refusal → Verdict
-day_verdict (Ok passed) = Verdict.passes
-day_verdict (Err refusal) = verdict_of refusal

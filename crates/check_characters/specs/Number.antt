@@ -66,8 +66,3 @@ issue_answer body room =
 -- the answer and the output that issuing allows
 abbrev pub Issues : List ℕ → List ℕ → Result ℕ Refusal → List ℕ → Type 0
 Issues body output answer after = (answer ≡ issue_answer body (length output)) × (after ≡ issued_to answer body (check_of body) output)
-
--- the paper's number and place for each answer
-abbrev pub number_verdict : Result Kind Refusal → Verdict
-number_verdict (Ok kind) = Verdict.passes
-number_verdict (Err refusal) = verdict_of refusal

@@ -24,8 +24,3 @@ next_carry carry key =
 -- the carry behind a number that passes: its check makes the sum "leave 1 modulo 36", and twice 1 is 2
 abbrev pub carry_passed : ℕ
 carry_passed = 2
-
--- the paper's number and place for each answer
-abbrev pub carry_verdict : Result ℕ Refusal → Verdict
-carry_verdict (Ok carry) = Verdict.passes
-carry_verdict (Err refusal) = verdict_of refusal

@@ -2,8 +2,7 @@
 // answer in another. The table of steps is laid out once for all of them.
 ghost use Rattle.std.specs.Prelude.{◌≡◌, ◌≤◌, length};
 ghost use Rattle.text.specs.Placed.{written};
-ghost use Rattle.refusal.specs.Table.{number_told};
-ghost use Rattle.check_characters.specs.Number.{number_verdict};
+ghost use Rattle.refusal.specs.Table.{number_told, verdict_on};
 ghost use Rattle.check_characters.specs.Day.{how_many, day_answers, ChecksDay};
 
 use crate::number::Kind;
@@ -49,7 +48,7 @@ fn check_each(numbers: &[u8], answers: &mut [u8])
 
 // The byte of an answer: 0, or the refusal's number.
 fn answer_byte(answer: Result<Kind, Refusal>) -> u8
-    ensures { result ≡ number_told (number_verdict answer) }
+    ensures { result ≡ number_told (verdict_on answer) }
 {
     match answer {
         Ok(_) => 0,

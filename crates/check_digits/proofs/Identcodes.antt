@@ -15,7 +15,7 @@ use lib.Seq.{take-suc, take_all}
 use borrow.Author.Tests.{eqb-true, eq-eqb, ne_eqb, lt-ltb, le-ltb, ltb-false, not-false}
 use Rattle.refusal.specs.declared.Reason.TheVariants.{WrongLength, WrongSymbol, WrongCheck}
 use Rattle.refusal.specs.declared.Refusal.{Refusal}
-use Rattle.refusal.specs.Table.{because}
+use Rattle.refusal.specs.Table.{because, verdict_on}
 use Rattle.refusal.proofs.Verdicts.{no_pass}
 use Rattle.std.specs.Prelude.{if◌then◌else◌, ⊤, Result, Ok, Err}
 use Rattle.text.specs.Byte.{digit}
@@ -24,7 +24,7 @@ use Rattle.text.proofs.Bytes.{digit_range}
 use Rattle.text.proofs.Numbers.{eq_or_ne}
 use Rattle.text.proofs.Scans.{none_fails}
 use Rattle.check_characters.specs.Symbol.{value_of, symbol_of}
-use Rattle.check_characters.specs.Answer.{room_for, check_verdict}
+use Rattle.check_characters.specs.Answer.{room_for}
 use Rattle.check_digits.specs.Identcode.{allowed_in_identcode, position, parts, wrong_in_identcode, weight_at}
 use Rattle.check_digits.specs.Identcode.{weighed_from, weighed, check_digit, check_digit_of, passes}
 use Rattle.check_digits.specs.Identcode.{checked_identcode, parts_where, parts_answer, issue_identcode_answer}
@@ -165,9 +165,9 @@ accepted_whole s e =
     let wrong = ltb (wrong_in_identcode s) (length s) in
     let tail = if passes s then Ok tt else Err (because WrongCheck (length s - 1)) in
     let a = came_else (not (eqb (length s) 22)) (Err (because WrongLength 0))
-    (if wrong then Err (because WrongSymbol (wrong_in_identcode s)) else tail) (Ok tt) (no_pass check_verdict refl refl) e in
-    let b = came_else wrong (Err (because WrongSymbol (wrong_in_identcode s))) tail (Ok tt) (no_pass check_verdict refl refl) a.1 in
-    let c = came_then (passes s) (Ok tt) (Err (because WrongCheck (length s - 1))) (Ok tt) (no_pass check_verdict refl refl) b.1 in
+    (if wrong then Err (because WrongSymbol (wrong_in_identcode s)) else tail) (Ok tt) (no_pass verdict_on refl refl) e in
+    let b = came_else wrong (Err (because WrongSymbol (wrong_in_identcode s))) tail (Ok tt) (no_pass verdict_on refl refl) a.1 in
+    let c = came_then (passes s) (Ok tt) (Err (because WrongCheck (length s - 1))) (Ok tt) (no_pass verdict_on refl refl) b.1 in
     record {
       long = eqb-true (length s) 22 (not-false (eqb (length s) 22) a.0);
       fine = ltb-false (wrong_in_identcode s) (length s) b.0;

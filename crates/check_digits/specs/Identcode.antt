@@ -100,8 +100,3 @@ issue_identcode_answer body room =
 abbrev pub IssuesIdentcode : List ℕ → List ℕ → Result ℕ Refusal → List ℕ → Type 0
 IssuesIdentcode body output answer after =
     (answer ≡ issue_identcode_answer body (length output)) × (after ≡ issued_to answer body (check_digit_of body) output)
-
--- the paper's number and place for each answer
-abbrev pub parts_verdict : Result Parts Refusal → Verdict
-parts_verdict (Ok found) = Verdict.passes
-parts_verdict (Err refusal) = verdict_of refusal

@@ -1,13 +1,13 @@
 -- Document 01, "Marked, to be proved", and 'The program and its cases': the marked cases as one list.
 use Rattle.std.specs.Prelude.{ℕ, ◌≡◌, Bool, true, false, List, [], ◌∷◌, ◌++◌, map, replicate, Result, Ok, Err}
 use Prim.Native.String.{String}
-use Rattle.refusal.specs.Table.{because, Verdict}
+use Rattle.refusal.specs.Table.{because, Verdict, verdict_on}
 use Rattle.refusal.specs.declared.Reason.TheVariants.{UnknownRecord, FieldCount, FieldEmpty, FieldForm, FileEnds, ContactMissing, CountriesOdd}
 use Rattle.text.specs.Quoted.{bytes}
 use Rattle.forms.specs.Amount.{amount}
 use Rattle.forms.specs.Date.{date_time}
-use Rattle.check_characters.specs.Answer.{check_verdict, issued_to}
-use Rattle.check_characters.specs.Number.{number_verdict, checked_number}
+use Rattle.check_characters.specs.Answer.{issued_to}
+use Rattle.check_characters.specs.Number.{checked_number}
 use Rattle.check_characters.specs.Iban.{checked_iban}
 use Rattle.check_digits.specs.Identcode.{check_digit_of, checked_identcode, parts_answer, issue_identcode_answer}
 use Rattle.slips.specs.Exactly.{digits_in, in_order}
@@ -81,13 +81,13 @@ pub data Case : Type 0 where
   issued : String → String → Case
 
 abbrev pub Holds : Case → Type 0
-Holds (number text verdict) = number_verdict (checked_number (bytes text)) ≡ verdict
-Holds (iban text verdict) = check_verdict (checked_iban (bytes text)) ≡ verdict
+Holds (number text verdict) = verdict_on (checked_number (bytes text)) ≡ verdict
+Holds (iban text verdict) = verdict_on (checked_iban (bytes text)) ≡ verdict
 Holds (money text holds) = amount (bytes text) ≡ holds
 Holds (date text holds) = date_time (bytes text) ≡ holds
 Holds (file input countries answer starts) = judged input (lent_with countries) ≡ record { answer = answer; starts = starts }
 Holds (purpose input n text) = purpose_of input n (lent_with "") ≡ bytes text
-Holds (identcode text verdict) = check_verdict (checked_identcode (bytes text)) ≡ verdict
+Holds (identcode text verdict) = verdict_on (checked_identcode (bytes text)) ≡ verdict
 Holds (parts text pieces) = pieces_of (bytes text) (parts_answer (bytes text)) ≡ map bytes pieces
 Holds (issued body text) = issued_to (issue_identcode_answer (bytes body) 22) (bytes body) (check_digit_of (bytes body)) (replicate 22 0) ≡ bytes text
 

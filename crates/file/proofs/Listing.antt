@@ -8,7 +8,7 @@ use lib.Dec.{ltb}
 use lib.ListN.{length, length-append}
 use Rattle.std.specs.Prelude.{if◌then◌else◌, Result, Ok, Err}
 use Rattle.refusal.specs.declared.Reason.TheVariants.{FileTooLong, FileEnds, CountriesOdd}
-use Rattle.refusal.specs.Table.{because}
+use Rattle.refusal.specs.Table.{because, verdict_on}
 use Rattle.refusal.specs.declared.Refusal.{Refusal}
 use Rattle.refusal.proofs.Verdicts.{no_pass}
 use Rattle.countries.specs.List.{is_paired}
@@ -16,7 +16,7 @@ use Rattle.records.specs.Record.{may_end}
 use Rattle.file.specs.Lent.{Lent}
 use Rattle.file.specs.Version.{version_of}
 use Rattle.file.specs.Step.{step_answer}
-use Rattle.file.specs.File.{Judged, begin, passed, ended, on_step, file_from, judged, file_verdict}
+use Rattle.file.specs.File.{Judged, begin, passed, ended, on_step, file_from, judged}
 use Rattle.file.specs.declared.step.State.{State}
 use Rattle.file.specs.declared.whole.Totals.{Totals}
 use Rattle.file.proofs.Lists.{word_left}
@@ -32,8 +32,8 @@ record Listed (lent : Lent) (j : Judged) : Type 0 where
 module _ (lent : Lent) where
   refused : (refusal : Refusal) → Listed lent (record { answer = Err refusal; starts = [] })
   refused refusal = record {
-    counted = λ t e. absurd (no_pass file_verdict refl refl e);
-    fits = λ t e. absurd (no_pass file_verdict refl refl e);
+    counted = λ t e. absurd (no_pass verdict_on refl refl e);
+    fits = λ t e. absurd (no_pass verdict_on refl refl e);
     none = λ r e. refl;
   }
 
@@ -41,7 +41,7 @@ module _ (lent : Lent) where
   accepted starts state long room = record {
     counted = λ t e. let l : state.lines ≡ t.lines = cc in long ∙ l;
     fits = λ t e. let l : state.lines ≡ t.lines = cc in omega (arith, l, room);
-    none = λ r e. absurd (no_pass file_verdict refl refl (sym e));
+    none = λ r e. absurd (no_pass verdict_on refl refl (sym e));
   }
 
   either : (t : Bool) (a b : Judged) → Listed lent a → Listed lent b → Listed lent (if t then a else b)

@@ -62,8 +62,3 @@ list_of words starts = starts ++ replicate (words - length starts) 0
 -- the answer and the list that judging allows
 abbrev pub Judges : List ℕ → Lent → Result Totals Refusal → List ℕ → Type 0
 Judges file lent answer list = (answer ≡ (judged file lent).answer) × (list ≡ list_of lent.words (judged file lent).starts)
-
--- the paper's number and place for each answer
-abbrev pub file_verdict : Result Totals Refusal → Verdict
-file_verdict (Ok totals) = Verdict.passes
-file_verdict (Err refusal) = verdict_of refusal

@@ -13,7 +13,7 @@ use Rattle.std.specs.Prelude.{if◌then◌else◌, ⊤, Option, Some, None, Resu
 use Rattle.text.specs.Placed.{written}
 use Rattle.text.proofs.Choices.{and_both, came_then, came_else}
 use Rattle.refusal.specs.declared.Reason.TheVariants.{FieldCount, FeatureLacks, OutputTooShort, FieldEnds}
-use Rattle.refusal.specs.Table.{because}
+use Rattle.refusal.specs.Table.{because, verdict_on}
 use Rattle.refusal.proofs.Verdicts.{no_pass}
 use Rattle.fields.specs.Profile.{Row, Rules, profile}
 use Rattle.records.specs.Version.{version_numbered, UnderVersion}
@@ -31,7 +31,7 @@ use Rattle.line.specs.Find.{field_answer, find_answer}
 use Rattle.fields.proofs.Rules.{sound}
 use Rattle.records.proofs.Versions.{under_is, under_passes}
 use Rattle.writer.specs.Write.{record_numbered, rises_to, ends_hold, fields_from, between, tested_to_write, next_number, walked, of_fields}
-use Rattle.writer.specs.Write.{after_walk, write_verdict}
+use Rattle.writer.specs.Write.{after_walk}
 use Rattle.writer.specs.Write.{of_record, answer_under, write_answer, written_to, Writes}
 use Rattle.writer.proofs.Ends.{between_count}
 use Rattle.writer.proofs.Walks.{test_passes, passes_test}
@@ -59,29 +59,29 @@ fields_walked rows n beside (f ∷ fs) g =
 module _ (rules : Rules) (number : ℕ) (text ends : List ℕ) (size fill n : ℕ) where
   wrote : (nd : Option Record) → record_numbered number ≡ nd → of_record rules nd text ends size fill ≡ Ok n → Writable rules number text ends size fill n
   unfolding of_record of_fields
-  wrote None k e = absurd (no_pass write_verdict refl refl e)
+  wrote None k e = absurd (no_pass verdict_on refl refl e)
   wrote (Some kind) k e =
       let held = ends_hold ends (length text) in
       let fits = count_fits kind (length ends) in
       let w = walked (rules kind) 1 (type_of kind) (between text ends) in
       let after = after_walk w kind (between text ends) size fill in
       let a = came_else (not held) (Err (because FieldEnds 0)) (if not fits then Err (because FieldCount 0) else after)
-      (Ok n) (no_pass write_verdict refl refl) e in
-      let b = came_else (not fits) (Err (because FieldCount 0)) after (Ok n) (no_pass write_verdict refl refl) a.1 in
+      (Ok n) (no_pass verdict_on refl refl) e in
+      let b = came_else (not fits) (Err (because FieldCount 0)) after (Ok n) (no_pass verdict_on refl refl) a.1 in
       go w refl (not-false held a.0) (not-false fits b.0) b.1
     where
       go :
           (w : Result ⊤ Refusal) → walked (rules kind) 1 (type_of kind) (between text ends) ≡ w → ends_hold ends (length text) ≡ true →
           count_fits kind (length ends) ≡ true →
           after_walk w kind (between text ends) size fill ≡ Ok n → Writable rules number text ends size fill n
-      go (Err refusal) ew eh ec e = absurd (no_pass write_verdict refl refl e)
+      go (Err refusal) ew eh ec e = absurd (no_pass verdict_on refl refl e)
       go (Ok tt) ew eh ec e =
           let line = render kind (between text ends) in
           let room = if leb (fill + length line) size then Ok (length line) else Err (because OutputTooShort 0) in
           let a = came_else (lacks kind (type_of kind ∷ between text ends)) (Err (because FeatureLacks 0)) room (Ok n)
-          (no_pass write_verdict refl refl) e in
+          (no_pass verdict_on refl refl) e in
           let b = came_then (leb (fill + length line) size) (Ok (length line)) (Err (because OutputTooShort 0)) (Ok n)
-          (no_pass write_verdict refl refl)
+          (no_pass verdict_on refl refl)
           a.1 in
           record {
             kind = kind;
@@ -160,7 +160,7 @@ pub reads_back :
 unfolding written_to write_answer
 reads_back told number text ends out fill n after g =
     let u = under_passes told Err (λ version. answer_under (profile version) number text ends (length out) fill) (Ok n)
-    (no_pass write_verdict refl refl) (sym g.0) in
+    (no_pass verdict_on refl refl) (sym g.0) in
     let w = (written_exactly (profile u.0) number text ends (length out) fill n).0 u.1.1 in
     let line = render w.kind (between text ends) in
     let e : after ≡ written out fill line = g.1 ∙ ap (λ (nd : Option Record). written_to (Ok n) nd (between text ends) out fill) w.known in

@@ -11,7 +11,7 @@ use borrow.Author.Tests.{le-ltb, lt-ltb, eq-eqb, ne_eqb}
 use Rattle.text.specs.Quoted.{bytes}
 use Rattle.text.proofs.Numbers.{le_or_lt}
 use Rattle.refusal.specs.declared.Reason.TheVariants.{NotThere}
-use Rattle.refusal.specs.Table.{because}
+use Rattle.refusal.specs.Table.{because, verdict_on}
 use Rattle.refusal.specs.declared.Refusal.{Refusal}
 use Rattle.refusal.proofs.Verdicts.{no_pass}
 use Rattle.records.specs.Record.{type_of}
@@ -20,7 +20,7 @@ use Rattle.line.specs.declared.find.Span.{Span}
 use Rattle.line.specs.Parts.{start_in, start_of, fields_of, field_no}
 use Rattle.line.specs.Render.{joined, text_of}
 use Rattle.line.specs.Line.{text_at, line_answer, alone}
-use Rattle.line.specs.Find.{in_line, field_answer, field_verdict}
+use Rattle.line.specs.Find.{in_line, field_answer}
 use Rattle.line.specs.Told.{Told}
 use Rattle.line.specs.declared.read.Line.{Line}
 use Rattle.grammar.specs.Grammar.{Reads, FieldStands, StandsInLine}
@@ -97,8 +97,8 @@ module _ {told : Told} {s : List ℕ} {at : ℕ} {line : Line} {fs : List (List 
       found_finds e =
           ⊎_elim
           (λ (l : 1 ≤ n). ⊎_elim (λ (m : n ≤ length fs). go l m (sym (found l m) ∙ e))
-          (λ m. absurd (no_pass field_verdict refl refl (sym (field_not_there (λ x y. omega arith)) ∙ e))) (le_or_lt n (length fs)))
-          (λ l. absurd (no_pass field_verdict refl refl (sym (field_not_there (λ x y. omega arith)) ∙ e)))
+          (λ m. absurd (no_pass verdict_on refl refl (sym (field_not_there (λ x y. omega arith)) ∙ e))) (le_or_lt n (length fs)))
+          (λ l. absurd (no_pass verdict_on refl refl (sym (field_not_there (λ x y. omega arith)) ∙ e)))
           (le_or_lt 1 n)
         where
           go : 1 ≤ n → n ≤ length fs →
@@ -131,5 +131,5 @@ found_exactly rules s at n start long = (λ e. go (line_answer (alone rules) s a
   where
     go : (a : Result Line Refusal) → line_answer (alone rules) s at ≡ a → field_answer rules s at n ≡ Ok (record { start = start; long = long }) →
         StandsInLine rules s at n start long
-    go (Err refusal) q e = absurd (no_pass field_verdict refl refl (sym (field_refused rules s at n refusal q) ∙ e))
+    go (Err refusal) q e = absurd (no_pass verdict_on refl refl (sym (field_refused rules s at n refusal q) ∙ e))
     go (Ok line) q e = let g = accepted_reads (alone rules) s at line q in (line, (fields_of (text_at s at), (g, found_finds g n start long e)))

@@ -13,7 +13,7 @@ use Rattle.std.specs.Prelude.{if◌then◌else◌, ⊤, Option, Some, None, Resu
 use Rattle.text.proofs.Choices.{came_else}
 use Rattle.text.proofs.Runs.{first_least, first_most}
 use Rattle.refusal.specs.declared.Reason.TheVariants.{FileTooLong, NoLineEnd, OutOfOrder, FieldCount, FeatureLacks}
-use Rattle.refusal.specs.Table.{because}
+use Rattle.refusal.specs.Table.{because, verdict_on}
 use Rattle.refusal.proofs.Verdicts.{no_pass}
 use Rattle.records.specs.Record.{named, count_fits, may_come}
 use Rattle.records.specs.declared.record.Record.{Record}
@@ -23,7 +23,7 @@ use Rattle.line.specs.Render.{joined, text_of, render}
 use Rattle.line.specs.Walk.{walk}
 use Rattle.line.specs.Need.{lacks}
 use Rattle.line.specs.Line.{line_end, ends_well, text_at, after_walk, of_kind, of_named, of_text, text_answer, on_text, line_answer}
-use Rattle.line.specs.Line.{text_verdict, line_verdict, file_limit}
+use Rattle.line.specs.Line.{file_limit}
 use Rattle.line.specs.declared.read.Line.{Line}
 use Rattle.line.specs.Told.{Told}
 use Rattle.line.proofs.Splits.{join_split}
@@ -54,17 +54,17 @@ module _ (told : Told) (at : ℕ) (line : List ℕ) (l : Line) where
   kind_ok kind en ec e =
       let fits = count_fits kind (length (fields_of line)) in
       let w = walk (told.rules kind) 1 (at + length (name_of line) + 1) (name_of line) (fields_of line) in
-      let a = came_else (not fits) (Err (because FieldCount at)) (after_walk w kind at line) (Ok l) (no_pass line_verdict refl refl) e in
+      let a = came_else (not fits) (Err (because FieldCount at)) (after_walk w kind at line) (Ok l) (no_pass verdict_on refl refl) e in
       after w refl (not-false fits a.0) a.1
     where
       after :
           (w : Result ⊤ Refusal) → walk (told.rules kind) 1 (at + length (name_of line) + 1) (name_of line) (fields_of line) ≡ w →
           count_fits kind (length (fields_of line)) ≡ true →
           after_walk w kind at line ≡ Ok l → TextOk told at line l
-      after (Err refusal) ew ef ea = absurd (no_pass line_verdict refl refl ea)
+      after (Err refusal) ew ef ea = absurd (no_pass verdict_on refl refl ea)
       after (Ok tt) ew ef ea =
           let b = came_else (lacks kind (split line)) (Err (because FeatureLacks at))
-          (Ok (record { kind = kind; count = length (fields_of line); next = at + length line + 2 })) (Ok l) (no_pass line_verdict refl refl) ea in
+          (Ok (record { kind = kind; count = length (fields_of line); next = at + length line + 2 })) (Ok l) (no_pass verdict_on refl refl) ea in
           let same : record { kind = kind; count = length (fields_of line); next = at + length line + 2 } ≡ l = cc in
           let k : kind ≡ l.kind = ap (λ (x : Line). x.kind) same in
           record {
@@ -79,10 +79,10 @@ module _ (told : Told) (at : ℕ) (line : List ℕ) (l : Line) where
 
   named_ok : (nd : Option Record) → named (name_of line) ≡ nd → of_named nd told at line ≡ Ok l → TextOk told at line l
   unfolding of_named
-  named_ok None en e = absurd (no_pass line_verdict refl refl e)
+  named_ok None en e = absurd (no_pass verdict_on refl refl e)
   named_ok (Some kind) en e =
       let a = came_else (not (may_come told.due kind)) (Err (because OutOfOrder at)) (of_kind told.rules kind at line) (Ok l)
-      (no_pass line_verdict refl refl) e in
+      (no_pass verdict_on refl refl) e in
       kind_ok kind en (not-false (may_come told.due kind) a.0) a.1
 
   pub text_ok : of_text told at line ≡ Ok l → TextOk told at line l
@@ -103,9 +103,9 @@ text_ends s at end e =
     let found = if not well then Err (because NoLineEnd (line_end s at)) else Ok (line_end s at) in
     let a = came_else (ltb file_limit (length s)) (Err (because FileTooLong file_limit)) (if ltb (length s)
     at then Err (because NoLineEnd (length s)) else found)
-    (Ok end) (no_pass text_verdict refl refl) e in
-    let b = came_else (ltb (length s) at) (Err (because NoLineEnd (length s))) found (Ok end) (no_pass text_verdict refl refl) a.1 in
-    let c = came_else (not well) (Err (because NoLineEnd (line_end s at))) (Ok (line_end s at)) (Ok end) (no_pass text_verdict refl refl) b.1 in
+    (Ok end) (no_pass verdict_on refl refl) e in
+    let b = came_else (ltb (length s) at) (Err (because NoLineEnd (length s))) found (Ok end) (no_pass verdict_on refl refl) a.1 in
+    let c = came_else (not well) (Err (because NoLineEnd (line_end s at))) (Ok (line_end s at)) (Ok end) (no_pass verdict_on refl refl) b.1 in
     record {
       short = ltb-false file_limit (length s) a.0;
       inside = ltb-false (length s) at b.0;
@@ -118,7 +118,7 @@ unfolding line_answer
 line_ok told s at l e = go (text_answer s at) refl e
   where
     go : (a : Result ℕ Refusal) → text_answer s at ≡ a → on_text a told s at ≡ Ok l → LineAt told s at l
-    go (Err refusal) q e = absurd (no_pass line_verdict refl refl e)
+    go (Err refusal) q e = absurd (no_pass verdict_on refl refl e)
     go (Ok end) q e =
         let t = text_ends s at end q in
         record { short = t.short; inside = t.inside; well = t.well; text = rw t.is at (text_ok told at (take (end - at) (drop at s)) l e) }

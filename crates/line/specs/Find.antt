@@ -27,8 +27,3 @@ field_answer rules file offset n = in_line (line_answer (alone rules) file offse
 -- "Line calls are told the version"
 unfoldable pub find_answer : ℕ → List ℕ → ℕ → ℕ → Result Span Refusal
 find_answer version file offset n = under_version (version_numbered version) Err (λ told. field_answer (profile told) file offset n)
-
--- the paper's number and place for each answer
-abbrev pub field_verdict : Result Span Refusal → Verdict
-field_verdict (Ok span) = Verdict.passes
-field_verdict (Err refusal) = verdict_of refusal

@@ -77,12 +77,3 @@ line_answer told file offset = on_text (text_answer file offset) told file offse
 -- "Line calls are told the version"
 unfoldable pub read_answer : ℕ → List ℕ → ℕ → Result Line Refusal
 read_answer version file offset = under_version (version_numbered version) Err (λ told. line_answer (alone (profile told)) file offset)
-
--- the paper's number and place for each answer
-abbrev pub text_verdict : Result ℕ Refusal → Verdict
-text_verdict (Ok end) = Verdict.passes
-text_verdict (Err refusal) = verdict_of refusal
-
-abbrev pub line_verdict : Result Line Refusal → Verdict
-line_verdict (Ok line) = Verdict.passes
-line_verdict (Err refusal) = verdict_of refusal

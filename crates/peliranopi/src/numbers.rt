@@ -1,6 +1,6 @@
 // The calls on DPD numbers and their carry, IBANs and identcodes.
+ghost use Rattle.refusal.specs.Table.{verdict_on};
 ghost use Rattle.std.specs.Prelude.{◌≡◌};
-ghost use Rattle.check_characters.specs.Answer.{check_verdict, issue_verdict};
 ghost use Rattle.peliranopi.specs.Told.{kind_number, issued_told, as_numbers};
 ghost use Rattle.peliranopi.specs.Calls.{Tells, NumberTells, IssueTells, CarryTells, IbanTells, IdentcodeTells, PartsTells};
 ghost use Rattle.peliranopi.specs.Calls.{DayTells, IssueIdentcodeTells};
@@ -117,7 +117,7 @@ pub fn peliranopi_issue_identcode(
 
 // What checking a number tells.
 fn tell_checked(answer: Result<(), Refusal>, place: &mut usize) -> u32
-    ensures { Tells (check_verdict answer) result place.new }
+    ensures { Tells (verdict_on answer) result place.new }
 {
     match answer {
         Ok(()) => tell::accepted(place),
@@ -127,7 +127,7 @@ fn tell_checked(answer: Result<(), Refusal>, place: &mut usize) -> u32
 
 // What issuing a number tells.
 fn tell_issued(answer: Result<usize, Refusal>, written: &mut usize, place: &mut usize) -> u32
-    ensures { Tells (issue_verdict answer) result place.new × (written.new ≡ issued_told answer) }
+    ensures { Tells (verdict_on answer) result place.new × (written.new ≡ issued_told answer) }
 {
     match answer {
         Ok(bytes) => {

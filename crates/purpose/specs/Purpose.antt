@@ -65,8 +65,3 @@ Purposes file n lent output answer list after =
     (answer ≡ purpose_answer file n lent (length output))
     × (list ≡ list_after answer lent.words (judged file lent).starts)
     × (after ≡ output_after answer (purpose_of file n lent) output)
-
--- the paper's number and place for each answer
-abbrev pub purpose_verdict : Result ℕ Refusal → Verdict
-purpose_verdict (Ok n) = Verdict.passes
-purpose_verdict (Err refusal) = verdict_of refusal

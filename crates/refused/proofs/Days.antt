@@ -10,14 +10,14 @@ use lib.Dec.{eqb, ltb}
 use lib.ListN.{length, take, drop, get_or, length-append, length-drop, get_or-append}
 use lib.Seq.{ext_get_or, get_or-append-add, get_or-drop, length-take-le, drop-append-add}
 use borrow.Author.Tests.{ltb-true, ltb-false, eqb-true, eqb-false, not-true, not-false}
-use Rattle.refusal.specs.Table.{because, number_of, number_told}
+use Rattle.refusal.specs.Table.{because, number_of, number_told, verdict_on}
 use Rattle.refusal.specs.declared.Refusal.{Refusal}
 use Rattle.refusal.specs.declared.Reason.TheVariants.{OutputTooShort, WrongLength, WrongSymbol, WrongCheck}
 use Rattle.refusal.proofs.Verdicts.{no_pass}
 use Rattle.text.specs.Placed.{written}
 use Rattle.text.proofs.Choices.{choice, true_or_false}
-use Rattle.check_characters.specs.Number.{checked_number, number_verdict}
-use Rattle.check_characters.specs.Day.{number_at, how_many, day_answers, zeros, day_answer, answers_after, ChecksDay, day_verdict}
+use Rattle.check_characters.specs.Number.{checked_number}
+use Rattle.check_characters.specs.Day.{number_at, how_many, day_answers, zeros, day_answer, answers_after, ChecksDay}
 use Rattle.check_characters.specs.declared.number.Kind.{Kind}
 use Rattle.check_characters.specs.declared.number.Kind.TheVariants.{Tracking, Label}
 use Rattle.check_characters.proofs.Days.{number_front, answers_long, answer_at, number_inside, front, day_length, day_short, day_answered}
@@ -30,7 +30,7 @@ use Rattle.std.specs.Prelude.{Result, Ok, Err}
 
 -- the byte of a number's answer alone
 abbrev alone : List ℕ → ℕ
-alone number = number_told (number_verdict (checked_number number))
+alone number = number_told (verdict_on (checked_number number))
 
 module _ (s : List ℕ) (long : length s ≡ 15) where
   sound_byte : (kind : Kind) → SoundNumber kind s → AnswerByte s 0
@@ -48,12 +48,12 @@ module _ (s : List ℕ) (long : length s ≡ 15) where
   pub byte_means : AnswerByte s (alone s)
   byte_means = go (checked_number s) refl
     where
-      go : (a : Result Kind Refusal) → checked_number s ≡ a → AnswerByte s (number_told (number_verdict a))
+      go : (a : Result Kind Refusal) → checked_number s ≡ a → AnswerByte s (number_told (verdict_on a))
       go (Ok kind) e = sound_byte kind (accepted_sound kind s e)
       go (Err refusal) e = refused_byte refusal ((number_refused_exactly s refusal).0 e)
 
-  by : (a : Result Kind Refusal) → checked_number s ≡ a → number_told (number_verdict a) ≡ alone s
-  by a e = sym (ap (λ (x : Result Kind Refusal). number_told (number_verdict x)) e)
+  by : (a : Result Kind Refusal) → checked_number s ≡ a → number_told (verdict_on a) ≡ alone s
+  by a e = sym (ap (λ (x : Result Kind Refusal). number_told (verdict_on x)) e)
 
   -- and no other byte does
   pub means_byte : (b : ℕ) → AnswerByte s b → b ≡ alone s
@@ -124,9 +124,9 @@ module _ (numbers answers after : List ℕ) where
     unfolding day_answer answers_after
     day_answers_lem (p, q) =
         choice (not (eqb (length numbers % 15) 0)) (Err (because WrongLength 0)) _ (Ok passed)
-        (λ t e. absurd (no_pass day_verdict refl refl e))
+        (λ t e. absurd (no_pass verdict_on refl refl e))
         (λ t. choice (ltb (length answers) (how_many numbers)) (Err (because OutputTooShort 0)) (Ok (zeros (day_answers numbers)))
-        (Ok passed) (λ u e. absurd (no_pass day_verdict refl refl e))
+        (Ok passed) (λ u e. absurd (no_pass verdict_on refl refl e))
         (λ u e. let same : passed ≡ zeros (day_answers numbers) = cc in
         answered (eqb-true (length numbers % 15) 0 (not-false (eqb (length numbers % 15) 0) t))
         (ltb-false (length answers) (how_many numbers) u) same q)) (sym p)
@@ -158,7 +158,7 @@ module _ (numbers answers after : List ℕ) where
     day_exactly = (day_answers_lem, answers_day)
 
     pub each_alone : (i : ℕ) → i < how_many numbers → ChecksDay numbers answers (Ok passed) after →
-        get_or after i 0 ≡ number_told (number_verdict (checked_number (number_at numbers i)))
+        get_or after i 0 ≡ number_told (verdict_on (checked_number (number_at numbers i)))
     unfolding answers_after
     each_alone i h (p, q) = ap (λ (a : List ℕ). get_or a i 0) q ∙ at_front numbers answers i h
 
@@ -178,7 +178,7 @@ module _ (numbers answers after : List ℕ) where
         (Err refusal)
         (λ u e. is (because OutputTooShort 0)
         (RefusedDay.too_short (how_many numbers) (multiple numbers m) (ltb-true (length answers) (how_many numbers) u)) e)
-        (λ u e. absurd (no_pass day_verdict refl refl (sym e)))) (sym p)
+        (λ u e. absurd (no_pass verdict_on refl refl (sym e)))) (sym p)
 
   refuses_day : (refusal : Refusal) → RefusedDay numbers (length answers) refusal → Err refusal ≡ day_answer numbers (length answers)
   refuses_day refusal (RefusedDay.wrong_length n) = day_length numbers (length answers) (λ m. n (how_many numbers) (multiple numbers m))
@@ -207,7 +207,7 @@ module _ (numbers answers : List ℕ) where
   pub day_never_both : (passed : ℕ) (after : List ℕ) (refusal : Refusal) →
       AnsweredDay numbers answers passed after → RefusedDay numbers (length answers) refusal → ⊥
   day_never_both passed after refusal g r =
-      no_pass day_verdict refl refl (refuses_day numbers answers after refusal r ∙ sym ((day_exactly numbers answers after passed).1 g).0)
+      no_pass verdict_on refl refl (refuses_day numbers answers after refusal r ∙ sym ((day_exactly numbers answers after passed).1 g).0)
 
 -- a day in two pieces
 module _ (first rest : List ℕ) (many : ℕ) (whole : length first ≡ 15 * many) where

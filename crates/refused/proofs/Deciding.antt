@@ -1,4 +1,5 @@
 -- The judge answers exactly what the file's own lines mean: every file is allowed or refused, never both, and refused in one way only.
+use Rattle.refusal.specs.Table.{verdict_on}
 use Prim.Native.Nat.{ℕ, ◌≤◌}
 use mathlib.Core.Path.{◌≡◌, refl, sym, ap, subst, ◌∙◌}
 use mathlib.Core.Bool.{true}
@@ -14,7 +15,7 @@ use Rattle.records.specs.declared.record.Due.{Due}
 use Rattle.records.specs.declared.record.Due.TheVariants.{First, After}
 use Rattle.file.specs.Lent.{Lent}
 use Rattle.file.specs.Version.{version_of}
-use Rattle.file.specs.File.{Judged, judged, list_of, Judges, file_verdict}
+use Rattle.file.specs.File.{Judged, judged, list_of, Judges}
 use Rattle.allowed.specs.Allowed.{FileLine, file_bytes, LinesOk, AllowedFile, InOrder, totals_of, line_starts}
 use Rattle.allowed.proofs.Files.{accepted_allowed, allowed_accepted}
 use Rattle.allowed.proofs.Versions.{version_on_lem, version_found}
@@ -59,7 +60,7 @@ module _ (s : List ℕ) (lent : Lent) where
   never_both ls refusal a room r =
       let g = (judge_exactly (Ok (totals_of ls)) (list_of lent.words (line_starts 0 ls))).1
       (record { lines = ls; allowed = a; room = room; counts = refl; starts = refl }) in
-      no_pass file_verdict refl refl (sym (refused_judged s lent refusal r) ∙ sym g.0)
+      no_pass verdict_on refl refl (sym (refused_judged s lent refusal r) ∙ sym g.0)
 
   pub one_refusal : (refusal other : Refusal) → RefusedFile s lent refusal → RefusedFile s lent other → refusal ≡ other
   one_refusal refusal other r q =

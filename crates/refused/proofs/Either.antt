@@ -1,12 +1,12 @@
 -- Whatever is asked for, it passes or it is refused, never both: a line, a field, a writing, a number, an IBAN.
+use Rattle.refusal.specs.Table.{verdict_on}
 use Prim.Native.Nat.{ℕ}
 use mathlib.Core.Path.{◌≡◌, refl, sym, ◌∙◌}
 use mathlib.Core.List.{List}
 use mathlib.Core.Logic.{◌⊎◌, inl, inr}
 use Rattle.refusal.specs.declared.Refusal.{Refusal}
 use Rattle.refusal.proofs.Verdicts.{no_pass}
-use Rattle.check_characters.specs.Number.{checked_number, number_verdict}
-use Rattle.check_characters.specs.Answer.{check_verdict}
+use Rattle.check_characters.specs.Number.{checked_number}
 use Rattle.check_characters.specs.Iban.{checked_iban}
 use Rattle.check_characters.specs.declared.number.Kind.{Kind}
 use Rattle.slips.specs.Exactly.{SoundNumber, SoundIban}
@@ -14,10 +14,10 @@ use Rattle.slips.proofs.Numbers as numbers
 use Rattle.slips.proofs.Ibans as ibans
 use Rattle.fields.specs.Profile.{Rules}
 use Rattle.line.specs.Told.{Told}
-use Rattle.line.specs.Line.{line_answer, line_verdict}
-use Rattle.line.specs.Find.{field_answer, field_verdict}
+use Rattle.line.specs.Line.{line_answer}
+use Rattle.line.specs.Find.{field_answer}
 use Rattle.line.specs.declared.read.Line.{Line}
-use Rattle.writer.specs.Write.{answer_under, write_verdict}
+use Rattle.writer.specs.Write.{answer_under}
 use Rattle.grammar.specs.Grammar.{Reads, StandsInLine}
 use Rattle.grammar.specs.Written.{Writable}
 use Rattle.grammar.proofs.Lines.{line_exactly}
@@ -46,7 +46,7 @@ module _ (told : Told) (s : List ℕ) (at : ℕ) where
 
   pub line_never_both : (refusal : Refusal) → Allowed → RefusedAt told s at refusal → ⊥
   line_never_both refusal g r =
-      no_pass line_verdict refl refl (sym ((line_refused_exactly told s at refusal).1 r) ∙ (line_exactly told s at g.0).1 g.1)
+      no_pass verdict_on refl refl (sym ((line_refused_exactly told s at refusal).1 r) ∙ (line_exactly told s at g.0).1 g.1)
 
 module _ (rules : Rules) (s : List ℕ) (at n : ℕ) where
   abbrev IsThere : ℕ → ℕ → Type 0
@@ -62,7 +62,7 @@ module _ (rules : Rules) (s : List ℕ) (at n : ℕ) where
 
   pub field_never_both : (start long : ℕ) (refusal : Refusal) → IsThere start long → RefusedFind rules s at n refusal → ⊥
   field_never_both start long refusal g r =
-      no_pass field_verdict refl refl (sym ((field_refused_exactly rules s at n refusal).1 r) ∙ (found_exactly rules s at n start long).1 g)
+      no_pass verdict_on refl refl (sym ((field_refused_exactly rules s at n refusal).1 r) ∙ (found_exactly rules s at n start long).1 g)
 
 module _ (rules : Rules) (number : ℕ) (text ends : List ℕ) (size fill : ℕ) where
   pub write_always_one : ((n : ℕ) × Writable rules number text ends size fill n) ⊎ ((refusal : Refusal) × RefusedWrite rules number text ends size fill refusal)
@@ -75,7 +75,7 @@ module _ (rules : Rules) (number : ℕ) (text ends : List ℕ) (size fill : ℕ)
 
   pub write_never_both : (n : ℕ) (refusal : Refusal) → Writable rules number text ends size fill n → RefusedWrite rules number text ends size fill refusal → ⊥
   write_never_both n refusal g r =
-      no_pass write_verdict refl refl (sym (write_answer_lem rules number text ends size fill refusal r) ∙ (written_exactly rules number text ends size fill n).1 g)
+      no_pass verdict_on refl refl (sym (write_answer_lem rules number text ends size fill refusal r) ∙ (written_exactly rules number text ends size fill n).1 g)
 
 module _ (s : List ℕ) where
   pub number_always_one : ((kind : Kind) × SoundNumber kind s) ⊎ ((refusal : Refusal) × RefusedNumber s refusal)
@@ -87,7 +87,7 @@ module _ (s : List ℕ) where
 
   pub number_never_both : (kind : Kind) (refusal : Refusal) → SoundNumber kind s → RefusedNumber s refusal → ⊥
   number_never_both kind refusal g r =
-      no_pass number_verdict refl refl (sym ((number_refused_exactly s refusal).1 r) ∙ numbers.sound_accepted kind s g)
+      no_pass verdict_on refl refl (sym ((number_refused_exactly s refusal).1 r) ∙ numbers.sound_accepted kind s g)
 
   pub iban_always_one : SoundIban s ⊎ ((refusal : Refusal) × RefusedIban s refusal)
   iban_always_one = go (checked_iban s) refl
@@ -97,4 +97,4 @@ module _ (s : List ℕ) where
       go (Err refusal) e = inr (refusal, (iban_refused_exactly s refusal).0 e)
 
   pub iban_never_both : (refusal : Refusal) → SoundIban s → RefusedIban s refusal → ⊥
-  iban_never_both refusal g r = no_pass check_verdict refl refl (sym ((iban_refused_exactly s refusal).1 r) ∙ ibans.sound_accepted s g)
+  iban_never_both refusal g r = no_pass verdict_on refl refl (sym ((iban_refused_exactly s refusal).1 r) ∙ ibans.sound_accepted s g)

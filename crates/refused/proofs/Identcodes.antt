@@ -9,13 +9,13 @@ use lib.Dec.{ltb, eqb}
 use lib.ListN.{length, get_or}
 use borrow.Author.Tests.{ltb-true, ltb-false, lt-ltb, le-ltb, eqb-true, eqb-false, eq-eqb, ne_eqb, not-true, not-false}
 use Rattle.text.proofs.Choices.{choice}
-use Rattle.refusal.specs.Table.{because}
+use Rattle.refusal.specs.Table.{because, verdict_on}
 use Rattle.refusal.specs.declared.Refusal.{Refusal}
 use Rattle.refusal.specs.declared.Reason.TheVariants.{OutputTooShort, WrongLength, WrongSymbol, WrongCheck}
 use Rattle.refusal.proofs.Verdicts.{no_pass}
-use Rattle.check_characters.specs.Answer.{room_for, issued_to, check_verdict, issue_verdict}
+use Rattle.check_characters.specs.Answer.{room_for, issued_to}
 use Rattle.check_digits.specs.Identcode.{allowed_in_identcode, wrong_in_identcode, check_digit_of, passes}
-use Rattle.check_digits.specs.Identcode.{checked_identcode, parts_where, parts_answer, parts_verdict}
+use Rattle.check_digits.specs.Identcode.{checked_identcode, parts_where, parts_answer}
 use Rattle.check_digits.specs.Identcode.{issue_identcode_answer, IssuesIdentcode}
 use Rattle.slips.specs.Exactly.{body_of, SoundIdentcode}
 use Rattle.slips.proofs.Shaping.{shaped_all, all_shaped}
@@ -46,7 +46,7 @@ module _ (s : List ℕ) where
       choice (ltb wrong (length s)) (Err (because WrongSymbol wrong)) _ (Err refusal)
       (λ u q. is (because WrongSymbol wrong) (RefusedIdentcode.wrong_symbol wrong n (wrong_there allowed_in_identcode s (ltb-true wrong (length s) u))) q)
       (λ u. choice (passes s) (Ok tt) (Err (because WrongCheck (length s - 1))) (Err refusal)
-      (λ v q. absurd (no_pass check_verdict refl refl (sym q)))
+      (λ v q. absurd (no_pass verdict_on refl refl (sym q)))
       (λ v q. is (because WrongCheck 21)
       (RefusedIdentcode.wrong_check n (shaped_all allowed_in_identcode s (ltb-false wrong (length s) u)) (open_check n v))
       (ap (λ (k : ℕ). Err (because WrongCheck k)) (omega arith) ∙ q)))) e
@@ -71,14 +71,14 @@ module _ (s : List ℕ) where
       go (Err refusal) e = inr (refusal, identcode_refused refusal e)
 
   pub identcode_never_both : (refusal : Refusal) → SoundIdentcode s → RefusedIdentcode s refusal → ⊥
-  identcode_never_both refusal g r = no_pass check_verdict refl refl (sym (refused_identcode refusal r) ∙ sound_accepted s g)
+  identcode_never_both refusal g r = no_pass verdict_on refl refl (sym (refused_identcode refusal r) ∙ sound_accepted s g)
 
 pub identcode_refused_exactly : (s : List ℕ) (refusal : Refusal) → (checked_identcode s ≡ Err refusal) ↔ RefusedIdentcode s refusal
 identcode_refused_exactly s refusal = (identcode_refused s refusal, refused_identcode s refusal)
 
 -- the parts are refused as the code is
 parts_refused : (a : Result ⊤ Refusal) (refusal : Refusal) → parts_where a ≡ Err refusal → a ≡ Err refusal
-parts_refused (Ok _) refusal e = absurd (no_pass parts_verdict refl refl (sym e))
+parts_refused (Ok _) refusal e = absurd (no_pass verdict_on refl refl (sym e))
 parts_refused (Err other) refusal e = let same : other ≡ refusal = cc in ap Err same
 
 pub parts_refused_exactly : (s : List ℕ) (refusal : Refusal) → (parts_answer s ≡ Err refusal) ↔ RefusedIdentcode s refusal
@@ -103,7 +103,7 @@ module _ (body : List ℕ) (room : ℕ) where
       (λ u. choice (ltb room 22) (Err (because OutputTooShort 0)) (Ok 22) (Err refusal)
       (λ v q. is (because OutputTooShort 0)
       (RefusedIdentcodeIssue.too_short n (shaped_all allowed_in_identcode body (ltb-false wrong (length body) u)) (ltb-true room 22 v)) q)
-      (λ v q. absurd (no_pass issue_verdict refl refl (sym q))))) e
+      (λ v q. absurd (no_pass verdict_on refl refl (sym q))))) e
     where
       is : (other : Refusal) → RefusedIdentcodeIssue body room other → ◌≡◌ {A = Result ℕ Refusal} (Err other) (Err refusal) → RefusedIdentcodeIssue body room refusal
       is other g e = let same : other ≡ refusal = cc in subst (RefusedIdentcodeIssue body room) same g

@@ -4,7 +4,7 @@ use mathlib.Core.Path.{◌≡◌, refl, sym, ap, subst, ◌∙◌}
 use mathlib.Core.Bool.{true, false, not}
 use mathlib.Core.Logic.{◌⊎◌, inl, inr, ◌↔◌, ⊎_elim}
 use borrow.Author.Tests.{not-true, not-false}
-use Rattle.refusal.specs.Table.{because}
+use Rattle.refusal.specs.Table.{because, verdict_on}
 use Rattle.refusal.specs.declared.Refusal.{Refusal}
 use Rattle.refusal.specs.declared.Reason.TheVariants.{NotThere, WrongSymbol}
 use Rattle.refusal.proofs.Verdicts.{no_pass}
@@ -12,7 +12,7 @@ use Rattle.text.specs.Byte.{symbol}
 use Rattle.text.proofs.Choices.{choice, true_or_false, clash}
 use Rattle.check_characters.specs.Symbol.{value_of}
 use Rattle.check_characters.specs.Mod37.{step}
-use Rattle.check_characters.specs.Wedge.{is_carry, next_carry, carry_verdict}
+use Rattle.check_characters.specs.Wedge.{is_carry, next_carry}
 use Rattle.check_characters.proofs.Keying.{carry_there, there_carry, next_no_carry, next_no_symbol, next_step}
 use Rattle.slips.specs.Typed.{Leads}
 use Rattle.refused.specs.Wedge.{RefusedKey}
@@ -35,7 +35,7 @@ module _ (carry key : ℕ) where
         (λ t. let there = not-false (is_carry carry) t in
         choice (not (symbol key)) (Err (because WrongSymbol 0)) (Ok (step carry (value_of key))) (Err refusal)
         (λ u q. is (because WrongSymbol 0) (RefusedKey.no_symbol (range there).0 (range there).1 (not-true (symbol key) u)) q)
-        (λ u q. absurd (no_pass carry_verdict refl refl (sym q)))) e
+        (λ u q. absurd (no_pass verdict_on refl refl (sym q)))) e
 
   refused_key : (refusal : Refusal) → RefusedKey carry key refusal → next_carry carry key ≡ Err refusal
   refused_key refusal (RefusedKey.no_carry n) =
@@ -49,10 +49,10 @@ module _ (carry key : ℕ) where
   key_next : (next : ℕ) → next_carry carry key ≡ Ok next → Leads carry key next
   unfolding next_carry
   key_next next e =
-      choice (not (is_carry carry)) (Err (because NotThere 0)) _ (Ok next) (λ t q. absurd (no_pass carry_verdict refl refl q))
+      choice (not (is_carry carry)) (Err (because NotThere 0)) _ (Ok next) (λ t q. absurd (no_pass verdict_on refl refl q))
       (λ t. let r = carry_there carry (not-false (is_carry carry) t) in
       choice (not (symbol key)) (Err (because WrongSymbol 0)) (Ok (step carry (value_of key))) (Ok next)
-      (λ u q. absurd (no_pass carry_verdict refl refl q))
+      (λ u q. absurd (no_pass verdict_on refl refl q))
       (λ u q. let same : next ≡ step carry (value_of key) = cc in
       record { low = r.low; high = r.high; allowed = not-false (symbol key) u; stepped = same })) e
 
@@ -70,4 +70,4 @@ module _ (carry key : ℕ) where
       go (Err refusal) e = inr (refusal, key_refused refusal e)
 
   pub key_never_both : (next : ℕ) (refusal : Refusal) → Leads carry key next → RefusedKey carry key refusal → ⊥
-  key_never_both next refusal g r = no_pass carry_verdict refl refl (sym (refused_key refusal r) ∙ next_key next g)
+  key_never_both next refusal g r = no_pass verdict_on refl refl (sym (refused_key refusal r) ∙ next_key next g)

@@ -15,7 +15,7 @@ use Rattle.text.specs.Scan.{first_failing, all, same}
 use Rattle.text.proofs.Choices.{choice, clash}
 use Rattle.text.proofs.Runs.{Fails, front, run_to}
 use Rattle.text.proofs.Scans.{unlike}
-use Rattle.refusal.specs.Table.{because}
+use Rattle.refusal.specs.Table.{because, verdict_on}
 use Rattle.refusal.specs.declared.Refusal.{Refusal}
 use Rattle.refusal.specs.declared.Reason.TheVariants.{FileTooLong, NoLineEnd}
 use Rattle.refusal.proofs.Verdicts.{no_pass}
@@ -24,7 +24,7 @@ use Rattle.records.specs.declared.record.Record.TheVariants.{Feature}
 use Rattle.line.specs.Parts.{name_of, fields_of}
 use Rattle.line.specs.Render.{joined, plain, all_in}
 use Rattle.line.specs.Told.{Told}
-use Rattle.line.specs.Line.{line_end, ends_well, text_at, file_limit, text_answer, of_text, on_text, line_answer, text_verdict}
+use Rattle.line.specs.Line.{line_end, ends_well, text_at, file_limit, text_answer, of_text, on_text, line_answer}
 use Rattle.line.proofs.Splits.{split_some, join_split}
 use Rattle.line.proofs.Plain.{split_plain, parts_bytes}
 use Rattle.line.proofs.Ends.{ended, ends_well_lem, text_there}
@@ -92,7 +92,7 @@ module _ (told : Told) (file : List ℕ) (offset : ℕ) where
       (λ u. choice (not (ends_well file end)) (Err (because NoLineEnd end)) (Ok end) (Err refusal)
       (λ w q. is q (RefusedAt.line_refused (because NoLineEnd end) (ltb-false file_limit (length file) t) (ltb-false (length file) offset u)
       (open_line (not-true (ends_well file end) w))))
-      (λ w q. absurd (no_pass text_verdict refl refl (sym q)))))
+      (λ w q. absurd (no_pass verdict_on refl refl (sym q)))))
       e
     where
       is : {other : Refusal} → ◌≡◌ {A = Result ℕ Refusal} (Err other) (Err refusal) → RefusedAt told file offset other → RefusedAt told file offset refusal

@@ -9,14 +9,14 @@ use lib.Dec.{leb, ltb, eqb}
 use lib.ListN.{length}
 use borrow.Author.Tests.{le-leb, leb-true, ltb-true, ltb-false, lt-ltb, le-ltb, eqb-true, eqb-false, eq-eqb, ne_eqb, not-true, not-false}
 use Rattle.text.proofs.Choices.{choice, and_left, and_right, and_both, true_or_false, clash}
-use Rattle.refusal.specs.Table.{because}
+use Rattle.refusal.specs.Table.{because, verdict_on}
 use Rattle.refusal.specs.declared.Refusal.{Refusal}
 use Rattle.refusal.specs.declared.Reason.TheVariants.{OutputTooShort, WrongLength, WrongSymbol, WrongCheck}
 use Rattle.refusal.proofs.Verdicts.{no_pass}
 use Rattle.check_characters.specs.Mod37.{passes}
 use Rattle.check_characters.specs.Number.{length_of, allowed_in_number, wrong_in_number, checked_as, checked_number}
-use Rattle.check_characters.specs.Number.{issue_as, issue_answer, Issues, number_verdict}
-use Rattle.check_characters.specs.Answer.{room_for, issued_to, check_verdict, issue_verdict}
+use Rattle.check_characters.specs.Number.{issue_as, issue_answer, Issues}
+use Rattle.check_characters.specs.Answer.{room_for, issued_to}
 use Rattle.check_characters.specs.Iban.{iban_number, check_digits, barred}
 use Rattle.check_characters.specs.Iban.{sound_of, allowed_in_iban, checked_iban}
 use Rattle.check_characters.specs.Iban.{wrong_in_iban}
@@ -42,7 +42,7 @@ module _ (s : List ℕ) where
         choice (ltb wrong (length s)) (Err (because WrongSymbol wrong)) _ (Err refusal)
         (λ t q. is (because WrongSymbol wrong) (RefusedNumber.wrong_symbol kind wrong n (wrong_there (allowed_in_number kind) s (ltb-true wrong (length s) t))) q)
         (λ t. choice (passes s) (Ok kind) (Err (because WrongCheck (length s - 1))) (Err refusal)
-        (λ u q. absurd (no_pass number_verdict refl refl (sym q)))
+        (λ u q. absurd (no_pass verdict_on refl refl (sym q)))
         (λ u q. is (because WrongCheck (length s - 1))
         (RefusedNumber.wrong_check kind n (shaped_all (allowed_in_number kind) s (ltb-false wrong (length s) t)) u) q)) e
 
@@ -112,7 +112,7 @@ module _ (s : List ℕ) where
       (λ u q. tell (because WrongSymbol wrong) (RefusedIban.wrong_symbol wrong (least (not-false in_length t)) (most (not-false in_length t))
       (wrong_there allowed_in_iban s (ltb-true wrong (length s) u))) q)
       (λ u. choice (sound_of s) (Ok tt) (Err (because WrongCheck 2)) (Err refusal)
-      (λ v q. absurd (no_pass check_verdict refl refl (sym q)))
+      (λ v q. absurd (no_pass verdict_on refl refl (sym q)))
       (λ v q. tell (because WrongCheck 2) (RefusedIban.wrong_check (least (not-false in_length t)) (most (not-false in_length t))
       (shaped_all allowed_in_iban s (ltb-false wrong (length s) u)) (unsound v)) q))) e
     where
@@ -147,7 +147,7 @@ module _ (body : List ℕ) (room : ℕ) where
         (λ t. choice (ltb room (length_of kind)) (Err (because OutputTooShort 0)) (Ok (length_of kind)) (Err refusal)
         (λ u q. hand (because OutputTooShort 0)
         (RefusedIssue.too_short kind n (shaped_all (allowed_in_number kind) body (ltb-false wrong (length body) t)) (ltb-true room (length_of kind) u)) q)
-        (λ u q. absurd (no_pass issue_verdict refl refl (sym q)))) e
+        (λ u q. absurd (no_pass verdict_on refl refl (sym q)))) e
 
     issue_refused : issue_answer body room ≡ Err refusal → RefusedIssue body room refusal
     unfolding issue_answer

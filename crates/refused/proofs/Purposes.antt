@@ -8,14 +8,14 @@ use lib.Dec.{leb, ltb}
 use lib.ListN.{length, get_or, replicate}
 use borrow.Author.Tests.{leb-false, ltb-true, lt-ltb}
 use Rattle.text.proofs.Choices.{choice}
-use Rattle.refusal.specs.Table.{because}
+use Rattle.refusal.specs.Table.{because, verdict_on}
 use Rattle.refusal.specs.declared.Refusal.{Refusal}
 use Rattle.refusal.specs.declared.Reason.TheVariants.{NotThere, OutputTooShort}
 use Rattle.refusal.proofs.Verdicts.{no_pass}
 use Rattle.file.specs.Lent.{Lent}
 use Rattle.file.specs.File.{Judged, judged}
 use Rattle.purpose.specs.Source.{is_cash_line, for_feature, source_of}
-use Rattle.purpose.specs.Purpose.{purpose_long, on_source, on_file, purpose_answer, Purposes, purpose_verdict}
+use Rattle.purpose.specs.Purpose.{purpose_long, on_source, on_file, purpose_answer, Purposes}
 use Rattle.purpose.specs.declared.source.Source.{Source}
 use Rattle.allowed.specs.Allowed.{FileLine, AllowedFile, line_starts}
 use Rattle.allowed.specs.Sentence.{LineNo, CashLine}
@@ -78,7 +78,7 @@ module _ (s : List ℕ) (n : ℕ) (lent : Lent) (room : ℕ) where
             (λ t r. ⊎_elim (λ z. apart z)
             (λ k. is (because OutputTooShort 0) (RefusedPurpose.too_short ls k.0 g few k.1 k.2 (ltb-true room purpose_long t)) r)
             (source_cash s ls g n (Some source) ex))
-            (λ t r. absurd (no_pass purpose_verdict refl refl (sym r))) q
+            (λ t r. absurd (no_pass verdict_on refl refl (sym r))) q
 
         go : (a : Result Totals Refusal) → (judged s lent).answer ≡ a → on_file a (source_of s (judged s lent).starts n) s room ≡ Err refusal →
             RefusedPurpose s n lent room refusal

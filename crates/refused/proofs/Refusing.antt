@@ -10,7 +10,7 @@ use borrow.Author.Tests.{ltb-true, ltb-false}
 use Rattle.std.specs.Prelude.{if◌then◌else◌, Result, Ok, Err}
 use Rattle.text.specs.Quoted.{bytes}
 use Rattle.text.proofs.Scans.{no_bytes}
-use Rattle.refusal.specs.Table.{because}
+use Rattle.refusal.specs.Table.{because, verdict_on}
 use Rattle.refusal.specs.declared.Refusal.{Refusal}
 use Rattle.refusal.specs.declared.Reason.TheVariants.{FileTooLong, IdentcodeRepeated, ListFull, FileEnds, ContactMissing, CountriesOdd}
 use Rattle.refusal.proofs.Verdicts.{no_pass}
@@ -31,7 +31,7 @@ use Rattle.file.specs.Version.{version_of}
 use Rattle.file.specs.Contact.{lacks_contact}
 use Rattle.file.specs.Identcode.{repeats}
 use Rattle.file.specs.Step.{behind, has_word, listing, on_line, told_by, step_answer}
-use Rattle.file.specs.File.{Judged, begin, passed, ended, on_step, file_from, judged, file_verdict}
+use Rattle.file.specs.File.{Judged, begin, passed, ended, on_step, file_from, judged}
 use Rattle.file.specs.declared.step.State.{State}
 use Rattle.file.proofs.Lists.{word_left, word_none}
 use Rattle.allowed.specs.Allowed.{FileLine, file_bytes, identcodes}
@@ -173,7 +173,7 @@ module _ (s : List ℕ) (lent : Lent) where
         go : (t : Bool) → may_end state.due ≡ t →
             (if t then passed starts state else record { answer = Err (because FileEnds (length s)); starts = [] }).answer ≡ Err refusal →
             RefusedFile s lent refusal
-        go true m q = absurd (no_pass file_verdict refl refl (sym q))
+        go true m q = absurd (no_pass verdict_on refl refl (sym q))
         go false m q =
             is (because FileEnds (length s)) q
             (RefusedFile.file_ends ls (subst (Begins lent.countries s ls) (no_bytes left (omega (arith, h.place, left_long s ls left b))) b) room

@@ -8,14 +8,14 @@ use native.Mathlib.Omega.{arith}
 use lib.Dec.{ltb, eqb}
 use borrow.Author.Tests.{eqb-true, ltb-true}
 use Rattle.text.proofs.Choices.{choice, or_cases}
-use Rattle.refusal.specs.Table.{because}
+use Rattle.refusal.specs.Table.{because, verdict_on}
 use Rattle.refusal.specs.declared.Refusal.{Refusal}
 use Rattle.refusal.specs.declared.Reason.TheVariants.{NotThere}
 use Rattle.refusal.proofs.Verdicts.{no_pass}
 use Rattle.fields.specs.Profile.{Rules}
 use Rattle.line.specs.Parts.{fields_of}
 use Rattle.line.specs.Line.{text_at, line_answer, alone}
-use Rattle.line.specs.Find.{in_line, field_answer, field_verdict}
+use Rattle.line.specs.Find.{in_line, field_answer}
 use Rattle.grammar.proofs.Lines.{accepted_reads}
 use Rattle.grammar.proofs.Finding.{field_not_there, field_refused}
 use Rattle.refused.specs.Line.{RefusedFind}
@@ -42,7 +42,7 @@ field_refused_exactly rules file offset n refusal = (λ e. forth (line_answer (a
         (λ t q. is (because NotThere 0) (RefusedFind.no_such_field line (fields_of (text_at file offset)) g
         (λ h l. ⊎_elim (λ z. omega (arith, eqb-true n 0 z)) (λ z. omega (arith, ltb-true line.count n z, g.count))
         (or_cases (eqb n 0) (ltb line.count n) t))) q)
-        (λ t q. absurd (no_pass field_verdict refl refl (sym q))) e
+        (λ t q. absurd (no_pass verdict_on refl refl (sym q))) e
 
     back : (refusal : Refusal) → RefusedFind rules file offset n refusal → field_answer rules file offset n ≡ Err refusal
     back refusal (RefusedFind.line_refused other g) =

@@ -9,7 +9,7 @@ use borrow.Author.Tests.{not-true, not-false}
 use Rattle.text.specs.Quoted.{bytes}
 use Rattle.text.specs.Scan.{all}
 use Rattle.text.proofs.Choices.{choice, and_right}
-use Rattle.refusal.specs.Table.{because}
+use Rattle.refusal.specs.Table.{because, verdict_on}
 use Rattle.refusal.specs.declared.Refusal.{Refusal}
 use Rattle.refusal.specs.declared.Reason.{Reason}
 use Rattle.refusal.specs.declared.Reason.TheVariants.{UnknownRecord, OutOfOrder, FieldCount, FeatureLacks}
@@ -23,7 +23,7 @@ use Rattle.line.specs.Render.{joined, text_of, plain, all_in}
 use Rattle.line.specs.Told.{Told}
 use Rattle.line.specs.Walk.{behind, walk}
 use Rattle.line.specs.Need.{lacks}
-use Rattle.line.specs.Line.{after_walk, of_kind, of_named, of_text, line_verdict}
+use Rattle.line.specs.Line.{after_walk, of_kind, of_named, of_text}
 use Rattle.line.proofs.Splits.{all_in_front}
 use Rattle.line.proofs.Plain.{parts_split}
 use Rattle.line.proofs.Passing.{fine_each, each_fine}
@@ -101,7 +101,7 @@ module _ (told : Told) (offset : ℕ) (left : List ℕ) (refusal : Refusal) wher
                   (fine_each (tested (told.rules kind)) behind 1 (offset + length (type_of kind) + 1) (type_of kind) fs ew),
             ) in
             same_line (because FeatureLacks offset) (RefusedLine.feature_lacks fs known.0.0 known.0.1 known.1) q)
-            (λ l q. absurd (no_pass line_verdict refl refl (sym q)))
+            (λ l q. absurd (no_pass verdict_on refl refl (sym q)))
             ea
 
     of_kind_lem : may_come told.due kind ≡ true → of_kind told.rules kind offset text ≡ Err refusal →

@@ -10,7 +10,7 @@ use lib.ListN.{length}
 use borrow.Author.Tests.{leb-false, lt-leb, not-true, not-false}
 use Rattle.text.specs.Scan.{all}
 use Rattle.text.proofs.Choices.{choice, true_or_false, clash}
-use Rattle.refusal.specs.Table.{because}
+use Rattle.refusal.specs.Table.{because, verdict_on}
 use Rattle.refusal.specs.declared.Refusal.{Refusal}
 use Rattle.refusal.specs.declared.Reason.{Reason}
 use Rattle.refusal.specs.declared.Reason.TheVariants.{UnknownRecord, FieldEnds, FieldCount, FieldForm, FeatureLacks, OutputTooShort}
@@ -29,7 +29,7 @@ use Rattle.grammar.proofs.Needs.{lacks_not, lacks_feature, lacks_some}
 use Rattle.grammar.proofs.Back.{walked_fields, fields_walked}
 use Rattle.writer.specs.Write.{record_numbered, ends_hold, between, if_plain, tested_to_write}
 use Rattle.writer.specs.Write.{next_number, walked, of_fields, after_walk, of_record, answer_under, write_answer}
-use Rattle.writer.specs.Write.{written_to, Writes, write_verdict}
+use Rattle.writer.specs.Write.{written_to, Writes}
 use Rattle.writer.proofs.Ends.{between_count}
 use Rattle.refused.specs.Line.{RefusedTold}
 use Rattle.refused.specs.Write.{RefusedToWrite, Handed, RefusedWrite}
@@ -86,7 +86,7 @@ module _ (rules : Rules) (number : ℕ) (text ends : List ℕ) (size fill : ℕ)
           (λ t q. let known = lacks_feature (λ (k : Record). Handed number text ends k fs × FieldsOk (rules k) 1 (type_of k) fs) kind fs t (h, ok) in
           is (because FeatureLacks 0) (RefusedWrite.feature_lacks fs known.0.0 known.0.1 known.1) q)
           (λ t. choice (leb (fill + length (render kind fs)) size) (Ok (length (render kind fs))) (Err (because OutputTooShort 0)) (Err refusal)
-          (λ u q. absurd (no_pass write_verdict refl refl (sym q)))
+          (λ u q. absurd (no_pass verdict_on refl refl (sym q)))
           (λ u q. is (because OutputTooShort 0) (RefusedWrite.too_short kind fs h (record {
             counted = ap (count_fits kind) (between_count text ends) ∙ h.counted;
             fields = ok;

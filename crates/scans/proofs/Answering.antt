@@ -5,8 +5,8 @@ use lib.ListN.{get_or-append}
 use Rattle.text.specs.Placed.{written}
 use Rattle.text.specs.Tabled.{tabled}
 use Rattle.text.proofs.Tables.{tabled_at, tabled_long}
-use Rattle.refusal.specs.Table.{number_told}
-use Rattle.check_characters.specs.Number.{number_verdict, checked_number}
+use Rattle.refusal.specs.Table.{number_told, verdict_on}
+use Rattle.check_characters.specs.Number.{checked_number}
 use Rattle.check_characters.proofs.Days.{number_front}
 use Rattle.check_characters.specs.Day.{number_at, how_many, zeros, day_answers, day_answer, answers_after, ChecksDay}
 use Rattle.scans.specs.declared.Answered as told_of
@@ -18,7 +18,7 @@ use Rattle.refusal.specs.declared.Refusal.{Refusal}
 
 -- what the number in the place i is told
 abbrev told : List ℕ → ℕ → ℕ
-told numbers i = number_told (number_verdict (checked_number (number_at numbers i)))
+told numbers i = number_told (verdict_on (checked_number (number_at numbers i)))
 
 -- n whole numbers, with a byte each, are never refused
 module _ (numbers answers : List ℕ) (n : ℕ) (long : length numbers ≡ 15 * n) (room : n ≤ length answers) where
@@ -84,7 +84,7 @@ module _ (text answers : List ℕ) (room : ℕ) (answered : told_of.Answered) (n
       ap (λ s. get_or s k 0) checked_is
       ∙ get_or-append table (drop (0 + length table) answers) 0 k (omega (arith, tl))
       ∙ tabled_at (told (take (15 * answered.lines) numbers)) answered.lines k 0 h
-      ∙ ap (λ s. number_told (number_verdict (checked_number s))) (same_number k h)
+      ∙ ap (λ s. number_told (verdict_on (checked_number s))) (same_number k h)
       in
       rw (get_or-take answered.lines marks k 0 h, c)
 

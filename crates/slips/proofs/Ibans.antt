@@ -12,7 +12,7 @@ use lib.ListN.{length, get_or, take, drop, length-append}
 use lib.Seq.{split_at}
 use borrow.Author.Tests.{eqb-true, eq-eqb, ltb-false, leb-true, le-leb, le-ltb, lt-leb, not-true, not-false}
 use Rattle.refusal.specs.declared.Reason.TheVariants.{WrongLength, WrongSymbol, WrongCheck}
-use Rattle.refusal.specs.Table.{because}
+use Rattle.refusal.specs.Table.{because, verdict_on}
 use Rattle.refusal.proofs.Verdicts.{no_pass}
 use Rattle.std.specs.Prelude.{if◌then◌else◌, Ok, Err}
 use Rattle.text.specs.Byte.{digit, capital}
@@ -21,7 +21,6 @@ use Rattle.text.proofs.Bytes.{digit_range, capital_range, capital_low}
 use Rattle.text.proofs.Finite.{every_at, tells, told_apart}
 use Rattle.check_characters.specs.Symbol.{value_of}
 use Rattle.check_characters.specs.Iban.{allowed_in_iban, wrong_in_iban, digits_of, spread, decimal_from, moved, iban_number}
-use Rattle.check_characters.specs.Answer.{check_verdict}
 use Rattle.check_characters.specs.Iban.{check_digits, barred, sound_of, checked_iban}
 use Rattle.check_characters.proofs.Symbols.{value_le, value_digit, value_capital}
 use Rattle.check_characters.proofs.Digits.{decimal_append, spread_append, weight, weighed, mod_scale}
@@ -39,9 +38,9 @@ accepted_sound s e =
     let wrong = ltb (wrong_in_iban s) (length s) in
     let tail = if sound_of s then Ok tt else Err (because WrongCheck 2) in
     let a = came_else (not inside) (Err (because WrongLength 0)) (if wrong then Err (because WrongSymbol (wrong_in_iban s)) else tail)
-    (Ok tt) (no_pass check_verdict refl refl) e in
-    let b = came_else wrong (Err (because WrongSymbol (wrong_in_iban s))) tail (Ok tt) (no_pass check_verdict refl refl) a.1 in
-    let c = came_then (sound_of s) (Ok tt) (Err (because WrongCheck 2)) (Ok tt) (no_pass check_verdict refl refl) b.1 in
+    (Ok tt) (no_pass verdict_on refl refl) e in
+    let b = came_else wrong (Err (because WrongSymbol (wrong_in_iban s))) tail (Ok tt) (no_pass verdict_on refl refl) a.1 in
+    let c = came_then (sound_of s) (Ok tt) (Err (because WrongCheck 2)) (Ok tt) (no_pass verdict_on refl refl) b.1 in
     let long = not-false inside a.0 in
     record {
       long = leb-true 15 (length s) (and_left (leb 15 (length s)) (leb (length s) 34) long);

@@ -9,7 +9,7 @@ use lib.ListN.{length, get_or, take, drop, length-append, length-take}
 use lib.Seq.{take_at, get_or_at}
 use borrow.Author.Tests.{eqb-true, ltb-false, not-false}
 use Rattle.refusal.specs.declared.Reason.TheVariants.{WrongLength, WrongSymbol}
-use Rattle.refusal.specs.Table.{because}
+use Rattle.refusal.specs.Table.{because, verdict_on}
 use Rattle.refusal.proofs.Verdicts.{no_pass}
 use Rattle.text.specs.Byte.{digit}
 use Rattle.std.specs.Prelude.{if◌then◌else◌, Result, Ok, Err}
@@ -17,7 +17,7 @@ use Rattle.text.proofs.Choices.{came_else, and_both}
 use Rattle.text.proofs.Runs.{all_append}
 use Rattle.text.proofs.Scans.{all_at, all_of}
 use Rattle.text.proofs.Finite.{every_at}
-use Rattle.check_characters.specs.Answer.{room_for, issue_verdict}
+use Rattle.check_characters.specs.Answer.{room_for}
 use Rattle.check_digits.specs.Identcode.{allowed_in_identcode, wrong_in_identcode, weighed, check_digit_of, issue_identcode_answer, IssuesIdentcode}
 use Rattle.check_characters.proofs.Issuing.{room_there, room_whole}
 use Rattle.check_digits.proofs.Identcodes.{digit_is, identcode_right}
@@ -37,8 +37,8 @@ unfolding issue_identcode_answer
 body_of_lem body room n e =
     let wrong = ltb (wrong_in_identcode body) (length body) in
     let a = came_else (not (eqb (length body) 21)) (Err (because WrongLength 0))
-    (if wrong then Err (because WrongSymbol (wrong_in_identcode body)) else room_for 22 room) (Ok n) (no_pass issue_verdict refl refl) e in
-    let b = came_else wrong (Err (because WrongSymbol (wrong_in_identcode body))) (room_for 22 room) (Ok n) (no_pass issue_verdict refl refl) a.1 in
+    (if wrong then Err (because WrongSymbol (wrong_in_identcode body)) else room_for 22 room) (Ok n) (no_pass verdict_on refl refl) e in
+    let b = came_else wrong (Err (because WrongSymbol (wrong_in_identcode body))) (room_for 22 room) (Ok n) (no_pass verdict_on refl refl) a.1 in
     record {
       long = eqb-true (length body) 21 (not-false (eqb (length body) 21) a.0);
       shaped = shaped_all allowed_in_identcode body (ltb-false (wrong_in_identcode body) (length body) b.0);

@@ -10,7 +10,7 @@ use lib.ListN.{length, get_or, take, drop, length-append, length-take, get_or-ap
 use lib.Seq.{get_or_at}
 use borrow.Author.Tests.{eqb-true, ltb-false}
 use Rattle.refusal.specs.declared.Reason.TheVariants.{WrongLength, WrongSymbol}
-use Rattle.refusal.specs.Table.{because}
+use Rattle.refusal.specs.Table.{because, verdict_on}
 use Rattle.refusal.proofs.Verdicts.{no_pass}
 use Rattle.text.specs.Byte.{symbol}
 use Rattle.text.proofs.Choices.{came_then, came_else, true_or_false}
@@ -18,7 +18,7 @@ use Rattle.text.proofs.Numbers.{le_or_lt}
 use Rattle.text.proofs.Finite.{every_at}
 use Rattle.check_characters.specs.Symbol.{value_of, symbol_of}
 use Rattle.check_characters.specs.Mod37.{carry, check_of}
-use Rattle.check_characters.specs.Answer.{room_for, issue_verdict}
+use Rattle.check_characters.specs.Answer.{room_for}
 use Rattle.check_characters.specs.Number.{length_of, allowed_in_number, wrong_in_number, issue_as, issue_answer, Issues}
 use Rattle.check_characters.specs.declared.number.Kind.{Kind}
 use Rattle.check_characters.specs.declared.number.Kind.TheVariants.{Tracking, Label}
@@ -42,7 +42,7 @@ body_as : (k : Kind) (body : List ℕ) (room n : ℕ) → length body + 1 ≡ le
 unfolding issue_as
 body_as k body room n long e =
     let w = came_else (ltb (wrong_in_number k body) (length body)) (Err (because WrongSymbol (wrong_in_number k body)))
-    (room_for (length_of k) room) (Ok n) (no_pass issue_verdict refl refl) e in
+    (room_for (length_of k) room) (Ok n) (no_pass verdict_on refl refl) e in
     record {
       long = long;
       shaped = shaped_all (allowed_in_number k) body (ltb-false (wrong_in_number k body) (length body) w.0);
@@ -58,7 +58,7 @@ body_of_lem body room n e =
           (simp t at e),
     ))
     (λ (f : eqb (length body) 14 ≡ false).
-    let w = came_then (eqb (length body) 27) (issue_as Label body room) (Err (because WrongLength 0)) (Ok n) (no_pass issue_verdict refl refl)
+    let w = came_then (eqb (length body) 27) (issue_as Label body room) (Err (because WrongLength 0)) (Ok n) (no_pass verdict_on refl refl)
     (simp f at e) in
     (Label, body_as Label body room n (omega (arith, eqb-true (length body) 27 w.0)) w.1))
     (true_or_false (eqb (length body) 14))

@@ -10,7 +10,7 @@ use lib.ListN.{length, get_or, take, drop, length-append}
 use lib.Seq.{split_at, get_or_at}
 use borrow.Author.Tests.{eqb-true, ltb-false, le-ltb}
 use Rattle.refusal.specs.declared.Reason.TheVariants.{WrongLength, WrongSymbol, WrongCheck}
-use Rattle.refusal.specs.Table.{because}
+use Rattle.refusal.specs.Table.{because, verdict_on}
 use Rattle.refusal.proofs.Verdicts.{no_pass}
 use Rattle.text.specs.Byte.{digit, capital, symbol}
 use Rattle.std.specs.Prelude.{if◌then◌else◌, Ok, Err}
@@ -19,7 +19,7 @@ use Rattle.text.proofs.Numbers.{le_or_lt}
 use Rattle.text.proofs.Bytes.{digit_range, capital_range}
 use Rattle.check_characters.specs.Symbol.{value_of}
 use Rattle.check_characters.specs.Mod37.{step, carry_from, carry, passes}
-use Rattle.check_characters.specs.Number.{length_of, allowed_in_number, wrong_in_number, checked_as, checked_number, number_verdict}
+use Rattle.check_characters.specs.Number.{length_of, allowed_in_number, wrong_in_number, checked_as, checked_number}
 use Rattle.check_characters.specs.declared.number.Kind.{Kind}
 use Rattle.check_characters.specs.declared.number.Kind.TheVariants.{Tracking, Label}
 use Rattle.check_characters.proofs.Symbols.{value_le, value_digit, value_capital}
@@ -36,8 +36,8 @@ sound_as : (j k : Kind) (s : List ℕ) → length s ≡ length_of j → checked_
 unfolding checked_as
 sound_as j k s n e =
     let w = came_else (ltb (wrong_in_number j s) (length s)) (Err (because WrongSymbol (wrong_in_number j s)))
-    (if passes s then Ok j else Err (because WrongCheck (length s - 1))) (Ok k) (no_pass number_verdict refl refl) e in
-    let p = came_then (passes s) (Ok j) (Err (because WrongCheck (length s - 1))) (Ok k) (no_pass number_verdict refl refl) w.1 in
+    (if passes s then Ok j else Err (because WrongCheck (length s - 1))) (Ok k) (no_pass verdict_on refl refl) e in
+    let p = came_then (passes s) (Ok j) (Err (because WrongCheck (length s - 1))) (Ok k) (no_pass verdict_on refl refl) w.1 in
     let q : j ≡ k = cc in
     let g : SoundNumber j s = record { long = n; shaped = shaped_all (allowed_in_number j) s (ltb-false (wrong_in_number j s) (length s) w.0); closed = p.0 } in
     rw q at g
@@ -47,7 +47,7 @@ unfolding checked_number
 accepted_sound k s e =
     ⊎_elim (λ (t : eqb (length s) 15 ≡ true). sound_as Tracking k s (eqb-true (length s) 15 t) (simp t at e))
     (λ (n : eqb (length s) 15 ≡ false).
-    let w = came_then (eqb (length s) 28) (checked_as Label s) (Err (because WrongLength 0)) (Ok k) (no_pass number_verdict refl refl) (simp n at e) in
+    let w = came_then (eqb (length s) 28) (checked_as Label s) (Err (because WrongLength 0)) (Ok k) (no_pass verdict_on refl refl) (simp n at e) in
     sound_as Label k s (eqb-true (length s) 28 w.0) w.1)
     (true_or_false (eqb (length s) 15))
 

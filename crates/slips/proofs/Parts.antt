@@ -1,4 +1,5 @@
 -- The parts of an identcode: read exactly from a sound code, laid one behind the other with the manual's widths, and joined the code again.
+use Rattle.refusal.specs.Table.{verdict_on}
 use Prim.Native.Nat.{ℕ, ◌+◌, ◌-◌}
 use mathlib.Core.Path.{◌≡◌, refl, sym, ap, ◌∙◌}
 use mathlib.Core.List.{List, [], ◌∷◌}
@@ -7,7 +8,7 @@ use native.Mathlib.Omega.{arith}
 use lib.ListN.{length, take, drop}
 use lib.Seq.{take_all, take-add, drop-drop}
 use Rattle.refusal.proofs.Verdicts.{no_pass}
-use Rattle.check_digits.specs.Identcode.{parts, checked_identcode, parts_where, parts_answer, parts_verdict}
+use Rattle.check_digits.specs.Identcode.{parts, checked_identcode, parts_where, parts_answer}
 use Rattle.check_digits.specs.declared.identcode.Part.{Part}
 use Rattle.check_digits.specs.declared.identcode.Parts.{Parts}
 use Rattle.slips.specs.Exactly.{SoundIdentcode, in_order, without_check, Laid, Divides, digits_joined, body_of}
@@ -49,7 +50,7 @@ parts_are p (a, a', (b, b', (c, c', (d, d', (e, e', (f, f', t)))))) =
 
 parts_from : (a : Result ⊤ Refusal) (p : Parts) → parts_where a ≡ Ok p → (a ≡ Ok tt) × (parts ≡ p)
 parts_from (Ok _) p e = (refl, cc)
-parts_from (Err refusal) p e = absurd (no_pass parts_verdict refl refl e)
+parts_from (Err refusal) p e = absurd (no_pass verdict_on refl refl e)
 
 pub parts_exactly : (code : List ℕ) (p : Parts) → (parts_answer code ≡ Ok p) ↔ (SoundIdentcode code × Divides p)
 unfolding parts_answer

@@ -8,7 +8,7 @@ use native.Mathlib.Omega.{arith}
 use lib.ListN.{length, get_or}
 use Rattle.refusal.specs.declared.Reason.TheVariants.{WrongSymbol}
 use Rattle.refusal.specs.declared.Refusal.{Refusal}
-use Rattle.refusal.specs.Table.{because}
+use Rattle.refusal.specs.Table.{because, verdict_on}
 use Rattle.refusal.proofs.Verdicts.{no_pass}
 use Rattle.text.specs.Byte.{symbol}
 use Rattle.text.specs.Scan.{all}
@@ -17,7 +17,6 @@ use Rattle.text.proofs.Scans.{all_of}
 use Rattle.text.proofs.Runs.{all_append, all_apart}
 use Rattle.check_characters.specs.Symbol.{value_of}
 use Rattle.check_characters.specs.Mod37.{step, carry_from, carry, check_of}
-use Rattle.check_characters.specs.Wedge.{carry_verdict}
 use Rattle.check_characters.specs.Number.{length_of, allowed_in_number, checked_number}
 use Rattle.check_characters.specs.declared.number.Kind.{Kind}
 use Rattle.check_characters.proofs.Carries.{Carry, step_carry, carry_of, carry_append, two_of_one, one_of_two, passes_two, two_passes}
@@ -55,7 +54,7 @@ module _ (keys : List ℕ) where
       there : typed keys ≡ Ok c → (all symbol keys ≡ true) × (c ≡ carry keys)
       there e =
           ⊎_elim (λ (t : all symbol keys ≡ true). let q = sym e ∙ typed_from 36 keys (carry_of []) t in let same : c ≡ carry keys = cc in (t, same))
-          (λ (f : all symbol keys ≡ false). absurd (no_pass carry_verdict refl refl (sym (typed_stops 36 keys (carry_of []) f) ∙ e)))
+          (λ (f : all symbol keys ≡ false). absurd (no_pass verdict_on refl refl (sym (typed_stops 36 keys (carry_of []) f) ∙ e)))
           (true_or_false (all symbol keys))
 
       back : (all symbol keys ≡ true) × (c ≡ carry keys) → typed keys ≡ Ok c
@@ -66,7 +65,7 @@ module _ (keys : List ℕ) where
     where
       there : typed keys ≡ Err refusal → (all symbol keys ≡ false) × (refusal ≡ because WrongSymbol 0)
       there e =
-          ⊎_elim (λ (t : all symbol keys ≡ true). absurd (no_pass carry_verdict refl refl (sym e ∙ typed_from 36 keys (carry_of []) t)))
+          ⊎_elim (λ (t : all symbol keys ≡ true). absurd (no_pass verdict_on refl refl (sym e ∙ typed_from 36 keys (carry_of []) t)))
           (λ (f : all symbol keys ≡ false).
           let q = sym e ∙ typed_stops 36 keys (carry_of []) f in let same : refusal ≡ because WrongSymbol 0 = cc in (f, same))
           (true_or_false (all symbol keys))

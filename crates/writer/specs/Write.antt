@@ -107,8 +107,3 @@ abbrev pub Writes : ℕ → ℕ → List ℕ → List ℕ → List ℕ → ℕ �
 Writes version number text ends output fill answer after =
     (answer ≡ write_answer version number text ends (length output) fill)
     × (after ≡ written_to answer (record_numbered number) (between text ends) output fill)
-
--- the paper's number and place for each answer
-abbrev pub write_verdict : Result ℕ Refusal → Verdict
-write_verdict (Ok n) = Verdict.passes
-write_verdict (Err refusal) = verdict_of refusal
