@@ -8,6 +8,7 @@ ghost use Rattle.writer.specs.Write.{ends_hold, between};
 use records::Record;
 
 // Puts the line at the front of a room. Answers how long it is.
+#[tactic(auto, using(crate::proofs::Puts::line_long, crate::proofs::Puts::line_put))]
 pub fn put_line(room: &mut [u8], kind: Record, text: &[u8], ends: &[usize]) -> usize
     requires { (length text.now + length ends.now + 5 ≤ length room.old) × (ends_hold ends.now (length text.now) ≡ true) }
     ensures { (result ≡ length (render kind (between text.now ends.now)))
@@ -21,6 +22,7 @@ pub fn put_line(room: &mut [u8], kind: Record, text: &[u8], ends: &[usize]) -> u
     end + 2
 }
 
+#[tactic(auto, using(crate::proofs::Puts::type_as))]
 fn put_type(room: &mut [u8], kind: Record)
     ensures { room.new ≡ placed room.old 0 (type_of kind) }
 {
@@ -35,17 +37,15 @@ fn put_type(room: &mut [u8], kind: Record)
 }
 
 // Puts the fields behind the record type.
+#[tactic(auto, using(crate::proofs::Puts::putting_none, crate::proofs::Puts::putting_done, crate::proofs::Puts::next_rises, crate::proofs::Puts::next_inside, crate::proofs::Puts::putting_on))]
 fn put_fields(room: &mut [u8], text: &[u8], ends: &[usize])
     requires { (length text.now + length ends.now + 3 ≤ length room.old) × (ends_hold ends.now (length text.now) ≡ true) }
     ensures { room.new ≡ placed room.old 3 (joined (between text.now ends.now)) }
 {
-    let mut start: usize = 0;
-    let mut i: usize = 0;
-    while i < ends.len() {
-        let end = ends[i];
+    let mut start = 0;
+    for (i, &end) in ends.iter().enumerate() {
         text::place(room, start + i + 3, b";");
         text::place(room, start + i + 4, &text[start..end]);
         start = end;
-        i += 1;
     }
 }
