@@ -14,16 +14,8 @@ pub fn peliranopi_check_number(symbols: &[u8], kind: &mut u32, place: &mut usize
     ensures { NumberTells symbols.now result kind.new place.new }
 {
     let answer = check_characters::check_number(symbols);
-    match answer {
-        Ok(which) => {
-            *kind = kind_number(which);
-            tell::accepted(place)
-        }
-        Err(refusal) => {
-            *kind = 0;
-            tell::refused(refusal, place)
-        }
-    }
+    *kind = answer.map_or(0, |kind| kind_number(kind));
+    tell::told(answer, place)
 }
 
 pub fn peliranopi_check_numbers(
@@ -35,16 +27,8 @@ pub fn peliranopi_check_numbers(
     ensures { DayTells numbers.now answers.old result passed.new place.new answers.new }
 {
     let answer = check_characters::check_numbers(numbers, answers);
-    match answer {
-        Ok(count) => {
-            *passed = count;
-            tell::accepted(place)
-        }
-        Err(refusal) => {
-            *passed = 0;
-            tell::refused(refusal, place)
-        }
-    }
+    *passed = answer.unwrap_or(0);
+    tell::told(answer, place)
 }
 
 pub fn peliranopi_issue_number(
@@ -55,35 +39,29 @@ pub fn peliranopi_issue_number(
 ) -> u32
     ensures { IssueTells body.now output.old result written.new place.new output.new }
 {
-    tell_issued(check_characters::issue_number(body, output), written, place)
+    let answer = check_characters::issue_number(body, output);
+    *written = answer.unwrap_or(0);
+    tell::told(answer, place)
 }
 
 pub fn peliranopi_next_carry(carry: u32, key: u8, next: &mut u32, place: &mut usize) -> u32
     ensures { CarryTells carry key result next.new place.new }
 {
     let answer = check_characters::next_carry(carry, key);
-    match answer {
-        Ok(after) => {
-            *next = after;
-            tell::accepted(place)
-        }
-        Err(refusal) => {
-            *next = 0;
-            tell::refused(refusal, place)
-        }
-    }
+    *next = answer.unwrap_or(0);
+    tell::told(answer, place)
 }
 
 pub fn peliranopi_check_iban(symbols: &[u8], place: &mut usize) -> u32
     ensures { IbanTells symbols.now result place.new }
 {
-    tell_checked(check_characters::check_iban(symbols), place)
+    tell::told(check_characters::check_iban(symbols), place)
 }
 
 pub fn peliranopi_check_identcode(code: &[u8], place: &mut usize) -> u32
     ensures { IdentcodeTells code.now result place.new }
 {
-    tell_checked(check_digits::check_identcode(code), place)
+    tell::told(check_digits::check_identcode(code), place)
 }
 
 // The header has the twelve numbers as a struct of six parts.
@@ -91,16 +69,8 @@ pub fn peliranopi_read_identcode(code: &[u8], parts: &mut [usize; 12], place: &m
     ensures { PartsTells code.now result parts.new place.new }
 {
     let answer = check_digits::read_identcode(code);
-    match answer {
-        Ok(found) => {
-            *parts = as_numbers(found);
-            tell::accepted(place)
-        }
-        Err(refusal) => {
-            *parts = [0; 12];
-            tell::refused(refusal, place)
-        }
-    }
+    *parts = answer.map_or([0; 12], |parts| as_numbers(parts));
+    tell::told(answer, place)
 }
 
 pub fn peliranopi_issue_identcode(
@@ -112,33 +82,9 @@ pub fn peliranopi_issue_identcode(
     ensures { IssueIdentcodeTells body.now output.old result
         written.new place.new output.new }
 {
-    tell_issued(check_digits::issue_identcode(body, output), written, place)
-}
-
-// What checking a number tells.
-fn tell_checked(answer: Result<(), Refusal>, place: &mut usize) -> u32
-    ensures { Tells (verdict_on answer) result place.new }
-{
-    match answer {
-        Ok(()) => tell::accepted(place),
-        Err(refusal) => tell::refused(refusal, place),
-    }
-}
-
-// What issuing a number tells.
-fn tell_issued(answer: Result<usize, Refusal>, written: &mut usize, place: &mut usize) -> u32
-    ensures { Tells (verdict_on answer) result place.new × (written.new ≡ issued_told answer) }
-{
-    match answer {
-        Ok(bytes) => {
-            *written = bytes;
-            tell::accepted(place)
-        }
-        Err(refusal) => {
-            *written = 0;
-            tell::refused(refusal, place)
-        }
-    }
+    let answer = check_digits::issue_identcode(body, output);
+    *written = answer.unwrap_or(0);
+    tell::told(answer, place)
 }
 
 // Where each part starts and how many digits it has, part by part.
