@@ -1,16 +1,14 @@
--- The records by cases: their rows, their counts, and which may follow which.
+-- The records by cases: their rows, and the types that name them.
 use Prim.Native.Nat.{ℕ, ◌<◌}
-use mathlib.Core.Path.{◌≡◌, refl, ◌∙◌}
-use mathlib.Core.Bool.{Bool, true, false, ◌&&◌, ◌||◌}
+use mathlib.Core.Path.{◌≡◌, refl}
+use mathlib.Core.Bool.{Bool, true, false}
 use mathlib.Core.List.{List}
 use native.Mathlib.Omega.{arith}
-use lib.Dec.{leb, eqb}
 use Rattle.text.specs.Scan.{same}
-use Rattle.records.specs.Record.{type_of, named, count_fits, row_of, record_at, may_follow, may_come, may_end}
+use Rattle.records.specs.Record.{type_of, named, row_of, record_at}
 use Rattle.records.specs.declared.record.Record.{Record}
 use Rattle.records.specs.declared.record.Record.TheVariants.{Header, Sender, Shipment, Parcel, Product, Feature}
 use Rattle.records.specs.declared.record.Named.TheVariants.{Known, Unknown}
-use Rattle.records.specs.declared.record.Due.{Due}
 
 pub row_below : (row : ℕ) (kind : Record) → row ≡ row_of kind → row < 6
 row_below row Header e = omega arith
@@ -27,62 +25,6 @@ at_row Shipment = refl
 at_row Parcel = refl
 at_row Product = refl
 at_row Feature = refl
-
--- an arm of a match is a case of the rule
-pub fits_as : (kind case : Record) (n : ℕ) (t : Bool) → kind ≡ case → t ≡ count_fits case n → t ≡ count_fits kind n
-fits_as kind case n t e f = rw e f
-
-pub follows_as : (before case kind : Record) (t : Bool) → before ≡ case → t ≡ may_follow case kind → t ≡ may_follow before kind
-follows_as before case kind t e f = rw e f
-
-pub comes_as : (due case : Due) (kind : Record) (t : Bool) → due ≡ case → t ≡ may_come case kind → t ≡ may_come due kind
-comes_as due case kind t e f = rw e f
-
-pub ends_as : (due case : Due) (t : Bool) → due ≡ case → t ≡ may_end case → t ≡ may_end due
-ends_as due case t e f = rw e f
-
--- the row of the record that comes, tested
-module _ (next : ℕ) (kind : Record) (en : next ≡ row_of kind) where
-  pub one_row : (n : ℕ) → eqb next n ≡ (eqb (row_of kind) n || false)
-  one_row n = rw (← en) (go (eqb next n))
-    where
-      go : (t : Bool) → t ≡ (t || false)
-      go true = refl
-      go false = refl
-
-  pub parcel_rows : (t : Bool) → t ≡ (leb 3 next && leb next 4) → t ≡ (eqb (row_of kind) 3 || (eqb (row_of kind) 4 || false))
-  parcel_rows t e = e ∙ rw en (go kind)
-    where
-      go : (k : Record) → (leb 3 (row_of k) && leb (row_of k) 4) ≡ (eqb (row_of k) 3 || (eqb (row_of k) 4 || false))
-      go Header = refl
-      go Sender = refl
-      go Shipment = refl
-      go Parcel = refl
-      go Product = refl
-      go Feature = refl
-
-  pub next_rows : (t : Bool) → t ≡ (eqb next 5 || (eqb next 2 || (eqb next 1 || false))) →
-      t ≡ (eqb (row_of kind) 5 || (eqb (row_of kind) 2 || (eqb (row_of kind) 1 || false)))
-  next_rows t e = e ∙ rw en
-
-  pub last_rows : leb 4 next ≡ (eqb (row_of kind) 4 || (eqb (row_of kind) 5 || false))
-  last_rows = rw en (go kind)
-    where
-      go : (k : Record) → leb 4 (row_of k) ≡ (eqb (row_of k) 4 || (eqb (row_of k) 5 || false))
-      go Header = refl
-      go Sender = refl
-      go Shipment = refl
-      go Parcel = refl
-      go Product = refl
-      go Feature = refl
-
--- the end of a row of tests joined by or
-pub or_last : (m n : ℕ) → eqb m n ≡ (eqb m n || false)
-or_last m n = go (eqb m n)
-  where
-    go : (t : Bool) → t ≡ (t || false)
-    go true = refl
-    go false = refl
 
 -- the tests of a name in their order
 module _ (name : List ℕ) (a : Bool) (ea : a ≡ same name (type_of Header)) where

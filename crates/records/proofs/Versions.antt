@@ -1,22 +1,16 @@
 -- The versions by cases.
 use Prim.Native.Nat.{ℕ}
 use mathlib.Core.Path.{◌≡◌, refl, ◌∙◌}
-use mathlib.Core.Bool.{Bool}
-use mathlib.Core.List.{List}
 use borrow.Author.Tests.{ne_eqb}
-use Rattle.text.specs.Scan.{same}
 use Rattle.refusal.specs.Table.{because}
 use Rattle.refusal.specs.declared.Refusal.{Refusal}
 use Rattle.refusal.specs.declared.Reason.TheVariants.{UnknownVersion}
-use Rattle.records.specs.Version.{numeral, version_numbered, under_version, UnderVersion}
+use Rattle.records.specs.Version.{version_numbered, under_version, UnderVersion}
 use Rattle.records.specs.declared.version.Version.{Version}
 use Rattle.records.specs.declared.version.VersionTold.{VersionTold}
 use Rattle.records.specs.declared.version.VersionTold.TheVariants.{Either, Neither}
 
 -- an arm of a match is a case of the rule
-pub numeral_as : (version case : Version) (f : List ℕ) (t : Bool) → version ≡ case → t ≡ same f (numeral case) → t ≡ same f (numeral version)
-numeral_as version case f t e g = rw e g
-
 pub told_as : (n case : ℕ) (told : VersionTold) → n ≡ case → told ≡ version_numbered case → told ≡ version_numbered n
 told_as n case told e f = rw e f
 
