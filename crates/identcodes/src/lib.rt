@@ -29,6 +29,7 @@ pub enum CodeAnswer {
 }
 
 // Whether the tree of so many parcels has the identcode of the parcel line that starts here; one that it has not is put into it.
+#[tactic(auto, using(crate::proofs::Answers::room_parts), unfolding(crate::specs::Tree::code_answer, crate::specs::Tree::tree_after))]
 pub fn find_or_grow(file: &[u8], tree: &mut [u32], parcels: usize, offset: usize) -> CodeAnswer
     ensures { Finds file.now tree.old parcels offset result tree.new }
 {
@@ -50,6 +51,7 @@ fn has_room(tree: &[u32], parcels: usize, offset: usize) -> bool
 }
 
 // Whether the code is known, where there is room; a new one is put into the tree.
+#[tactic(auto, unfolding(crate::specs::Tree::is_there, crate::specs::Tree::grown))]
 fn is_known(file: &[u8], tree: &mut [u32], parcels: usize, offset: usize) -> bool
     requires { (parcels < 32768) × (offset < 65536) }
     ensures { (result ≡ is_there file.now tree.old parcels offset)
@@ -67,15 +69,10 @@ fn is_known(file: &[u8], tree: &mut [u32], parcels: usize, offset: usize) -> boo
     if 22 <= digit {
         return true;
     }
-    part(
-        tree,
-        slot,
-        2 * parcels - 1,
-        digit,
-        earlier.get(digit).copied().unwrap_or(0),
-        code.get(digit).copied().unwrap_or(0),
-        offset,
-    );
+    let there = earlier.get(digit).copied().unwrap_or(0);
+    let here = code.get(digit).copied().unwrap_or(0);
+    let pair = (2 * parcels - 1) as u16;
+    part(tree, slot, pair, digit as u8, there, here, offset as u32);
     false
 }
 
@@ -122,20 +119,10 @@ fn unlike_at(a: &[u8], b: &[u8]) -> usize
 
 // Parts the leaf at this place: a fork that asks the digit at which the two codes are unlike.
 #[tactic(auto, unfolding(crate::specs::Tree::parted))]
-fn part(
-    tree: &mut [u32],
-    slot: usize,
-    pair: usize,
-    digit: usize,
-    earlier: u8,
-    here: u8,
-    offset: usize,
-)
-    requires { (pair < 65536) × (digit < 22) × (offset < 65536) }
-    ensures { tree.new ≡ parted tree.old slot pair digit earlier here offset }
+fn part(tree: &mut [u32], slot: usize, pair: u16, digit: u8, earlier: u8, here: u8, new: u32)
+    ensures { tree.new ≡ parted tree.old slot pair digit earlier here new }
 {
     let leaf = tree.get(slot).copied().unwrap_or(0);
-    let new = offset as u32;
     if earlier < here {
         let fork = fork_of(digit, here, pair);
         plant(tree, slot, pair, leaf, new, fork);
@@ -146,27 +133,24 @@ fn part(
 }
 
 // Puts the words of a pair, and the fork that leads to them where the leaf was.
-fn plant(tree: &mut [u32], slot: usize, pair: usize, first: u32, second: u32, fork: u32)
-    requires { pair < 65536 }
+fn plant(tree: &mut [u32], slot: usize, pair: u16, first: u32, second: u32, fork: u32)
     ensures { tree.new ≡ planted tree.old slot pair first second fork }
 {
-    store(tree, pair, first);
-    store(tree, pair + 1, second);
+    let place = usize::from(pair);
+    store(tree, place, first);
+    store(tree, place + 1, second);
     store(tree, slot, fork);
 }
 
 // The word of a fork.
 #[tactic(auto, unfolding(crate::specs::Tree::fork))]
-fn fork_of(digit: usize, byte: u8, pair: usize) -> u32
-    requires { (digit < 22) × (pair < 65536) }
+fn fork_of(digit: u8, byte: u8, pair: u16) -> u32
     ensures { result ≡ fork digit byte pair }
 {
-    let asked = digit as u32 * 256 + u32::from(byte);
-    asked * 65536 + pair as u32
+    (u32::from(digit) * 256 + u32::from(byte)) * 65536 + u32::from(pair)
 }
 
 // A word put at a place; past the end nothing changes.
-#[tactic(auto, using(crate::proofs::Finding::store_past))]
 fn store(tree: &mut [u32], place: usize, word: u32)
     ensures { tree.new ≡ set tree.old place word }
 {

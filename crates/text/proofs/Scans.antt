@@ -10,11 +10,11 @@ use native.Mathlib.Omega.{arith}
 use lib.ListN.{length, drop, get_or, drop_of_length-le}
 use lib.Seq.{drop-cons}
 use lib.Dec.{eqb}
-use borrow.Author.Tests.{not-true, not-false, eq-eqb, ne_eqb, eqb-true}
+use borrow.Author.Tests.{not-true, not-false, eq-eqb, eqb-true}
 use Rattle.std.specs.Prelude.{cond, count_by, zip, if◌then◌else◌}
 use Rattle.std.specs.List.{list_all}
 use Rattle.std.proofs.lemmas.List.Sums.{sum_by-cons}
-use Rattle.text.specs.Scan.{first_failing, all, count, among, paired, same}
+use Rattle.text.specs.Scan.{first_failing, all, count, paired, same}
 use Rattle.text.proofs.Choices.{and_left, and_right, and_both, true_or_false}
 
 -- a loop at the place i that has walked over what lies in front of it: each premise is a fact that the loop has
