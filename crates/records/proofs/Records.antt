@@ -1,14 +1,18 @@
 -- The records by cases: their rows, and the types that name them.
 use Prim.Native.Nat.{ℕ, ◌<◌}
-use mathlib.Core.Path.{◌≡◌, refl}
-use mathlib.Core.Bool.{Bool, true, false}
+use mathlib.Core.Path.{◌≡◌, refl, sym, ◌∙◌}
+use mathlib.Core.Bool.{false}
 use mathlib.Core.List.{List}
 use native.Mathlib.Omega.{arith}
+use lib.Dec.{eqb}
+use lib.ListN.{length}
 use Rattle.text.specs.Scan.{same}
+use Rattle.text.proofs.Scans.{pair_unlike}
 use Rattle.records.specs.Record.{type_of, named, row_of, record_at}
 use Rattle.records.specs.declared.record.Record.{Record}
 use Rattle.records.specs.declared.record.Record.TheVariants.{Header, Sender, Shipment, Parcel, Product, Feature}
-use Rattle.records.specs.declared.record.Named.TheVariants.{Known, Unknown}
+use Rattle.records.proofs.Types.{type_long}
+use Rattle.std.specs.Prelude.{None}
 
 pub row_below : (row : ℕ) (kind : Record) → row ≡ row_of kind → row < 6
 row_below row Header e = omega arith
@@ -26,37 +30,10 @@ at_row Parcel = refl
 at_row Product = refl
 at_row Feature = refl
 
--- the tests of a name in their order
-module _ (name : List ℕ) (a : Bool) (ea : a ≡ same name (type_of Header)) where
-  pub is_header : a ≡ true → Known Header ≡ named name
-  unfolding named
-  is_header h = simp (← ea, h)
-
-  module _ (na : a ≡ false) (b : Bool) (eb : b ≡ same name (type_of Sender)) where
-    pub is_sender : b ≡ true → Known Sender ≡ named name
-    unfolding named
-    is_sender h = simp (← ea, na, ← eb, h)
-
-    module _ (nb : b ≡ false) (c : Bool) (ec : c ≡ same name (type_of Shipment)) where
-      pub is_shipment : c ≡ true → Known Shipment ≡ named name
-      unfolding named
-      is_shipment h = simp (← ea, na, ← eb, nb, ← ec, h)
-
-      module _ (nc : c ≡ false) (d : Bool) (ed : d ≡ same name (type_of Parcel)) where
-        pub is_parcel : d ≡ true → Known Parcel ≡ named name
-        unfolding named
-        is_parcel h = simp (← ea, na, ← eb, nb, ← ec, nc, ← ed, h)
-
-        module _ (nd : d ≡ false) (e : Bool) (ee : e ≡ same name (type_of Product)) where
-          pub is_product : e ≡ true → Known Product ≡ named name
-          unfolding named
-          is_product h = simp (← ea, na, ← eb, nb, ← ec, nc, ← ed, nd, ← ee, h)
-
-          module _ (ne : e ≡ false) (f : Bool) (ef : f ≡ same name (type_of Feature)) where
-            pub is_feature_lem : f ≡ true → Known Feature ≡ named name
-            unfolding named
-            is_feature_lem h = simp (← ea, na, ← eb, nb, ← ec, nc, ← ed, nd, ← ee, ne, ← ef, h)
-
-            pub is_none : f ≡ false → Unknown ≡ named name
-            unfolding named
-            is_none h = simp (← ea, na, ← eb, nb, ← ec, nc, ← ed, nd, ← ee, ne, ← ef, h)
+-- only a name of three bytes names a record
+pub none_named : (name : List ℕ) → (length name ≡ 3 → ⊥) → named name ≡ None
+unfolding named
+none_named name n =
+    let no : (kind : Record) → same name (type_of kind) ≡ false =
+    λ kind. sym (pair_unlike eqb name (type_of kind) (λ e. n (e ∙ type_long kind))) in
+    simp (no Header, no Sender, no Shipment, no Parcel, no Product, no Feature)

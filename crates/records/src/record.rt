@@ -18,13 +18,6 @@ pub enum Record {
     Feature,
 }
 
-// What a record type names.
-#[derive(Clone, Copy, Debug, PartialEq, Eq)]
-pub enum Named {
-    Known(Record),
-    Unknown,
-}
-
 // Which record is due: any, where a line is judged alone; at a file's start the header; else one that may follow.
 #[derive(Clone, Copy, Debug, PartialEq, Eq)]
 pub enum Due {
@@ -34,28 +27,19 @@ pub enum Due {
 }
 
 // The record that a type names.
-pub fn record_named(name: &[u8]) -> Named
+#[tactic(auto, using(crate::proofs::Records::none_named), unfolding(crate::specs::Record::named))]
+pub fn record_named(name: &[u8]) -> Option<Record>
     ensures { result ≡ named name.now }
 {
-    if text::equal(name, b"010") {
-        return Named::Known(Record::Header);
+    match name {
+        b"010" => Some(Record::Header),
+        b"020" => Some(Record::Sender),
+        b"030" => Some(Record::Shipment),
+        b"040" => Some(Record::Parcel),
+        b"050" => Some(Record::Product),
+        b"060" => Some(Record::Feature),
+        _ => None,
     }
-    if text::equal(name, b"020") {
-        return Named::Known(Record::Sender);
-    }
-    if text::equal(name, b"030") {
-        return Named::Known(Record::Shipment);
-    }
-    if text::equal(name, b"040") {
-        return Named::Known(Record::Parcel);
-    }
-    if text::equal(name, b"050") {
-        return Named::Known(Record::Product);
-    }
-    if text::equal(name, b"060") {
-        return Named::Known(Record::Feature);
-    }
-    Named::Unknown
 }
 
 // Whether a record may have so many fields.
