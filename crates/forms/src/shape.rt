@@ -22,6 +22,7 @@ pub fn is_digits(s: &[u8], n: usize) -> bool
 }
 
 // Whether s is so many capitals.
+// Kept: beside `is_digits`, a line each over `text::all_in`. One function that is told the class would be no plainer.
 #[tactic(auto, unfolding(crate::specs::Shape::capitals))]
 pub fn is_capitals(s: &[u8], count: usize) -> bool
     ensures { result ≡ capitals count s.now }
