@@ -8,6 +8,7 @@ ghost use Rattle.text.specs.Scan.{all, count, among, same, in_line, line_feed};
 ghost use Rattle.text.specs.Placed.{placed, written};
 
 // The classes that a form asks of every byte.
+// Kept: a name and not a closure, for a contract can say which class it is, and a form's call reads as the form does.
 #[derive(Clone, Copy, Debug, PartialEq, Eq)]
 pub enum Class {
     Digit,
