@@ -19,10 +19,11 @@ ghost use Rattle.check_characters.specs.Steps.{steps};
 use crate::{answer, carry, steps, symbol};
 use refusal::{Reason, Refusal};
 
-#[derive(Clone, Copy)]
+// The numbers are those that the calls for C tell.
+#[derive(Clone, Copy, Debug, PartialEq, Eq)]
 pub enum Kind {
-    Tracking,
-    Label,
+    Tracking = 1,
+    Label = 2,
 }
 
 // How far a number's symbols are allowed, and the carry behind these.

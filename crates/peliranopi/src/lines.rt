@@ -1,10 +1,7 @@
 // The calls on one line: read, searched and written.
-ghost use Rattle.std.specs.Prelude.{◌≡◌};
-ghost use Rattle.peliranopi.specs.Told.{record_number};
 ghost use Rattle.peliranopi.specs.Calls.{LineTells, FieldTells, WriteTells};
 
 use crate::tell;
-use records::Record;
 
 pub fn peliranopi_read_line(
     version: u32,
@@ -18,7 +15,7 @@ pub fn peliranopi_read_line(
     ensures { LineTells version file.now offset result kind.new fields.new next.new place.new }
 {
     let answer = line::read_line(version, file, offset);
-    *kind = answer.map_or(0, |line| record_number(line.kind));
+    *kind = answer.map_or(0, |line| line.kind as u32);
     *fields = answer.map_or(0, |line| line.count);
     *next = answer.map_or(0, |line| line.next);
     tell::told(answer, place)
@@ -57,18 +54,4 @@ pub fn peliranopi_write_line(
     let answer = writer::write_line(version, kind, text, ends, output, fill);
     *written = answer.unwrap_or(0);
     tell::told(answer, place)
-}
-
-// The number that stands for a record.
-fn record_number(kind: Record) -> u32
-    ensures { result ≡ record_number kind }
-{
-    match kind {
-        Record::Header => 10,
-        Record::Sender => 20,
-        Record::Shipment => 30,
-        Record::Parcel => 40,
-        Record::Product => 50,
-        Record::Feature => 60,
-    }
 }

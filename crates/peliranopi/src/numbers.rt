@@ -1,12 +1,11 @@
 // The calls on DPD numbers and their carry, IBANs and identcodes.
-ghost use Rattle.refusal.specs.Table.{verdict_on};
 ghost use Rattle.std.specs.Prelude.{◌≡◌};
-ghost use Rattle.peliranopi.specs.Told.{kind_number, issued_told, as_numbers};
+ghost use Rattle.refusal.specs.Table.{verdict_on};
+ghost use Rattle.peliranopi.specs.Told.{value_told, parts_told, as_numbers};
 ghost use Rattle.peliranopi.specs.Calls.{Tells, NumberTells, IssueTells, CarryTells, IbanTells, IdentcodeTells, PartsTells};
 ghost use Rattle.peliranopi.specs.Calls.{DayTells, IssueIdentcodeTells};
 
 use crate::tell;
-use check_characters::Kind;
 use check_digits::Parts;
 use refusal::Refusal;
 
@@ -14,7 +13,7 @@ pub fn peliranopi_check_number(symbols: &[u8], kind: &mut u32, place: &mut usize
     ensures { NumberTells symbols.now result kind.new place.new }
 {
     let answer = check_characters::check_number(symbols);
-    *kind = answer.map_or(0, |kind| kind_number(kind));
+    *kind = answer.map_or(0, |kind| kind as u32);
     tell::told(answer, place)
 }
 
@@ -39,9 +38,7 @@ pub fn peliranopi_issue_number(
 ) -> u32
     ensures { IssueTells body.now output.old result written.new place.new output.new }
 {
-    let answer = check_characters::issue_number(body, output);
-    *written = answer.unwrap_or(0);
-    tell::told(answer, place)
+    tell_issued(check_characters::issue_number(body, output), written, place)
 }
 
 pub fn peliranopi_next_carry(carry: u32, key: u8, next: &mut u32, place: &mut usize) -> u32
@@ -69,7 +66,7 @@ pub fn peliranopi_read_identcode(code: &[u8], parts: &mut [usize; 12], place: &m
     ensures { PartsTells code.now result parts.new place.new }
 {
     let answer = check_digits::read_identcode(code);
-    *parts = answer.map_or([0; 12], |parts| as_numbers(parts));
+    *parts = numbers_of(answer);
     tell::told(answer, place)
 }
 
@@ -82,9 +79,25 @@ pub fn peliranopi_issue_identcode(
     ensures { IssueIdentcodeTells body.now output.old result
         written.new place.new output.new }
 {
-    let answer = check_digits::issue_identcode(body, output);
+    tell_issued(check_digits::issue_identcode(body, output), written, place)
+}
+
+// What issuing a number tells.
+fn tell_issued(answer: Result<usize, Refusal>, written: &mut usize, place: &mut usize) -> u32
+    ensures { Tells (verdict_on answer) result place.new × (written.new ≡ value_told answer) }
+{
     *written = answer.unwrap_or(0);
     tell::told(answer, place)
+}
+
+// The twelve numbers of an answer; 0 where the code is refused.
+fn numbers_of(answer: Result<Parts, Refusal>) -> [usize; 12]
+    ensures { result ≡ parts_told answer }
+{
+    match answer {
+        Ok(parts) => as_numbers(parts),
+        Err(_) => [0; 12],
+    }
 }
 
 // Where each part starts and how many digits it has, part by part.
@@ -105,14 +118,4 @@ fn as_numbers(parts: Parts) -> [usize; 12]
         parts.check.start,
         parts.check.length,
     ]
-}
-
-// The number that stands for a kind.
-fn kind_number(kind: Kind) -> u32
-    ensures { result ≡ kind_number kind }
-{
-    match kind {
-        Kind::Tracking => 1,
-        Kind::Label => 2,
-    }
 }

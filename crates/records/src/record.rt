@@ -2,20 +2,15 @@
 ghost use Rattle.std.specs.Prelude.{◌≡◌};
 ghost use Rattle.records.specs.Record.{row_of, named, count_fits, may_follow, may_come, may_end};
 
+// Each has the number that its type is written as.
 #[derive(Clone, Copy, Debug, PartialEq, Eq)]
 pub enum Record {
-    // 010
-    Header,
-    // 020
-    Sender,
-    // 030
-    Shipment,
-    // 040
-    Parcel,
-    // 050
-    Product,
-    // 060
-    Feature,
+    Header = 10,
+    Sender = 20,
+    Shipment = 30,
+    Parcel = 40,
+    Product = 50,
+    Feature = 60,
 }
 
 // Which record is due: any, where a line is judged alone; at a file's start the header; else one that may follow.
@@ -84,7 +79,7 @@ pub fn may_end(due: Due) -> bool
 pub fn row(kind: Record) -> usize
     ensures { result ≡ row_of kind }
 {
-    kind as usize
+    kind as usize / 10 - 1
 }
 
 // Whether the record may follow this one.
