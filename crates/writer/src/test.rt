@@ -1,52 +1,28 @@
-// What is asked before a line is written: its ends, and its fields from left to right.
-ghost use Rattle.std.specs.Prelude.{◌≡◌, true, length};
+// What is asked before a line is written: its fields from left to right.
+ghost use Rattle.std.specs.Prelude.{◌≡◌};
 ghost use Rattle.text.specs.Scan.{all};
 ghost use Rattle.records.specs.Record.{type_of};
 ghost use Rattle.fields.specs.Profile.{profile};
 ghost use Rattle.line.specs.Render.{plain};
-ghost use Rattle.writer.specs.Write.{ends_hold, between, tested_to_write, walked};
+ghost use Rattle.writer.specs.Write.{between, tested_to_write, walked};
 
+use crate::run::FieldRun;
 use records::{Record, Version};
 use refusal::{Reason, Refusal};
 
-// Whether the ends never fall and the last is the length of the text.
-#[tactic(auto, using(crate::proofs::Ends::ends_on, crate::proofs::Ends::ends_fall, crate::proofs::Ends::ends_end), unfolding(crate::specs::Write::ends_hold))]
-pub fn ends_hold(ends: &[usize], long: usize) -> bool
-    ensures { result ≡ ends_hold ends.now long }
-{
-    let mut start = 0;
-    for &end in ends {
-        if end < start {
-            return false;
-        }
-        start = end;
-    }
-    start == long
-}
-
 // Tests the fields. Beside a field stands the one in front of it; no rule of a first field looks beside it.
 #[tactic(auto, using(crate::proofs::Walks::walking_none, crate::proofs::Walks::walking_done, crate::proofs::Walks::next_rises, crate::proofs::Walks::next_inside, crate::proofs::Walks::walking_stops, crate::proofs::Walks::walking_on))]
-pub fn walk_fields(
-    version: Version,
-    kind: Record,
-    text: &[u8],
-    ends: &[usize],
-) -> Result<(), Refusal>
-    requires { ends_hold ends.now (length text.now) ≡ true }
-    ensures { result ≡ walked (profile version kind) 1 (type_of kind) (between text.now ends.now) }
+pub fn walk_fields(version: Version, kind: Record, run: FieldRun<'_>) -> Result<(), Refusal>
+    ensures { result ≡ walked (profile version kind) 1 (type_of kind) (between run.entry.text.now run.entry.ends.now) }
 {
     let mut beside = 0;
     let mut start = 0;
-    for (i, &end) in ends.iter().enumerate() {
+    for (i, &end) in run.ends.iter().enumerate() {
         let number = i + 1;
-        test_to_write(
-            version,
-            kind,
-            number,
-            &text[beside..start],
-            &text[start..end],
-        )
-        .map_err(|why| Refusal::new(why, number))?;
+        let before = &run.text[beside..start];
+        test_to_write(version, kind, number, before, &run.text[start..end]).map_err(
+            |why| Refusal::new(why, number),
+        )?;
         beside = start;
         start = end;
     }

@@ -3,8 +3,9 @@ ghost use Rattle.std.specs.Prelude.{◌≡◌, true, ◌+◌, ◌≤◌, length,
 ghost use Rattle.records.specs.Record.{type_of, count_fits};
 ghost use Rattle.fields.specs.Profile.{profile};
 ghost use Rattle.line.specs.Render.{plain, all_in};
-ghost use Rattle.writer.specs.Write.{record_numbered, ends_hold, between, walked, of_fields, after_walk, of_record, line_to, Writes};
+ghost use Rattle.writer.specs.Write.{record_numbered, between, walked, of_fields, after_walk, of_record, line_to, Writes};
 
+use crate::run::FieldRun;
 use crate::{put, test};
 use records::{Record, Version};
 use refusal::{Reason, Refusal};
@@ -41,13 +42,11 @@ fn of_record(
     ensures { (result ≡ of_record (profile version) (Some kind) text.now ends.now (length output.old) fill)
         × (output.new ≡ line_to result kind (between text.now ends.now) output.old fill) }
 {
-    if !test::ends_hold(ends, text.len()) {
-        return Err(Refusal::new(Reason::FieldEnds, 0));
-    }
+    let run = FieldRun::new(text, ends).ok_or(Refusal::new(Reason::FieldEnds, 0))?;
     if !records::count_fits(kind, ends.len()) {
         return Err(Refusal::new(Reason::FieldCount, 0));
     }
-    of_counted(version, kind, text, ends, output, fill)
+    of_counted(version, kind, run, output, fill)
 }
 
 // The same for as many fields as the record may have.
@@ -55,20 +54,19 @@ fn of_record(
 fn of_counted(
     version: Version,
     kind: Record,
-    text: &[u8],
-    ends: &[usize],
+    run: FieldRun<'_>,
     output: &mut [u8],
     fill: usize,
 ) -> Result<usize, Refusal>
-    requires { (ends_hold ends.now (length text.now) ≡ true) × (count_fits kind (length ends.now) ≡ true) }
-    ensures { (result ≡ after_walk (walked (profile version kind) 1 (type_of kind) (between text.now ends.now)) kind
-        (between text.now ends.now) (length output.old) fill)
-        × (output.new ≡ line_to result kind (between text.now ends.now) output.old fill) }
+    requires { count_fits kind (length run.ends.now) ≡ true }
+    ensures { (result ≡ after_walk (walked (profile version kind) 1 (type_of kind) (between run.entry.text.now run.entry.ends.now)) kind
+        (between run.entry.text.now run.entry.ends.now) (length output.old) fill)
+        × (output.new ≡ line_to result kind (between run.entry.text.now run.entry.ends.now) output.old fill) }
 {
-    test::walk_fields(version, kind, text, ends)?;
+    test::walk_fields(version, kind, run)?;
     // No allowed line is longer than 4,045 bytes.
     let mut line = [0u8; 4096];
-    write_fields(kind, text, ends, &mut line, output, fill)
+    write_fields(kind, run, &mut line, output, fill)
 }
 
 // The record with this number.
@@ -92,18 +90,17 @@ fn record_numbered(number: u32) -> Option<Record>
 #[tactic(auto, using(crate::proofs::Answers::line_long, crate::proofs::Answers::text_long, crate::proofs::Answers::fields_lack, crate::proofs::Answers::fill_past, crate::proofs::Answers::too_short, crate::proofs::Answers::has_room, crate::proofs::Answers::line_there))]
 fn write_fields(
     kind: Record,
-    text: &[u8],
-    ends: &[usize],
+    run: FieldRun<'_>,
     line: &mut [u8],
     output: &mut [u8],
     fill: usize,
 ) -> Result<usize, Refusal>
-    requires { (length text.now + length ends.now + 5 ≤ length line.old) × (ends_hold ends.now (length text.now) ≡ true)
-        × (all_in plain (between text.now ends.now) ≡ true) }
-    ensures { (result ≡ of_fields kind (between text.now ends.now) (length output.old) fill)
-        × (output.new ≡ line_to result kind (between text.now ends.now) output.old fill) }
+    requires { (length run.text.now + length run.ends.now + 5 ≤ length line.old)
+        × (all_in plain (between run.text.now run.ends.now) ≡ true) }
+    ensures { (result ≡ of_fields kind (between run.entry.text.now run.entry.ends.now) (length output.old) fill)
+        × (output.new ≡ line_to result kind (between run.entry.text.now run.entry.ends.now) output.old fill) }
 {
-    let long = put::put_line(line, kind, text, ends);
+    let long = put::put_line(line, kind, run);
     if line::lacks_field(kind, &line[..long - 2]) {
         return Err(Refusal::new(Reason::FeatureLacks, 0));
     }

@@ -4,4 +4,4 @@ use Rattle.writer.proofs.Walks.{Walking}
 use Rattle.writer.proofs.test.walk_fields.Given as goal
 
 abbrev pub invariant-loop-i : goal.invariant-loop-i
-invariant-loop-i l = Walking (profile l.version l.kind) l.kind l.text l.ends l.beside l.start l.i
+invariant-loop-i l = Walking (profile l.version l.kind) l.kind l.run.text.now l.run.ends.now l.beside l.start l.i
