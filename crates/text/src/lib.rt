@@ -39,6 +39,7 @@ fn is_in(class: Class, b: u8) -> bool
 }
 
 // Whether a byte is one of 0 to 9.
+// Kept: this, `is_capital` and `is_small` are a range each; one function that is given the ends would be no plainer.
 pub fn is_digit(b: u8) -> bool
     ensures { result ≡ digit b }
 {
