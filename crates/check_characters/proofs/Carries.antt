@@ -63,7 +63,7 @@ carry_append c [] q = refl
 carry_append c (b ∷ p) q = carry_append (step c (value_of b)) p q
 
 -- one symbol more
-carry_next : (s : List ℕ) (i : ℕ) → i < length s → carry (take (i + 1) s) ≡ step (carry (take i s)) (value_of (get_or s i 0))
+pub carry_next : (s : List ℕ) (i : ℕ) → i < length s → carry (take (i + 1) s) ≡ step (carry (take i s)) (value_of (get_or s i 0))
 carry_next s i h = rw add-one (ap carry (take-suc s i 0 h) ∙ carry_append 36 (take i s) (get_or s i 0 ∷ []))
 
 -- a loop at the place i, whose carry is that of what lies in front: each premise is a fact that the loop has
