@@ -19,7 +19,7 @@ use Rattle.check_characters.specs.declared.number.Kind.{Kind}
 use Rattle.check_characters.specs.declared.number.Kind.TheVariants.{Tracking, Label}
 use Rattle.check_characters.proofs.Carries.{carry_next, carry_ends, passes_two, two_passes}
 use Rattle.check_characters.proofs.Shapes.{has_last}
-use Rattle.std.specs.Prelude.{Result, Ok, Err}
+use Rattle.std.specs.Prelude.{Ok, Err}
 
 module _ (k : Kind) (s : List ℕ) where
   -- a walk at the place i that has walked over what lies in front of it

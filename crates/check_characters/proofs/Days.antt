@@ -1,33 +1,25 @@
 -- A day's numbers: the answers as they are written one by one, and what the call answers, by cases.
-use Prim.Native.Nat.{ℕ, ◌+◌, ◌-◌, ◌*◌, ◌%◌, ◌≤◌, ◌<◌}
+use Prim.Native.Nat.{ℕ, ◌+◌, ◌*◌, ◌%◌, ◌≤◌, ◌<◌}
 use mathlib.Core.Path.{◌≡◌, sym, ap, ◌∙◌}
 use mathlib.Core.List.{List, ◌++◌}
 use native.Mathlib.Nat.{zero-add}
 use native.Mathlib.Numerals.{add-one}
 use native.Mathlib.Omega.{arith}
 use lib.ListN.{length, take, drop, get_or, set, length-drop, length-append}
-use lib.Seq.{paste, paste-suc, length-take-le, take-append-le, drop-append-le, take_at, drop_at, drop-drop}
-use mir.Val.{Fits}
-use mir.Syntax.{w8}
+use lib.Seq.{paste, paste-suc, take-append-le, drop-append-le, take_at, drop_at, drop-drop}
 use borrow.Author.Tests.{eq-eqb, ne_eqb, lt-ltb, le-ltb}
-use Rattle.refusal.specs.declared.Reason.{Reason}
 use Rattle.refusal.specs.declared.Reason.TheVariants.{OutputTooShort, WrongLength}
-use Rattle.refusal.specs.Table.{because, number_of, number_told, verdict_on}
-use Rattle.refusal.proofs.Verdicts.{number_small}
+use Rattle.refusal.specs.Table.{because, number_told, verdict_on}
 use Rattle.text.specs.Placed.{written}
-use Rattle.text.proofs.Placing.{copy_done, clip_whole}
+use Rattle.text.proofs.Placing.{copy_done}
 use Rattle.text.proofs.Tables.{tabled_at, tabled_long}
-use Rattle.check_characters.specs.Number.{length_of, checked_as, checked_number}
+use Rattle.check_characters.specs.Number.{checked_as, checked_number}
 use Rattle.check_characters.specs.Day.{number_at, how_many, day_answers, zeros, day_answer}
 use Rattle.check_characters.specs.declared.number.Kind.TheVariants.{Tracking}
 use Rattle.check_characters.proofs.Checking.{checked_tracking}
 use Rattle.std.specs.Prelude.{Result, Ok, Err}
 use Rattle.check_characters.specs.declared.number.Kind.{Kind}
 use Rattle.refusal.specs.declared.Refusal.{Refusal}
-
--- a refusal's number fits into the byte of an answer
-pub number_fits : (n : ℕ) (why : Reason) → n ≡ number_of why → Fits w8 n
-number_fits n why e = omega (arith, number_small why)
 
 -- what stands behind a number does not change it
 pub number_front : (numbers behind : List ℕ) (i : ℕ) → 15 * i + 15 ≤ length numbers → number_at (numbers ++ behind) i ≡ number_at numbers i

@@ -12,7 +12,6 @@ use Rattle.std.specs.Prelude.{if◌then◌else◌}
 use Rattle.text.specs.Byte.{capital}
 use Rattle.check_characters.specs.Symbol.{value_of}
 use Rattle.check_characters.specs.Iban.{digits_of, spread, decimal_from, iban_number}
-use Rattle.check_characters.proofs.Symbols.{value_le}
 
 pub decimal_append : (a : ℕ) (p q : List ℕ) → decimal_from a (p ++ q) ≡ decimal_from (decimal_from a p) q
 decimal_append a [] q = refl

@@ -9,7 +9,7 @@ use native.Mathlib.Omega.{arith}
 use lib.Dec.{ltb}
 use lib.ListN.{length}
 use borrow.Author.Tests.{le-leb}
-use Rattle.std.specs.Prelude.{cond, if◌then◌else◌, position, Option, Some, None, Result, Ok, Err}
+use Rattle.std.specs.Prelude.{cond, if◌then◌else◌, position, Some, None, Ok, Err}
 use Rattle.std.specs.List.{position_or_len, enumerate_from}
 use Rattle.std.proofs.lemmas.List.FromFn.{length-enumerate_from}
 use Rattle.refusal.specs.declared.Reason.TheVariants.{WrongSymbol, WrongCheck}

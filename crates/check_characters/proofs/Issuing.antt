@@ -21,7 +21,7 @@ use Rattle.check_characters.specs.Mod37.{carry, closes, first_value, check_of}
 use Rattle.check_characters.proofs.Checking.{walked_whole}
 use Rattle.check_characters.specs.declared.number.Kind.{Kind}
 use Rattle.check_characters.specs.declared.number.Kind.TheVariants.{Tracking, Label}
-use Rattle.std.specs.Prelude.{if◌then◌else◌, Result, Ok, Err, Option, Some, None}
+use Rattle.std.specs.Prelude.{if◌then◌else◌, Result, Ok, Err, Some, None}
 use Rattle.refusal.specs.declared.Refusal.{Refusal}
 
 module _ (n room : ℕ) where
@@ -52,10 +52,6 @@ pub issued_with : (r : Result ℕ Refusal) (body out after : List ℕ) (check kn
 issued_with r body out after check known e f = f ∙ ap (λ (c : ℕ). issued_to r body c out) e
 
 module _ (k : Kind) (body : List ℕ) (room wrong : ℕ) (ew : wrong ≡ wrong_in_number k body) where
-  pub issue_wrong : wrong < length body → Err (because WrongSymbol wrong) ≡ issue_as k body room
-  unfolding issue_as
-  issue_wrong h = simp (← ew, lt-ltb wrong (length body))
-
   pub issue_right : (r : Result ℕ Refusal) → length body ≤ wrong → length body + 1 ≡ length_of k → r ≡ room_for (length body + 1) room →
       r ≡ issue_as k body room
   unfolding issue_as

@@ -1,7 +1,7 @@
 -- Document 01, 'Check characters': what checking a number and issuing one answer, and what an issued one writes.
-use Rattle.std.specs.Prelude.{ℕ, List, ◌∷◌, ◌++◌, ltb, drop, if◌then◌else◌, ⊤, Result, Ok, Err}
+use Rattle.std.specs.Prelude.{ℕ, List, ◌∷◌, ◌++◌, ltb, drop, if◌then◌else◌, Result, Ok, Err}
 use Rattle.refusal.specs.declared.Reason.TheVariants.{OutputTooShort}
-use Rattle.refusal.specs.Table.{because, verdict_of, Verdict}
+use Rattle.refusal.specs.Table.{because}
 use Rattle.refusal.specs.declared.Refusal.{Refusal}
 
 -- "then 13": a number of so many symbols is issued into an output of so many bytes

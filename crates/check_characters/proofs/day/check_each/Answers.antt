@@ -3,7 +3,7 @@ use Rattle.std.proofs.Common.{◌≡◌, ◌+◌, ◌*◌, ◌<◌, ◌++◌, le
 use Rattle.std.specs.Iterator.Adapters.{enumerate_source, enumerate_count}
 use Rattle.std.specs.Slice.Iter.{chunks_exact_rest}
 use lib.Seq.{paste}
-use Rattle.check_characters.specs.Day.{how_many, day_answers}
+use Rattle.check_characters.specs.Day.{day_answers}
 use Rattle.check_characters.proofs.Days.{next_inside, next_rest, next_answer, day_again, day_done}
 use Rattle.check_characters.proofs.day.check_each.Goals as goal
 
