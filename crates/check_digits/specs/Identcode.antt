@@ -12,7 +12,7 @@ use Rattle.std.specs.Prelude.{ℕ, suc, ◌+◌, ◌-◌, ◌*◌, ◌%◌, ◌�
 use Rattle.text.specs.Byte.{digit}
 use Rattle.text.specs.Scan.{first_failing}
 use Rattle.refusal.specs.declared.Reason.TheVariants.{WrongLength, WrongSymbol, WrongCheck}
-use Rattle.refusal.specs.Table.{because, verdict_of, Verdict}
+use Rattle.refusal.specs.Table.{because}
 use Rattle.check_characters.specs.Symbol.{value_of, symbol_of}
 use Rattle.check_characters.specs.Answer.{room_for, issued_to}
 use Rattle.check_digits.specs.declared.identcode.Part.{Part}
@@ -60,6 +60,11 @@ weighed_from i (b ∷ s) = weight_at i * value_of b + weighed_from (suc i) s
 
 abbrev pub weighed : List ℕ → ℕ
 weighed digits = weighed_from 0 digits
+
+-- the sum of digits; the first symbol that is none is refused
+unfoldable pub weighs : List ℕ → Result ℕ Refusal
+weighs digits =
+    if ltb (wrong_in_identcode digits) (length digits) then Err (because WrongSymbol (wrong_in_identcode digits)) else Ok (weighed digits)
 
 -- "and divided by 10. The remainder of this division is subtracted from 10. [..] (If the remainder is 0, the checksum is 0)"
 unfoldable pub check_digit : ℕ → ℕ
