@@ -9,16 +9,16 @@ use lib.Dec.{eqb, ltb}
 use lib.ListN.{length, drop, set}
 use lib.Seq.{drop-cons, set-append_seam}
 use borrow.Author.Tests.{eqb-true, eqb-false, eq-eqb, ne_eqb, lt-ltb, le-ltb, le-leb}
-use Rattle.refusal.specs.declared.Reason.TheVariants.{OutputTooShort, WrongLength, WrongSymbol}
+use Rattle.refusal.specs.declared.Reason.TheVariants.{OutputTooShort, WrongLength}
 use Rattle.refusal.specs.Table.{because, verdict_on}
 use Rattle.refusal.proofs.Verdicts.{no_pass}
 use Rattle.text.specs.Placed.{placed}
 use Rattle.text.proofs.Choices.{came_then, came_else, choice}
-use Rattle.check_characters.specs.Answer.{room_for, issued_to}
-use Rattle.check_characters.specs.Number.{length_of, kind_of, wrong_in_number, walked, issue_as, issue_answer}
+use Rattle.check_characters.specs.Answer.{walked, room_for, issued_to}
+use Rattle.check_characters.specs.Number.{length_of, kind_of, allowed_in_number, wrong_in_number, issue_as, issue_answer}
 use Rattle.check_characters.specs.Symbol.{symbol_of}
 use Rattle.check_characters.specs.Mod37.{carry, closes, first_value, check_of}
-use Rattle.check_characters.proofs.Checking.{walked_whole}
+use Rattle.check_characters.proofs.Walks.{walked_refused, walked_whole}
 use Rattle.check_characters.specs.declared.number.Kind.{Kind}
 use Rattle.check_characters.specs.declared.number.Kind.TheVariants.{Tracking, Label}
 use Rattle.std.specs.Prelude.{if◌then◌else◌, Result, Ok, Err, Some, None}
@@ -51,29 +51,25 @@ pub issued_with : (r : Result ℕ Refusal) (body out after : List ℕ) (check kn
     after ≡ issued_to r body known out
 issued_with r body out after check known e f = f ∙ ap (λ (c : ℕ). issued_to r body c out) e
 
-module _ (k : Kind) (body : List ℕ) (room wrong : ℕ) (ew : wrong ≡ wrong_in_number k body) where
-  pub issue_right : (r : Result ℕ Refusal) → length body ≤ wrong → length body + 1 ≡ length_of k → r ≡ room_for (length body + 1) room →
-      r ≡ issue_as k body room
-  unfolding issue_as
-  issue_right r h whole e = simp (← ew, le-ltb wrong (length body), ← whole) e
-
--- behind a walk over the body
 module _ (k : Kind) (body : List ℕ) (room : ℕ) where
-  pub issue_refused : (r : Refusal) → walked k body ≡ Err r → issue_as k body room ≡ Err r
-  unfolding walked issue_as
-  issue_refused r e =
-      let a = came_then (ltb (wrong_in_number k body) (length body)) (Err (because WrongSymbol (wrong_in_number k body))) (Ok (carry body)) (Err r) (λ f. cc) e in
-      simp (a.0, a.1)
+  pub issue_right : length body ≤ wrong_in_number k body → length body + 1 ≡ length_of k → issue_as k body room ≡ room_for (length body + 1) room
+  unfolding issue_as
+  issue_right h whole = simp (le-ltb (wrong_in_number k body) (length body), ← whole)
 
-  module _ (c : ℕ) (e : walked k body ≡ Ok c) where
+  -- behind a walk over the body
+  pub issue_refused : (r : Refusal) → walked (allowed_in_number k) body (carry body) ≡ Err r → issue_as k body room ≡ Err r
+  unfolding issue_as
+  issue_refused r e = let a = walked_refused (allowed_in_number k) body (carry body) r e in rw (a.0, a.1)
+
+  module _ (c : ℕ) (e : walked (allowed_in_number k) body (carry body) ≡ Ok c) where
     pub issue_walked : length body + 1 ≡ length_of k → issue_as k body room ≡ room_for (length body + 1) room
-    unfolding issue_as
-    issue_walked whole = simp ((walked_whole k body c e).0, ← whole)
+    issue_walked = issue_right (walked_whole (allowed_in_number k) body (carry body) c e).0
 
     pub check_walked : symbol_of (first_value (closes c) 0 36) ≡ check_of body
     unfolding check_of
-    check_walked = ap (λ x. symbol_of (first_value (closes x) 0 36)) (walked_whole k body c e).1
+    check_walked = ap (λ x. symbol_of (first_value (closes x) 0 36)) (walked_whole (allowed_in_number k) body (carry body) c e).1
 
+-- the kind that a length tells
 pub kind_long : (n : ℕ) (k : Kind) → kind_of n ≡ Some k → n ≡ length_of k
 unfolding kind_of
 kind_long n k e =

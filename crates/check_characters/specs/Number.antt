@@ -13,7 +13,7 @@ use Rattle.text.specs.Byte.{digit, symbol}
 use Rattle.text.specs.Scan.{first_failing}
 use Rattle.refusal.specs.declared.Reason.TheVariants.{WrongLength, WrongSymbol, WrongCheck}
 use Rattle.refusal.specs.Table.{because}
-use Rattle.check_characters.specs.Mod37.{carry, passes, check_of}
+use Rattle.check_characters.specs.Mod37.{passes, check_of}
 use Rattle.check_characters.specs.Answer.{room_for, issued_to}
 use Rattle.check_characters.specs.declared.number.Kind.{Kind}
 use Rattle.check_characters.specs.declared.number.Kind.TheVariants.{Tracking, Label}
@@ -41,12 +41,6 @@ allowed_in_number kind i b = get_or (shape_of kind) i (λ _. false) b
 -- the place of the first symbol that is not allowed where it stands
 abbrev pub wrong_in_number : Kind → List ℕ → ℕ
 wrong_in_number kind symbols = first_failing (allowed_in_number kind) 0 symbols
-
--- the carry behind symbols that may stand in a number; the first that may not is refused
-unfoldable pub walked : Kind → List ℕ → Result ℕ Refusal
-walked kind symbols =
-    if ltb (wrong_in_number kind symbols) (length symbols) then Err (because WrongSymbol (wrong_in_number kind symbols))
-    else Ok (carry symbols)
 
 -- "Checking a number or an IBAN refuses in the order 16, 17, 18."
 unfoldable pub checked_as : Kind → List ℕ → Result Kind Refusal

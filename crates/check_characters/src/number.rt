@@ -10,10 +10,10 @@
 // First 36 + 0 leaves 0, read as 36; twice that is 72, which leaves 35. Then 35 + 9 leaves 8, and twice that is 16. At the end the
 // check's value makes 22 + value leave 1 modulo 36: it is 15, the value of `F`. Twice 1 is 2, the carry behind it.
 ghost use Rattle.std.specs.Prelude.{◌≡◌, ◌+◌, length};
-ghost use Rattle.check_characters.specs.Number.{length_of, kind_of, allowed_in_number, walked, checked_as, checked_number};
+ghost use Rattle.check_characters.specs.Number.{length_of, kind_of, allowed_in_number, checked_as, checked_number};
 ghost use Rattle.check_characters.specs.Number.{issue_as, Issues};
-ghost use Rattle.check_characters.specs.Answer.{issued_to};
-ghost use Rattle.check_characters.specs.Mod37.{check_of};
+ghost use Rattle.check_characters.specs.Answer.{walked, issued_to};
+ghost use Rattle.check_characters.specs.Mod37.{carry, check_of};
 
 use crate::answer;
 use crate::carry::Carry;
@@ -102,9 +102,9 @@ fn issue_as(kind: Kind, body: &[u8], output: &mut [u8]) -> Result<usize, Refusal
 }
 
 // Walks over symbols that may stand in a number of this kind, and takes the carry along; the first that may not is refused.
-#[tactic(auto, using(crate::proofs::Checking::walks))]
+#[tactic(auto, using(crate::proofs::Walks::walks, crate::proofs::Carries::carry_next))]
 fn walk(steps: &Steps, kind: Kind, symbols: &[u8]) -> Result<Carry, Refusal>
-    ensures { result ≡ walked kind symbols.now }
+    ensures { result ≡ walked (allowed_in_number kind) symbols.now (carry symbols.now) }
 {
     let mut carry = Carry::start();
     for (i, &b) in symbols.iter().enumerate() {

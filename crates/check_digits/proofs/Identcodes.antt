@@ -8,9 +8,9 @@ use native.Mathlib.Omega.{arith}
 use native.Mathlib.Nat.{zero-add, add-zero, suc-add, add-suc}
 use native.Mathlib.Numerals.{add-one}
 use lib.Dec.{eqb, ltb}
-use lib.ListN.{length, get_or, take, drop, length-take}
+use lib.ListN.{length, get_or, take, length-take}
 use lib.Seq.{take-suc, take_all}
-use borrow.Author.Tests.{eqb-true, eq-eqb, ne_eqb, lt-ltb, le-ltb, ltb-false, not-false}
+use borrow.Author.Tests.{eqb-true, eq-eqb, ne_eqb, le-ltb, ltb-false, not-false}
 use Rattle.refusal.specs.declared.Reason.TheVariants.{WrongLength, WrongSymbol, WrongCheck}
 use Rattle.refusal.specs.declared.Refusal.{Refusal}
 use Rattle.refusal.specs.Table.{because, verdict_on}
@@ -20,12 +20,12 @@ use Rattle.text.specs.Byte.{digit}
 use Rattle.text.proofs.Choices.{came_then, came_else}
 use Rattle.text.proofs.Bytes.{digit_range}
 use Rattle.text.proofs.Numbers.{eq_or_ne}
-use Rattle.text.specs.Scan.{first_failing}
-use Rattle.text.proofs.Scans.{none_fails, walk_on, walk_stops, walk_ends}
+use Rattle.text.proofs.Scans.{none_fails}
 use Rattle.check_characters.specs.Symbol.{value_of, symbol_of}
-use Rattle.check_characters.specs.Answer.{room_for}
+use Rattle.check_characters.specs.Answer.{walked, room_for}
+use Rattle.check_characters.proofs.Walks.{walked_refused, walked_whole}
 use Rattle.check_digits.specs.Identcode.{allowed_in_identcode, wrong_in_identcode, weight_at}
-use Rattle.check_digits.specs.Identcode.{weighed_from, weighed, weighs, check_digit, check_digit_of, passes}
+use Rattle.check_digits.specs.Identcode.{weighed_from, weighed, check_digit, check_digit_of, passes}
 use Rattle.check_digits.specs.Identcode.{checked_identcode, issue_identcode_answer}
 use Rattle.check_characters.proofs.Symbols.{value_digit, low_symbol}
 
@@ -65,37 +65,11 @@ pub weighs_little : (i d : ℕ) → d ≤ 9 → weight_at i * d ≤ 27
 weighs_little i d l =
     ⊎_elim (λ z. rw (sym (weight_three i z)) (omega arith)) (λ z. rw (sym (weight_one i z)) (omega arith)) (eq_or_ne (i % 2) 0)
 
-module _ (s : List ℕ) (i : ℕ) (e : first_failing allowed_in_identcode i (drop i s) ≡ wrong_in_identcode s) where
-  pub walk_refuses : i < length s → digit (get_or s i 0) ≡ false → weighs s ≡ Err (because WrongSymbol i)
-  unfolding weighs
-  walk_refuses h f =
-      let w : i ≡ wrong_in_identcode s = walk_stops allowed_in_identcode s i (wrong_in_identcode s) false h (sym f) refl e in
-      simp (← w, lt-ltb i (length s))
+-- and behind all of them
+pub weighed_ends : (s : List ℕ) (i sum : ℕ) → sum ≡ weighed (take i s) → length s ≤ i → sum ≡ weighed s
+weighed_ends s i sum e h = e ∙ ap weighed (take_all i s h)
 
-  pub walk_more : i < length s → digit (get_or s i 0) ≡ true → first_failing allowed_in_identcode (i + 1) (drop (i + 1) s) ≡ wrong_in_identcode s
-  walk_more h t = walk_on allowed_in_identcode s i (wrong_in_identcode s) true h (sym t) refl e
-
-  pub walk_passes : (sum : ℕ) → sum ≡ weighed (take i s) → length s ≤ i → weighs s ≡ Ok sum
-  unfolding weighs
-  walk_passes sum es h =
-      let w : i ≡ wrong_in_identcode s = walk_ends allowed_in_identcode s i (wrong_in_identcode s) h e in
-      simp (← w, le-ltb i (length s), es ∙ ap weighed (take_all i s h))
-
-pub ruleset walks = (digit_there, digit_weighs, weighs_little, walk_refuses, walk_more, walk_passes)
-
--- and what it told
-module _ (s : List ℕ) where
-  pub weighs_refused : (r : Refusal) → weighs s ≡ Err r → (ltb (wrong_in_identcode s) (length s) ≡ true) × (because WrongSymbol (wrong_in_identcode s) ≡ r)
-  unfolding weighs
-  weighs_refused r e =
-      let a = came_then (ltb (wrong_in_identcode s) (length s)) (Err (because WrongSymbol (wrong_in_identcode s))) (Ok (weighed s)) (Err r) (λ f. cc) e in
-      (a.0, cc)
-
-  pub weighs_whole : (sum : ℕ) → weighs s ≡ Ok sum → (ltb (wrong_in_identcode s) (length s) ≡ false) × (sum ≡ weighed s)
-  unfolding weighs
-  weighs_whole sum e =
-      let a = came_else (ltb (wrong_in_identcode s) (length s)) (Err (because WrongSymbol (wrong_in_identcode s))) (Ok (weighed s)) (Ok sum) (λ f. cc) e in
-      (a.0, cc)
+pub ruleset weighings = (digit_there, digit_weighs, weighs_little)
 
 -- the check digit of a sum
 module _ (left sum : ℕ) (e : left ≡ sum % 10) where
@@ -143,25 +117,25 @@ module _ (s : List ℕ) where
   checked_length n = simp (ne_eqb (length s) 22)
 
   module _ (long : length s ≡ 22) where
-    pub checked_refused : (r : Refusal) → weighs s ≡ Err r → checked_identcode s ≡ Err r
+    pub checked_refused : (r : Refusal) → walked allowed_in_identcode s (weighed s) ≡ Err r → checked_identcode s ≡ Err r
     unfolding checked_identcode
-    checked_refused r e = let a = weighs_refused s r e in simp (eq-eqb (length s) 22, a.0) (rw a.1)
+    checked_refused r e = let a = walked_refused allowed_in_identcode s (weighed s) r e in simp (eq-eqb (length s) 22, a.0) (rw a.1)
 
-    module _ (sum : ℕ) (e : weighs s ≡ Ok sum) where
+    module _ (sum : ℕ) (e : walked allowed_in_identcode s (weighed s) ≡ Ok sum) where
       fine : length s ≤ wrong_in_identcode s
-      fine = ltb-false (wrong_in_identcode s) (length s) (weighs_whole s sum e).0
+      fine = (walked_whole allowed_in_identcode s (weighed s) sum e).0
 
       pub checked_passes : sum % 10 ≡ 0 → checked_identcode s ≡ Ok tt
       unfolding checked_identcode
       checked_passes z =
-          let a = weighs_whole s sum e in
-          simp (eq-eqb (length s) 22, a.0, passes_leaves s long fine (rw (← a.1) z))
+          let a = walked_whole allowed_in_identcode s (weighed s) sum e in
+          simp (eq-eqb (length s) 22, le-ltb (wrong_in_identcode s) (length s) fine, passes_leaves s long fine (rw (← a.1) z))
 
       pub checked_fails : (sum % 10 ≡ 0 → ⊥) → checked_identcode s ≡ Err (because WrongCheck 21)
       unfolding checked_identcode
       checked_fails n =
-          let a = weighs_whole s sum e in
-          simp (long, rw long at a.0, leaves_passes s long fine (λ z. n (rw a.1 z)))
+          let a = walked_whole allowed_in_identcode s (weighed s) sum e in
+          simp (long, le-ltb (wrong_in_identcode s) 22 (omega (arith, a.0)), leaves_passes s long fine (λ z. n (rw a.1 z)))
 
 pub ruleset checks = (checked_length, checked_refused, checked_passes, checked_fails)
 
@@ -193,20 +167,20 @@ module _ (body : List ℕ) (room : ℕ) where
   identcode_length n = simp (ne_eqb (length body) 21)
 
   module _ (long : length body ≡ 21) where
-    pub identcode_refused : (r : Refusal) → weighs body ≡ Err r → issue_identcode_answer body room ≡ Err r
+    pub identcode_refused : (r : Refusal) → walked allowed_in_identcode body (weighed body) ≡ Err r → issue_identcode_answer body room ≡ Err r
     unfolding issue_identcode_answer
-    identcode_refused r e = let a = weighs_refused body r e in simp (eq-eqb (length body) 21, a.0) (rw a.1)
+    identcode_refused r e = let a = walked_refused allowed_in_identcode body (weighed body) r e in simp (eq-eqb (length body) 21, a.0) (rw a.1)
 
     -- where every symbol is a digit
-    pub identcode_right : ltb (wrong_in_identcode body) (length body) ≡ false → issue_identcode_answer body room ≡ room_for (length body + 1) room
+    pub identcode_right : length body ≤ wrong_in_identcode body → issue_identcode_answer body room ≡ room_for (length body + 1) room
     unfolding issue_identcode_answer
-    identcode_right f = simp (long, rw long at f)
+    identcode_right f = simp (long, le-ltb (wrong_in_identcode body) 21 (omega arith))
 
-    module _ (sum : ℕ) (e : weighs body ≡ Ok sum) where
+    module _ (sum : ℕ) (e : walked allowed_in_identcode body (weighed body) ≡ Ok sum) where
       pub identcode_walked : issue_identcode_answer body room ≡ room_for (length body + 1) room
-      identcode_walked = identcode_right (weighs_whole body sum e).0
+      identcode_walked = identcode_right (walked_whole allowed_in_identcode body (weighed body) sum e).0
 
       pub identcode_check : check_digit sum ≡ check_digit_of body
-      identcode_check = ap check_digit (weighs_whole body sum e).1
+      identcode_check = ap check_digit (walked_whole allowed_in_identcode body (weighed body) sum e).1
 
 pub ruleset issues = (identcode_length, identcode_refused, identcode_walked, identcode_check)

@@ -61,11 +61,6 @@ weighed_from i (b ∷ s) = weight_at i * value_of b + weighed_from (suc i) s
 abbrev pub weighed : List ℕ → ℕ
 weighed digits = weighed_from 0 digits
 
--- the sum of digits; the first symbol that is none is refused
-unfoldable pub weighs : List ℕ → Result ℕ Refusal
-weighs digits =
-    if ltb (wrong_in_identcode digits) (length digits) then Err (because WrongSymbol (wrong_in_identcode digits)) else Ok (weighed digits)
-
 -- "and divided by 10. The remainder of this division is subtracted from 10. [..] (If the remainder is 0, the checksum is 0)"
 unfoldable pub check_digit : ℕ → ℕ
 check_digit sum = if eqb (sum % 10) 0 then symbol_of 0 else symbol_of (10 - sum % 10)

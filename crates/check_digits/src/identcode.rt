@@ -9,7 +9,9 @@
 // 204 leaves 4 by 10, and 10 - 4 is 6. The check digit itself would weigh 1: so a code passes where all its 22 digits, weighed, leave
 // 0, here 210. That takes one walk.
 ghost use Rattle.std.specs.Prelude.{◌≡◌, ◌≤◌, length};
-ghost use Rattle.check_digits.specs.Identcode.{weight_at, weighs, check_digit, checked_identcode, parts_answer, IssuesIdentcode};
+ghost use Rattle.check_digits.specs.Identcode.{allowed_in_identcode, weight_at, weighed, check_digit, checked_identcode};
+ghost use Rattle.check_digits.specs.Identcode.{parts_answer, IssuesIdentcode};
+ghost use Rattle.check_characters.specs.Answer.{walked};
 
 use refusal::{Reason, Refusal};
 
@@ -87,10 +89,10 @@ pub fn issue_identcode(body: &[u8], output: &mut [u8]) -> Result<usize, Refusal>
 }
 
 // The sum of digits, each times its weight; the first symbol that is none is refused.
-#[tactic(auto, using(crate::proofs::Identcodes::walks))]
+#[tactic(auto, using(check_characters::proofs::Walks::walks, crate::proofs::Identcodes::weighings))]
 fn weigh(digits: &[u8]) -> Result<u32, Refusal>
     requires { length digits.now ≤ 22 }
-    ensures { result ≡ weighs digits.now }
+    ensures { result ≡ walked allowed_in_identcode digits.now (weighed digits.now) }
 {
     let mut sum = 0;
     for (i, &b) in digits.iter().enumerate() {
