@@ -2,7 +2,7 @@
 ghost use Rattle.std.specs.Prelude.{◌≡◌, ◌≤◌, length};
 ghost use Rattle.line.specs.Line.{file_limit};
 ghost use Rattle.identcodes.specs.Tree.{is_there, grown};
-ghost use Rattle.file.specs.Identcode.{is_there_for, grown_for, parcels_most, tree_words};
+ghost use Rattle.file.specs.Identcode.{is_there_for, grown_for, parcels_most};
 
 use identcodes::CodeAnswer;
 use records::Record;
@@ -15,11 +15,11 @@ pub const TREE_WORDS: usize = 4681;
 pub fn is_repeated(
     kind: Record,
     file: &[u8],
-    codes: &mut [u32],
+    codes: &mut [u32; TREE_WORDS],
     parcels: usize,
     offset: usize,
 ) -> bool
-    requires { (tree_words ≤ length codes.old) × (parcels ≤ parcels_most) × (offset ≤ file_limit) }
+    requires { (parcels ≤ parcels_most) × (offset ≤ file_limit) }
     ensures { (result ≡ is_there_for kind file.now codes.old parcels offset)
         × (codes.new ≡ grown_for kind file.now codes.old parcels offset) }
 {
@@ -31,8 +31,8 @@ pub fn is_repeated(
 
 // The same for a parcel line.
 #[tactic(auto, using(crate::proofs::Finding::is_there_lem, crate::proofs::Finding::is_new, crate::proofs::Finding::has_room_lem, crate::proofs::Finding::is_grown))]
-fn is_known(file: &[u8], codes: &mut [u32], parcels: usize, offset: usize) -> bool
-    requires { (tree_words ≤ length codes.old) × (parcels ≤ parcels_most) × (offset ≤ file_limit) }
+fn is_known(file: &[u8], codes: &mut [u32; TREE_WORDS], parcels: usize, offset: usize) -> bool
+    requires { (parcels ≤ parcels_most) × (offset ≤ file_limit) }
     ensures { (result ≡ is_there file.now codes.old parcels offset)
         × (codes.new ≡ grown file.now codes.old parcels offset) }
 {

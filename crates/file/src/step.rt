@@ -2,9 +2,10 @@
 ghost use Rattle.std.specs.Prelude.{◌≡◌, ◌*◌, ◌≤◌, length, set, [], ◌∷◌, ◌++◌, Ok};
 ghost use Rattle.line.specs.Line.{file_limit, line_answer};
 ghost use Rattle.file.specs.Step.{told_by, parcels_in, behind, listed_so_far, has_word, listing, step_answer};
-ghost use Rattle.file.specs.Identcode.{parcels_most, tree_words, Sown};
+ghost use Rattle.file.specs.Identcode.{parcels_most, Sown};
 ghost use Rattle.file.specs.declared.step.State.{State};
 
+use crate::identcode::TREE_WORDS;
 use crate::{cash, contact, identcode};
 use line::Line;
 use records::{Due, Record, Version};
@@ -29,13 +30,12 @@ pub fn one_line(
     file: &[u8],
     countries: &[u8],
     list: &mut [u32],
-    codes: &mut [u32],
+    codes: &mut [u32; TREE_WORDS],
     state: State,
 ) -> Result<State, Refusal>
     requires within { (state.at ≤ file_limit) × (state.lines ≤ state.at) × (state.lines ≤ length list.old) × (state.parcels ≤ state.lines)
         × (state.cents ≤ 99999999 * state.lines) }
-    requires sown { Sown file.now (listed_so_far state.lines list.old) state.parcels codes.old × (state.parcels ≤ parcels_most)
-        × (tree_words ≤ length codes.old) }
+    requires sown { Sown file.now (listed_so_far state.lines list.old) state.parcels codes.old × (state.parcels ≤ parcels_most) }
     ensures value { result ≡ step_answer file.now (record { countries = countries.now; words = length list.old })
         (listed_so_far state.lines list.old) state }
     ensures sown_after { (next : State) → result ≡ Ok next →
@@ -56,14 +56,13 @@ pub fn one_line(
 fn list_line(
     file: &[u8],
     list: &mut [u32],
-    codes: &mut [u32],
+    codes: &mut [u32; TREE_WORDS],
     state: State,
     line: Line,
 ) -> Result<State, Refusal>
     requires accepted { (line_answer (told_by state) file.now state.at ≡ Ok line) × (state.at ≤ file_limit) × (state.lines ≤ state.at)
         × (state.lines ≤ length list.old) × (state.parcels ≤ state.lines) × (state.cents ≤ 99999999 * state.lines) }
-    requires sown { Sown file.now (listed_so_far state.lines list.old) state.parcels codes.old × (state.parcels ≤ parcels_most)
-        × (tree_words ≤ length codes.old) }
+    requires sown { Sown file.now (listed_so_far state.lines list.old) state.parcels codes.old × (state.parcels ≤ parcels_most) }
     ensures value { result ≡ listing file.now (length list.old) (listed_so_far state.lines list.old) state line }
     ensures sown_after { (next : State) → result ≡ Ok next →
         Sown file.now (listed_so_far state.lines list.old ++ (state.at ∷ [])) next.parcels codes.new }

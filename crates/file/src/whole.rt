@@ -3,7 +3,6 @@ ghost use Rattle.std.specs.Prelude.{◌≡◌, true, ◌≤◌, length, replicat
 ghost use Rattle.countries.specs.List.{is_paired};
 ghost use Rattle.line.specs.Line.{file_limit};
 ghost use Rattle.file.specs.File.{Judges};
-ghost use Rattle.file.specs.Identcode.{tree_words};
 
 use crate::identcode::TREE_WORDS;
 use crate::step::State;
@@ -33,23 +32,18 @@ pub fn judge(file: &[u8], countries: &[u8], list: &mut [u32]) -> Result<Totals, 
     if !countries::is_paired(countries) {
         return Err(Refusal::new(Reason::CountriesOdd, 0));
     }
-    let mut codes = [0u32; TREE_WORDS];
-    run(file, countries, list, &mut codes)
+    run(file, countries, list)
 }
 
-// The lines of a file that is not too long, with a list that is clear, and room for a tree of their identcodes.
+// The lines of a file that is not too long, with a list that is clear.
 #[tactic(auto, using(crate::proofs::Going::going_none, crate::proofs::Going::going_more, crate::proofs::Going::less_left, crate::proofs::Going::few_parcels, crate::proofs::Going::room_kept, crate::proofs::Going::stop_judged, crate::proofs::Going::due_judged, crate::proofs::Going::end_judged))]
-fn run(
-    file: &[u8],
-    countries: &[u8],
-    list: &mut [u32],
-    codes: &mut [u32],
-) -> Result<Totals, Refusal>
-    requires { (length file.now ≤ file_limit) × (is_paired countries.now ≡ true) × (list.old ≡ replicate (length list.old) 0)
-        × (tree_words ≤ length codes.old) }
+fn run(file: &[u8], countries: &[u8], list: &mut [u32]) -> Result<Totals, Refusal>
+    requires { (length file.now ≤ file_limit) × (is_paired countries.now ≡ true) × (list.old ≡ replicate (length list.old) 0) }
     ensures { Judges file.now (record { countries = countries.now; words = length list.old })
         result list.new }
 {
+    // The tree of the identcodes, with room for those of any file.
+    let mut codes = [0u32; TREE_WORDS];
     let version = version::version_of(file);
     let mut state = State {
         at: 0,
@@ -61,7 +55,7 @@ fn run(
         contacts: true,
     };
     while state.at < file.len() {
-        match step::one_line(file, countries, list, codes, state) {
+        match step::one_line(file, countries, list, &mut codes, state) {
             Ok(next) => state = next,
             Err(refusal) => {
                 list::clear(list);
