@@ -1,5 +1,2 @@
 pub mod Adding
-pub mod Decimal
 pub mod Filling
-pub mod Held
-pub mod Powers
