@@ -3,40 +3,37 @@
 // of countries that it lends is empty: no sender needs contacts.
 #![tactic(auto)]
 
-ghost use Rattle.std.specs.Prelude.{◌≡◌, take, IsTrue, IfSome};
+ghost use Rattle.std.specs.Prelude.{◌≡◌, take, IfSome, OnOk};
 ghost use Rattle.std.specs.Io.KnownBytes.{Appends};
 ghost use Rattle.streams.specs.Counts.{IsPrefixLen};
 ghost use Rattle.dispatch.specs.Answer.{answer_to, ok_line, no_line};
 
 use file::{FileAnswer, Totals};
 use refusal::Refusal;
+use std::io;
 use std::io::{Eprint, Read, Write};
-use streams::Input;
 
 fn main(rt: HostRuntime) {
-    judge_input(&rt, &mut rt.stdin(), &mut rt.stdout());
+    let _ = judge_input(&rt, &mut rt.stdin(), &mut rt.stdout());
 }
 
-// Reads a file, and prints the answer to it: whether neither failed.
-fn judge_input<R: Eprint, I: Read, W: Write>(rt: &R, input: &mut I, output: &mut W) -> bool
-    ensures { IsTrue result → IfSome (I.remaining input.old)
-        (λ file. Appends (W.contents output.old) (W.contents output.new) (answer_to file)) }
+// Reads a file, and prints the answer to it. What fails is told on standard error.
+fn judge_input<R: Eprint, I: Read, W: Write>(
+    rt: &R,
+    input: &mut I,
+    output: &mut W,
+) -> io::Result<()>
+    ensures { OnOk result (IfSome (I.remaining input.old)
+        (λ file. Appends (W.contents output.old) (W.contents output.new) (answer_to file))) }
 {
     let mut buffer = [0u8; 65536];
-    match streams::read_input(input, &mut buffer) {
-        Input::Whole(n) => judge(rt, output, &buffer[..n]),
-        Input::Failed(error) => {
-            streams::fail(rt, "standard input", error);
-            false
-        }
-    }
-}
-
-fn judge<R: Eprint, W: Write>(rt: &R, output: &mut W, s: &[u8]) -> bool
-    ensures { IsTrue result → Appends (W.contents output.old) (W.contents output.new) (answer_to s.now) }
-{
+    let n = streams::read_input(input, &mut buffer).inspect_err(|error| streams::fail(
+        rt,
+        "standard input",
+        *error,
+    ))?;
     let mut line = [0u8; 72];
-    let end = answer(s, &mut line);
+    let end = answer(&buffer[..n], &mut line);
     streams::write_out(rt, output, &line[..end])
 }
 
@@ -88,7 +85,7 @@ mod tests {
         let file = [b'0'; 70000];
         let mut input: &[u8] = &file;
         let mut output = Vec::new(rt.alloc());
-        assert!(rt; judge_input(&rt, &mut input, &mut output));
+        assert!(rt; judge_input(&rt, &mut input, &mut output).is_ok());
         assert_eq!(rt; output.as_slice(), b"no 1 65535\n".as_slice());
         Ok(())
     }
