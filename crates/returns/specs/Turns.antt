@@ -1,5 +1,5 @@
 -- What a turn of the returns bench leaves: the lines so far are answered and counted, and what stands behind the last line feed waits.
-use Rattle.std.specs.Prelude.{ℕ, ◌≡◌, ◌≤◌, List, [], ◌∷◌, ◌++◌, map, take, Option, Some, None, Result, Ok, Err}
+use Rattle.std.specs.Prelude.{ℕ, ◌≡◌, ◌≤◌, List, [], ◌∷◌, ◌++◌, map, take, Option, Some, None, Result, Ok, Err, IfOk, OnOk}
 use Rattle.std.specs.Io.KnownBytes.{Appends, Consumes, Keeps, IsAtEnd}
 use Rattle.std.specs.declared.io.Error.{Error}
 use Rattle.scans.specs.Scans.{whole_lines, line_answer, bytes_of, printed}
@@ -11,18 +11,17 @@ use Rattle.returns.specs.declared.Bench.{Bench}
 use Rattle.returns.specs.declared.Told.{Told}
 
 -- the answers of all whole lines of a text are counted, each once, and the text goes on behind these
-unfoldable pub Tells : List ℕ → Tally → Result Told Error → Type 0
-Tells text before (Ok told) =
-    (told.next ≡ bytes_of (whole_lines text)) × (told.counts ≡ tallied before (map line_answer (whole_lines text)))
-Tells text before (Err error) = Unit {0}
+abbrev pub Tells : List ℕ → Tally → Result Told Error → Type 0
+Tells text before telling =
+    IfOk telling
+    (λ told. (told.next ≡ bytes_of (whole_lines text)) × (told.counts ≡ tallied before (map line_answer (whole_lines text))))
 
 -- and they are printed, behind what was: an output whose bytes are known, before and after, has grown by them
-unfoldable pub Says : List ℕ → Option (List ℕ) → Option (List ℕ) → Result Told Error → Type 0
-Says text output after (Ok told) = Appends output after (printed (map line_answer (whole_lines text)))
-Says text output after (Err error) = Unit {0}
+abbrev pub Says : List ℕ → Option (List ℕ) → Option (List ℕ) → Result Told Error → Type 0
+Says text output after telling = OnOk telling (Appends output after (printed (map line_answer (whole_lines text))))
 
 -- the lines of the text are counted, and 17 bytes of the rest wait at the buffer's front: what `bench_answers` says of a piece
-unfoldable pub Leaves : List ℕ → Tally → Bench → List ℕ → Type 0
+abbrev pub Leaves : List ℕ → Tally → Bench → List ℕ → Type 0
 Leaves text before bench buffer =
     (bench.counts ≡ tallied before (map line_answer (whole_lines text))) × (take bench.waiting buffer ≡ take 17 (rest_of text))
 

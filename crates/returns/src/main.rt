@@ -35,6 +35,7 @@ fn main(rt: HostRuntime) {
 
 // Answers an input to its end. What fails is told on standard error. A proved loop has to end, and lines need not: so it counts its turns,
 // up to a number that no run reaches.
+#[tactic(auto, using(crate::proofs::Saying::nothing_done, crate::proofs::Saying::done_on))]
 fn answer_input<R: Eprint, I: Read, W: Write>(
     rt: &R,
     input: &mut I,
@@ -46,15 +47,16 @@ fn answer_input<R: Eprint, I: Read, W: Write>(
     let mut buffer = [0u8; 65536];
     let mut bench = Bench::default();
     'turns: for _ in 0..u64::MAX {
-        let Some(next) = take_turn(rt, input, output, &mut buffer, bench)? else {
-            return Ok(());
-        };
-        bench = next;
+        match take_turn(rt, input, output, &mut buffer, bench)? {
+            Some(next) => bench = next,
+            None => return Ok(()),
+        }
     }
     Err(Error::other("the lines do not end"))
 }
 
 // Reads once, and answers what is there; `None` where that was the end: all is answered then, and the counts are said.
+#[tactic(auto, using(crate::proofs::Leaving::turns_on))]
 fn take_turn<R: Eprint, I: Read, W: Write>(
     rt: &R,
     input: &mut I,
@@ -68,8 +70,9 @@ fn take_turn<R: Eprint, I: Read, W: Write>(
         (take bench.waiting buffer.old) bench.counts result buffer.new }
 {
     let waiting = bench.waiting;
-    let piece = streams::read_piece(input, &mut buffer[waiting..])
-        .inspect_err(|error| streams::fail(rt, "standard input", *error))?;
+    let piece = streams::read_piece(input, &mut buffer[waiting..]).inspect_err(
+        |error| streams::fail(rt, "standard input", *error),
+    )?;
     let Some(n) = piece else {
         answer_last(rt, output, buffer, waiting, bench.counts)?;
         return Ok(None);
@@ -79,6 +82,7 @@ fn take_turn<R: Eprint, I: Read, W: Write>(
 }
 
 // Answers the whole lines, and keeps what stands behind the last of them.
+#[tactic(auto, using(crate::proofs::Leaving::leaves_on))]
 fn answer_more<R: Eprint, W: Write>(
     rt: &R,
     output: &mut W,
@@ -100,6 +104,7 @@ fn answer_more<R: Eprint, W: Write>(
 }
 
 // Bytes behind the last line feed are a last line; then the counts are said.
+#[tactic(auto, using(crate::proofs::Leaving::ends_on))]
 fn answer_last<R: Eprint, W: Write>(
     rt: &R,
     output: &mut W,
