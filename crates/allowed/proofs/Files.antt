@@ -8,11 +8,11 @@ use native.Mathlib.Omega.{arith}
 use lib.Dec.{ltb}
 use lib.ListN.{length, length-append}
 use borrow.Author.Tests.{ltb-false, le-ltb, not-false}
-use Rattle.std.specs.Prelude.{if◌then◌else◌}
+use Rattle.std.specs.Prelude.{if◌then◌else◌, Ok, Err, Result}
 use Rattle.text.proofs.Choices.{came_else}
 use Rattle.refusal.specs.declared.Reason.TheVariants.{FileTooLong, CountriesOdd}
 use Rattle.refusal.specs.declared.Refusal.{Refusal}
-use Rattle.refusal.specs.Table.{because}
+use Rattle.refusal.specs.Table.{because, verdict_on}
 use Rattle.refusal.proofs.Verdicts.{no_pass}
 use Rattle.records.specs.declared.record.Record.{Record}
 use Rattle.records.specs.declared.record.Due.{Due}
@@ -25,9 +25,8 @@ use Rattle.records.specs.declared.version.Version.{Version}
 use Rattle.file.specs.Lent.{Lent}
 use Rattle.file.specs.Version.{version_of}
 use Rattle.file.specs.Contact.{contacts_behind}
-use Rattle.file.specs.File.{Judged, begin, file_from, judged, file_verdict}
+use Rattle.file.specs.File.{Judged, begin, file_from, judged}
 use Rattle.file.specs.declared.whole.Totals.{Totals}
-use Rattle.file.specs.declared.whole.FileAnswer.TheVariants.{Accepted, Refused}
 use Rattle.allowed.specs.Allowed.{FileLine, line_bytes, file_bytes, LinesOk, InOrder, codes_on, identcodes, NoneTwice}
 use Rattle.allowed.specs.Allowed.{AllowedFile, parcel_count, cash_total, totals_of, line_starts}
 use Rattle.allowed.proofs.Contacts.{parts_of, Asked, asked_all, all_asked}
@@ -96,22 +95,22 @@ pub record AllowedWith (s : List ℕ) (lent : Lent) (totals : Totals) (starts : 
   pub counts : totals ≡ totals_of lines
   pub list : starts ≡ line_starts 0 lines
 
-from_begin : (version : Version) (ls : List FileLine) → judged_with [] (begin version) ls ≡ record { answer = Accepted (totals_of ls); starts = line_starts 0 ls }
+from_begin : (version : Version) (ls : List FileLine) → judged_with [] (begin version) ls ≡ record { answer = Ok (totals_of ls); starts = line_starts 0 ls }
 from_begin version ls = rw (zero-add (length ls), zero-add (parcel_count ls), zero-add (cash_total ls))
 
 -- a file of which this is said is refused, not accepted
 abbrev refused : Refusal → Judged
-refused refusal = record { answer = Refused refusal; starts = [] }
+refused refusal = record { answer = Err refusal; starts = [] }
 
-not_refused : {refusal : Refusal} {totals : Totals} {starts : List ℕ} → refused refusal ≡ record { answer = Accepted totals; starts = starts } → ⊥
-not_refused q = no_pass file_verdict refl refl (ap (λ (j : Judged). j.answer) q)
+not_refused : {refusal : Refusal} {totals : Totals} {starts : List ℕ} → refused refusal ≡ record { answer = Ok totals; starts = starts } → ⊥
+not_refused q = no_pass verdict_on refl refl (ap (λ (j : Judged). j.answer) q)
 
-totals_told : {a b : Totals} → Accepted a ≡ Accepted b → a ≡ b
+totals_told : {a b : Totals} → ◌≡◌ {A = Result Totals Refusal} (Ok a) (Ok b) → a ≡ b
 totals_told e = cc
 
 module _ (s : List ℕ) (lent : Lent) (totals : Totals) (starts : List ℕ) where
   abbrev result : Judged
-  result = record { answer = Accepted totals; starts = starts }
+  result = record { answer = Ok totals; starts = starts }
 
   -- neither 1 nor 20
   came_on : judged s lent ≡ result →
@@ -164,8 +163,8 @@ module _ (s : List ℕ) (lent : Lent) (totals : Totals) (starts : List ℕ) wher
         asked = all_asked lent.countries ls a.contacts;
       }))
       ∙ from_begin (version_of s) ls
-      ∙ ap (λ (t : Totals). record { answer = Accepted t; starts = line_starts 0 ls }) (sym g.counts)
-      ∙ ap (λ (l : List ℕ). record { answer = Accepted totals; starts = l }) (sym g.list))
+      ∙ ap (λ (t : Totals). record { answer = Ok t; starts = line_starts 0 ls }) (sym g.counts)
+      ∙ ap (λ (l : List ℕ). record { answer = Ok totals; starts = l }) (sym g.list))
 
 -- no other division of the bytes into lines
 empty_not : (l : FileLine) (rest : List ℕ) → [] ≡ line_bytes l ++ rest → ⊥

@@ -10,7 +10,7 @@ use lib.Dec.{eqb}
 use lib.ListN.{length, drop, get_or, length-drop}
 use lib.Seq.{get_or-drop}
 use borrow.Author.Tests.{le-ltb, ne_eqb}
-use Rattle.std.specs.Prelude.{if◌then◌else◌}
+use Rattle.std.specs.Prelude.{if◌then◌else◌, Option, Some, Result, Ok}
 use Rattle.text.specs.Placed.{written}
 use Rattle.text.specs.Quoted.{bytes}
 use Rattle.records.specs.Record.{type_of}
@@ -20,7 +20,6 @@ use Rattle.line.specs.Need.{is_filled}
 use Rattle.line.specs.Line.{text_at}
 use Rattle.file.specs.Lent.{Lent}
 use Rattle.file.specs.File.{Judged, judged, list_of}
-use Rattle.file.specs.declared.whole.FileAnswer.TheVariants.{Accepted}
 use Rattle.allowed.specs.Allowed.{FileLine, AllowedFile, line_starts, totals_of}
 use Rattle.allowed.proofs.Files.{allowed_accepted, starts_count}
 use Rattle.purpose.specs.At.{is_typed}
@@ -30,12 +29,9 @@ use Rattle.purpose.specs.Purpose.{output_after, Purposes}
 use Rattle.allowed.specs.Sentence.{LineNo, CashLine, Belongs, first_filled, named_text}
 use Rattle.purpose.specs.declared.source.Source.{Source}
 use Rattle.purpose.specs.declared.source.Source.TheVariants.{Field, Joined}
-use Rattle.purpose.specs.declared.source.Sourced.{Sourced}
-use Rattle.purpose.specs.declared.source.Sourced.TheVariants.{From}
-use Rattle.purpose.specs.declared.write.PurposeAnswer.{PurposeAnswer}
-use Rattle.purpose.specs.declared.write.PurposeAnswer.TheVariants.{Written}
 use Rattle.allowed.proofs.Placed.{line_there, line_counted, parts_at, is_typed_lem, not_typed}
 use Rattle.allowed.proofs.Paying.{cash_source}
+use Rattle.refusal.specs.declared.Refusal.{Refusal}
 
 -- the nearest above is the only one between itself and the line
 nearest_found :
@@ -73,7 +69,7 @@ or_next s at n next (b ∷ f) fs last e q =
     rw t e
 
 pub whole : (s : List ℕ) (lent : Lent) (ls : List FileLine) → AllowedFile lent.countries s ls → length ls ≤ lent.words →
-    judged s lent ≡ record { answer = Accepted (totals_of ls); starts = line_starts 0 ls }
+    judged s lent ≡ record { answer = Ok (totals_of ls); starts = line_starts 0 ls }
 whole s lent ls g room = allowed_accepted s lent (totals_of ls) (line_starts 0 ls)
     (record { lines = ls; allowed = g; room = room; counts = refl; list = refl })
 
@@ -145,7 +141,7 @@ module _ (s countries : List ℕ) (ls : List FileLine) (g : AllowedFile countrie
       ∙ ap (λ (p : ℕ). source_text s (from_shipment s (get_or starts b.ship 0) p)) is_first
       ∙ shipment_text)
 
-  source_is : source_of s starts n ≡ From (for_feature s starts n)
+  source_is : source_of s starts n ≡ Some (for_feature s starts n)
   source_is = cash_source s ls g n l el cash
 
   module _ (words : ℕ) (room : length ls ≤ words) where
@@ -158,22 +154,22 @@ module _ (s countries : List ℕ) (ls : List FileLine) (g : AllowedFile countrie
         ∙ ap (text_from s) source_is
         ∙ ap cut text_is
 
-    named_answer : (long : ℕ) → purpose_long ≤ long → purpose_answer s n lent long ≡ Written (length (cut (named_text l shipment parcel)))
+    named_answer : (long : ℕ) → purpose_long ≤ long → purpose_answer s n lent long ≡ Ok (length (cut (named_text l shipment parcel)))
     unfolding on_file on_source
     named_answer long h =
         ap (λ (j : Judged). on_file j.answer (source_of s j.starts n) s long) (whole s lent ls g room)
-        ∙ ap (λ (x : Sourced). on_source x s long) source_is
+        ∙ ap (λ (x : Option Source). on_source x s long) source_is
         ∙ rw (le-ltb long purpose_long h, text_is)
 
     -- the line's text is written, the list is the file's, and every other byte of the output stays
     pub purpose_named :
-        (out : List ℕ) → purpose_long ≤ length out → (answer : PurposeAnswer) (list after : List ℕ) → Purposes s n lent out answer list after →
-        (answer ≡ Written (length (cut (named_text l shipment parcel)))) × (list ≡ list_of words (line_starts 0 ls)) ×
+        (out : List ℕ) → purpose_long ≤ length out → (answer : Result ℕ Refusal) (list after : List ℕ) → Purposes s n lent out answer list after →
+        (answer ≡ Ok (length (cut (named_text l shipment parcel)))) × (list ≡ list_of words (line_starts 0 ls)) ×
         (after ≡ written out 0 (cut (named_text l shipment parcel)))
     purpose_named out h answer list after p =
-        let e : answer ≡ Written (length (cut (named_text l shipment parcel))) = p.0 ∙ named_answer (length out) h in (
+        let e : answer ≡ Ok (length (cut (named_text l shipment parcel))) = p.0 ∙ named_answer (length out) h in (
           e,
-          p.1 ∙ ap (λ (a : PurposeAnswer). list_after a words (judged s lent).starts) e
+          p.1 ∙ ap (λ (a : Result ℕ Refusal). list_after a words (judged s lent).starts) e
               ∙ ap (λ (j : Judged). list_of words j.starts) (whole s lent ls g room),
-          p.2 ∙ ap (λ (a : PurposeAnswer). output_after a (purpose_of s n lent) out) e ∙ ap (written out 0) named_text_lem,
+          p.2 ∙ ap (λ (a : Result ℕ Refusal). output_after a (purpose_of s n lent) out) e ∙ ap (written out 0) named_text_lem,
         )

@@ -20,9 +20,9 @@ use Rattle.file.specs.File.{list_of}
 use Rattle.allowed.specs.Allowed.{FileLine, InOrder, AllowedFile, line_starts}
 use Rattle.purpose.specs.Purpose.{purpose_long, cut, Purposes}
 use Rattle.allowed.specs.Sentence.{LineNo, CashLine, Belongs, named_text}
-use Rattle.purpose.specs.declared.write.PurposeAnswer.{PurposeAnswer}
-use Rattle.purpose.specs.declared.write.PurposeAnswer.TheVariants.{Written}
 use Rattle.allowed.proofs.Naming.{purpose_named}
+use Rattle.std.specs.Prelude.{Result, Ok}
+use Rattle.refusal.specs.declared.Refusal.{Refusal}
 
 -- a record that stands in a shipment, behind its 030 line
 abbrev inside : Record → Bool
@@ -145,9 +145,9 @@ each_belongs countries s ls g n l h cash = has ls g.order n l h (ap inside cash.
 pub purpose_of_lem :
     (lent : Lent) (s : List ℕ) (ls : List FileLine) → AllowedFile lent.countries s ls → (n : ℕ) (l : FileLine) → LineNo ls n l → CashLine l →
     length ls ≤ lent.words → (out : List ℕ) → purpose_long ≤ length out →
-    (answer : PurposeAnswer) (list after : List ℕ) → Purposes s n lent out answer list after →
+    (answer : Result ℕ Refusal) (list after : List ℕ) → Purposes s n lent out answer list after →
     (shipment : FileLine) × (parcel : FileLine) × Belongs ls n shipment parcel
-    × ((answer ≡ Written (length (cut (named_text l shipment parcel)))) × (list ≡ list_of lent.words (line_starts 0 ls)) ×
+    × ((answer ≡ Ok (length (cut (named_text l shipment parcel)))) × (list ≡ list_of lent.words (line_starts 0 ls)) ×
     (after ≡ written out 0 (cut (named_text l shipment parcel))))
 purpose_of_lem lent s ls g n l h cash room out long answer list after p =
     let b = each_belongs lent.countries s ls g n l h cash in (

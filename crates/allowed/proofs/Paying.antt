@@ -13,11 +13,11 @@ use Rattle.text.proofs.Scans.{same_eq, same_refl}
 use Rattle.records.specs.declared.record.Record.TheVariants.{Feature}
 use Rattle.purpose.specs.At.{field_at, is_typed}
 use Rattle.purpose.specs.Source.{is_cash_line, for_feature, source_of}
-use Rattle.purpose.specs.declared.source.Sourced.TheVariants.{From}
 use Rattle.allowed.specs.Allowed.{FileLine, AllowedFile, line_starts}
 use Rattle.allowed.specs.Sentence.{LineNo, CashLine}
 use Rattle.allowed.proofs.Files.{starts_count}
 use Rattle.allowed.proofs.Placed.{line_counted, parts_at, kind_told_lem, is_typed_lem}
+use Rattle.std.specs.Prelude.{Some}
 
 module _ {countries : List ℕ} (s : List ℕ) (ls : List FileLine) (g : AllowedFile countries s ls) (n : ℕ) (l : FileLine) (h : LineNo ls n l) where
   abbrev at : ℕ
@@ -42,6 +42,6 @@ module _ {countries : List ℕ} (s : List ℕ) (ls : List FileLine) (g : Allowed
       and_both (is_typed s at (bytes "060")) (same (field_at s at 1) (bytes "006")) (is_typed_lem s ls g n l h Feature c.feature)
       (ap (λ (f : List ℕ). same f (bytes "006")) (code_there ∙ c.code) ∙ same_refl (bytes "006"))
 
-  pub cash_source : CashLine l → source_of s (line_starts 0 ls) n ≡ From (for_feature s (line_starts 0 ls) n)
+  pub cash_source : CashLine l → source_of s (line_starts 0 ls) n ≡ Some (for_feature s (line_starts 0 ls) n)
   unfolding source_of
   cash_source c = rw (lt-leb (length (line_starts 0 ls)) n (omega (arith, starts_count 0 ls, line_counted ls n l h)), is_cash_lem c)

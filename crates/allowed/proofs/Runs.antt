@@ -12,7 +12,7 @@ use lib.Seq.{append_snoc}
 use borrow.Author.Tests.{ltb-false, lt-ltb, le-ltb}
 use Rattle.text.proofs.Choices.{came_then, true_or_false}
 use Rattle.refusal.specs.declared.Reason.TheVariants.{FileEnds}
-use Rattle.refusal.specs.Table.{because}
+use Rattle.refusal.specs.Table.{because, verdict_on}
 use Rattle.refusal.proofs.Verdicts.{no_pass}
 use Rattle.records.specs.Record.{type_of, may_come, may_end}
 use Rattle.records.specs.declared.record.Due.{Due}
@@ -29,18 +29,17 @@ use Rattle.file.specs.Lent.{Lent}
 use Rattle.file.specs.Contact.{contacts_behind, lacks_contact}
 use Rattle.file.specs.Cash.{cash_of}
 use Rattle.file.specs.Step.{behind, listing, on_line, step_answer, told_by}
-use Rattle.file.specs.File.{Judged, ended, on_step, file_from, file_verdict}
+use Rattle.file.specs.File.{Judged, ended, on_step, file_from}
 use Rattle.file.specs.declared.step.State.{State}
-use Rattle.file.specs.declared.step.Step.{Step}
-use Rattle.file.specs.declared.step.Step.TheVariants.{Next, Stopped}
 use Rattle.file.specs.declared.whole.Totals.{Totals}
-use Rattle.file.specs.declared.whole.FileAnswer.TheVariants.{Accepted, Refused}
 use Rattle.file.proofs.Lists.{word_left, left_word}
 use Rattle.file.proofs.Stepping.{went}
 use Rattle.allowed.specs.Allowed.{FileLine, line_bytes, codes_on, parcel_count, cash_total, line_starts}
 use Rattle.allowed.proofs.Contacts.{parts_of}
 use Rattle.allowed.proofs.Cash.{line_cash}
 use Rattle.allowed.proofs.Codes.{Seen, seen_more, Fresh, fresh_not, not_fresh}
+use Rattle.std.specs.Prelude.{Result, Ok, Err}
+use Rattle.refusal.specs.declared.Refusal.{Refusal}
 
 -- the lines that are left, behind lines with these codes, where this record is due, under a sender that has both contacts or has not
 abbrev pub AllowedFrom : Version → List ℕ → List ℕ → List (List ℕ) → Due → Bool → List FileLine → Type 0
@@ -61,12 +60,12 @@ totals_with state ls = record {
 }
 
 abbrev pub judged_with : List ℕ → State → List FileLine → Judged
-judged_with starts state ls = record { answer = Accepted (totals_with state ls); starts = starts ++ line_starts state.at ls }
+judged_with starts state ls = record { answer = Ok (totals_with state ls); starts = starts ++ line_starts state.at ls }
 
 -- no lines more
 judged_none : (starts : List ℕ) (state : State) → record {
   answer =
-      Accepted (record { lines = state.lines; parcels = state.parcels; cents = state.cents });
+      Ok (record { lines = state.lines; parcels = state.parcels; cents = state.cents });
   starts =
       starts;
 } ≡ judged_with starts state []
@@ -74,7 +73,7 @@ judged_none starts state = rw (add-zero state.lines, add-zero state.parcels, add
 
 -- the same numbers and the same starts say the same
 said : (lines parcels cents : ℕ) (starts : List ℕ) → Judged
-said lines parcels cents starts = record { answer = Accepted (record { lines = lines; parcels = parcels; cents = cents }); starts = starts }
+said lines parcels cents starts = record { answer = Ok (record { lines = lines; parcels = parcels; cents = cents }); starts = starts }
 
 said_same : {a b p q c d : ℕ} {x y : List ℕ} → a ≡ b → p ≡ q → c ≡ d → x ≡ y → said a p c x ≡ said b q d y
 said_same {a} {b} {p} {q} {c} {d} {x} {y} e f g h =
@@ -100,17 +99,17 @@ pub record Ran (s : List ℕ) (lent : Lent) (starts : List ℕ) (codes : List (L
 
 module _ (s : List ℕ) (lent : Lent) (in_limit : length s ≤ file_limit) (totals : Totals) (list : List ℕ) where
   abbrev pub result : Judged
-  result = record { answer = Accepted totals; starts = list }
+  result = record { answer = Ok totals; starts = list }
 
   ran_none : (starts : List ℕ) (codes : List (List ℕ)) (state : State) → length s ≤ state.at → state.lines ≤ lent.words →
       ended s starts state ≡ result → Ran s lent starts codes state result
   ran_none starts codes state h room e =
       let a = came_then (may_end state.due) (record {
         answer =
-            Accepted (record { lines = state.lines; parcels = state.parcels; cents = state.cents });
+            Ok (record { lines = state.lines; parcels = state.parcels; cents = state.cents });
         starts = starts;
       })
-      (record { answer = Refused (because FileEnds (length s)); starts = [] }) result (λ q. (no_pass file_verdict refl refl)
+      (record { answer = Err (because FileEnds (length s)); starts = [] }) result (λ q. (no_pass verdict_on refl refl)
       (ap (λ (j : Judged). j.answer) q)) e in
       record {
         lines = [];
@@ -127,10 +126,10 @@ module _ (s : List ℕ) (lent : Lent) (in_limit : length s ≤ file_limit) (tota
   ran_step :
       (turns : ℕ) → Rans turns → (starts : List ℕ) (codes : List (List ℕ)) (state : State) → length s < suc turns + state.at →
       Seen s starts codes →
-      (step : Step) → step_answer s lent starts state ≡ step → on_step step
+      (step : Result State Refusal) → step_answer s lent starts state ≡ step → on_step step
       (λ next. file_from turns s lent (starts ++ (state.at ∷ [])) next) ≡ result → Ran s lent starts codes state result
-  ran_step turns more starts codes state h seen (Stopped refusal) es e = absurd (no_pass file_verdict refl refl (ap (λ (j : Judged). j.answer) e))
-  ran_step turns more starts codes state h seen (Next next) es e =
+  ran_step turns more starts codes state h seen (Err refusal) es e = absurd (no_pass verdict_on refl refl (ap (λ (j : Judged). j.answer) e))
+  ran_step turns more starts codes state h seen (Ok next) es e =
       let w = went s lent starts state next es in
       let line = w.line in
       let fs = fields_of (text_at s state.at) in
@@ -180,7 +179,7 @@ module _ (s : List ℕ) (lent : Lent) (in_limit : length s ≤ file_limit) where
       (g : Reads (told_by state) s state.at line fs) →
       lacks_contact line.kind (type_of line.kind ∷ fs) lent.countries state.contacts ≡ false →
       Seen s starts codes → Fresh codes (codes_on line.kind fs) → state.lines < lent.words →
-      step_answer s lent starts state ≡ Next (behind s state line)
+      step_answer s lent starts state ≡ Ok (behind s state line)
   unfolding step_answer on_line listing
   step_there starts codes state line fs g reached seen fresh room =
       rw (

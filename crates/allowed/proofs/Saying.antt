@@ -24,7 +24,6 @@ use Rattle.line.specs.Parts.{split, name_of, fields_of, part_at, field_no}
 use Rattle.line.specs.Render.{joined, text_of, plain, all_in}
 use Rattle.line.specs.Line.{text_at, alone, line_answer, read_answer}
 use Rattle.line.specs.declared.read.Line.{Line}
-use Rattle.line.specs.declared.read.LineAnswer.TheVariants.{Accepted}
 use Rattle.line.proofs.Splits.{split_some, join_split}
 use Rattle.line.proofs.Plain.{split_plain, parts_split, parts_bytes}
 use Rattle.grammar.specs.Grammar.{LineOk, Reads}
@@ -33,6 +32,7 @@ use Rattle.file.specs.Version.{version_in, version_of}
 use Rattle.allowed.specs.Allowed.{FileLine, line_bytes, file_bytes, version_on, AllowedUnder, AllowedFile}
 use Rattle.allowed.specs.Version.{EndsText, SaysSeven}
 use Rattle.allowed.proofs.Versions.{version_in_lem, version_found}
+use Rattle.std.specs.Prelude.{Ok}
 
 fails_ends : (behind : List ℕ) → Fails text_byte behind → EndsText behind
 fails_ends [] f = tt
@@ -112,7 +112,7 @@ own l ls a =
     }
 
 pub first_reads_seven : (countries s : List ℕ) (ls : List FileLine) → AllowedFile countries s ls →
-    (version_on ls ≡ Seven) ↔ ((line : Line) × (read_answer 7 s 0 ≡ Accepted line))
+    (version_on ls ≡ Seven) ↔ ((line : Line) × (read_answer 7 s 0 ≡ Ok line))
 unfolding may_end
 first_reads_seven countries s [] a = absurd (false≢true a.order)
 first_reads_seven countries s (l ∷ ls) a = (

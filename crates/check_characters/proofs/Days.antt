@@ -12,17 +12,18 @@ use mir.Syntax.{w8}
 use borrow.Author.Tests.{eq-eqb, ne_eqb, lt-ltb, le-ltb}
 use Rattle.refusal.specs.declared.Reason.{Reason}
 use Rattle.refusal.specs.declared.Reason.TheVariants.{OutputTooShort, WrongLength}
-use Rattle.refusal.specs.Table.{because, number_of, number_told}
+use Rattle.refusal.specs.Table.{because, number_of, number_told, verdict_on}
 use Rattle.refusal.proofs.Verdicts.{number_small}
 use Rattle.text.specs.Placed.{written}
 use Rattle.text.proofs.Placing.{copy_done, clip_whole}
 use Rattle.text.proofs.Tables.{tabled_at, tabled_long}
-use Rattle.check_characters.specs.Number.{length_of, checked_as, checked_number, number_verdict}
+use Rattle.check_characters.specs.Number.{length_of, checked_as, checked_number}
 use Rattle.check_characters.specs.Day.{number_at, how_many, day_answers, zeros, day_answer}
-use Rattle.check_characters.specs.declared.day.DayAnswer.TheVariants.{Answered, Refused}
 use Rattle.check_characters.specs.declared.number.Kind.TheVariants.{Tracking}
-use Rattle.check_characters.specs.declared.number.NumberAnswer.{NumberAnswer}
 use Rattle.check_characters.proofs.Checking.{checked_tracking}
+use Rattle.std.specs.Prelude.{Result, Ok, Err}
+use Rattle.check_characters.specs.declared.number.Kind.{Kind}
+use Rattle.refusal.specs.declared.Refusal.{Refusal}
 
 -- a refusal's number fits into the byte of an answer
 pub number_fits : (n : ℕ) (why : Reason) → n ≡ number_of why → Fits w8 n
@@ -37,12 +38,12 @@ number_front numbers behind i h =
 module _ (numbers : List ℕ) where
   pub answers_long : length (day_answers numbers) ≡ how_many numbers
   unfolding day_answers
-  answers_long = tabled_long (λ i. number_told (number_verdict (checked_number (number_at numbers i)))) 0 (how_many numbers)
+  answers_long = tabled_long (λ i. number_told (verdict_on (checked_number (number_at numbers i)))) 0 (how_many numbers)
 
   module _ (i : ℕ) (h : i < how_many numbers) where
-    pub answer_at : get_or (day_answers numbers) i 0 ≡ number_told (number_verdict (checked_number (number_at numbers i)))
+    pub answer_at : get_or (day_answers numbers) i 0 ≡ number_told (verdict_on (checked_number (number_at numbers i)))
     unfolding day_answers
-    answer_at = tabled_at (λ j. number_told (number_verdict (checked_number (number_at numbers j)))) (how_many numbers) i 0 h
+    answer_at = tabled_at (λ j. number_told (verdict_on (checked_number (number_at numbers j)))) (how_many numbers) i 0 h
 
     -- where it stands
     pub number_inside : 15 * i + 15 ≤ length numbers
@@ -53,17 +54,17 @@ module _ (numbers : List ℕ) where
         rw e (length-take-le 15 (drop (15 * i) numbers) (simp length-drop (omega (arith, number_inside))))
 
     -- and what it is answered
-    pub answer_of : (a : NumberAnswer) (v : ℕ) → a ≡ checked_as Tracking (take (15 * i + 15 - 15 * i) (drop (15 * i) numbers)) →
-        v ≡ number_told (number_verdict a) → v ≡ get_or (day_answers numbers) i 0
+    pub answer_of : (a : Result Kind Refusal) (v : ℕ) → a ≡ checked_as Tracking (take (15 * i + 15 - 15 * i) (drop (15 * i) numbers)) →
+        v ≡ number_told (verdict_on a) → v ≡ get_or (day_answers numbers) i 0
     answer_of a v ea ev =
         let alone : a ≡ checked_number (number_at numbers i) =
         ea ∙ sym (checked_tracking (take (15 * i + 15 - 15 * i) (drop (15 * i) numbers)) number_long) ∙ ap checked_number (clip_whole numbers (15 * i) 15) in
-        ev ∙ ap (λ (b : NumberAnswer). number_told (number_verdict b)) alone ∙ sym answer_at
+        ev ∙ ap (λ (b : Result Kind Refusal). number_told (verdict_on b)) alone ∙ sym answer_at
 
   -- the first i answers are in: each premise is a fact that the loop has
   module _ (out₀ out : List ℕ) (i : ℕ) (room : how_many numbers ≤ length out₀) (e : out ≡ paste out₀ 0 (day_answers numbers) i) where
-    pub day_again : (a : NumberAnswer) (v : ℕ) → i < how_many numbers →
-        a ≡ checked_as Tracking (take (15 * i + 15 - 15 * i) (drop (15 * i) numbers)) → v ≡ number_told (number_verdict a) →
+    pub day_again : (a : Result Kind Refusal) (v : ℕ) → i < how_many numbers →
+        a ≡ checked_as Tracking (take (15 * i + 15 - 15 * i) (drop (15 * i) numbers)) → v ≡ number_told (verdict_on a) →
         set out i v ≡ paste out₀ 0 (day_answers numbers) (i + 1)
     day_again a v h ea ev =
         let there : 0 + i ≡ i = zero-add i in
@@ -76,16 +77,16 @@ module _ (numbers : List ℕ) where
 
   -- the answer, by cases
   module _ (room : ℕ) where
-    pub day_length : (length numbers % 15 ≡ 0 → ⊥) → Refused (because WrongLength 0) ≡ day_answer numbers room
+    pub day_length : (length numbers % 15 ≡ 0 → ⊥) → Err (because WrongLength 0) ≡ day_answer numbers room
     unfolding day_answer
     day_length n = simp (ne_eqb (length numbers % 15) 0)
 
-    pub day_short : length numbers % 15 ≡ 0 → room < how_many numbers → Refused (because OutputTooShort 0) ≡ day_answer numbers room
+    pub day_short : length numbers % 15 ≡ 0 → room < how_many numbers → Err (because OutputTooShort 0) ≡ day_answer numbers room
     unfolding day_answer
     day_short e h = simp (eq-eqb (length numbers % 15) 0, lt-ltb room (how_many numbers))
 
     pub day_answered : (passed : ℕ) → length numbers % 15 ≡ 0 → how_many numbers ≤ room → passed ≡ zeros (day_answers numbers) →
-        Answered passed ≡ day_answer numbers room
+        Ok passed ≡ day_answer numbers room
     unfolding day_answer
     day_answered passed e h p = simp (eq-eqb (length numbers % 15) 0, le-ltb room (how_many numbers), p)
 
@@ -98,5 +99,5 @@ module _ (numbers : List ℕ) where
     front_long = sym (ap length front ∙ answers_long)
 
     pub day_counted : (passed : ℕ) → length numbers % 15 ≡ 0 → how_many numbers ≤ length answers → passed ≡ zeros (take (how_many numbers) after) →
-        Answered passed ≡ day_answer numbers (length answers)
+        Ok passed ≡ day_answer numbers (length answers)
     day_counted passed m h p = day_answered (length answers) passed m h (p ∙ ap zeros front)

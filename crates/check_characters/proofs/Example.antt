@@ -11,8 +11,7 @@ use Rattle.check_characters.specs.Wedge.{next_carry, carry_passed}
 use Rattle.check_characters.specs.Number.{shape_of, allowed_in_number, checked_as, checked_number}
 use Rattle.check_characters.specs.Day.{day_answers, day_answer}
 use Rattle.check_characters.specs.Iban.{digits_of, spread, decimal_from, iban_number}
-use Rattle.check_characters.specs.declared.carry.CarryAnswer.TheVariants.{Next}
-use Rattle.check_characters.specs.declared.day.DayAnswer.TheVariants.{Answered}
+use Rattle.std.specs.Prelude.{Ok}
 
 -- the carry behind each symbol
 abbrev carries : ℕ → List ℕ → List ℕ
@@ -28,7 +27,7 @@ pub example_entry : (entry_for 36 0 ≡ 1260) × (get_or steps 1260 0 ≡ 35)
 unfolding step steps
 example_entry = (refl, refl)
 
-pub example_keyed : (next_carry 36 (byte "0") ≡ Next 35) × (next_carry 22 (byte "F") ≡ Next carry_passed) × (carry (bytes "09980000020041F") ≡ 2)
+pub example_keyed : (next_carry 36 (byte "0") ≡ Ok 35) × (next_carry 22 (byte "F") ≡ Ok carry_passed) × (carry (bytes "09980000020041F") ≡ 2)
 unfolding value_of step next_carry
 example_keyed = (refl, refl, refl)
 
@@ -37,7 +36,7 @@ unfolding value_of symbol_of step check_of
 example_label = (refl, refl)
 
 pub example_day : (day_answers (bytes "09980000020041F09980000020041G0998000002OO41F") ≡ 0 ∷ 18 ∷ 17 ∷ [])
-    × (day_answer (bytes "09980000020041F09980000020041G0998000002OO41F") 3 ≡ Answered 1)
+    × (day_answer (bytes "09980000020041F09980000020041G0998000002OO41F") 3 ≡ Ok 1)
 unfolding value_of step passes shape_of allowed_in_number checked_as checked_number day_answers day_answer
 example_day = (refl, refl)
 

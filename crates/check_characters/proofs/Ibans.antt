@@ -12,7 +12,7 @@ use Rattle.refusal.specs.Table.{because}
 use Rattle.text.specs.Byte.{digit, capital, symbol}
 use Rattle.check_characters.specs.Symbol.{value_of}
 use Rattle.check_characters.specs.Iban.{allowed_in_iban, wrong_in_iban, barred, iban_number, sound_of, checked_iban}
-use Rattle.check_characters.specs.declared.answer.CheckAnswer.TheVariants.{Accepted, Refused}
+use Rattle.std.specs.Prelude.{Ok, Err}
 
 module _ (i b : ℕ) (t : Bool) where
   pub allowed_country : i < 2 → t ≡ capital b → t ≡ allowed_in_iban i b
@@ -51,24 +51,24 @@ module _ (s : List ℕ) (tens ones : ℕ) (et : tens ≡ value_of (get_or s 2 0)
   sound_remainder e r er = simp (← et, ← eo, ← eb, e, ← er)
 
 module _ (s : List ℕ) where
-  pub checked_short : length s < 15 → checked_iban s ≡ Refused (because WrongLength 0)
+  pub checked_short : length s < 15 → checked_iban s ≡ Err (because WrongLength 0)
   unfolding checked_iban
   checked_short h = simp (lt-leb 15 (length s))
 
-  pub checked_long : 34 < length s → checked_iban s ≡ Refused (because WrongLength 0)
+  pub checked_long : 34 < length s → checked_iban s ≡ Err (because WrongLength 0)
   unfolding checked_iban
   checked_long h = simp (le-leb 15 (length s) (omega arith), lt-leb (length s) 34)
 
   module _ (l : 15 ≤ length s) (h : length s ≤ 34) (wrong : ℕ) (ew : wrong ≡ wrong_in_iban s) where
-    pub checked_wrong : wrong < length s → Refused (because WrongSymbol wrong) ≡ checked_iban s
+    pub checked_wrong : wrong < length s → Err (because WrongSymbol wrong) ≡ checked_iban s
     unfolding checked_iban
     checked_wrong m = simp (le-leb 15 (length s), le-leb (length s) 34, ← ew, lt-ltb wrong (length s))
 
     module _ (m : length s ≤ wrong) (t : Bool) (et : t ≡ sound_of s) where
-      pub checked_sound : t ≡ true → Accepted ≡ checked_iban s
+      pub checked_sound : t ≡ true → Ok tt ≡ checked_iban s
       unfolding checked_iban
       checked_sound e = simp (le-leb 15 (length s), le-leb (length s) 34, ← ew, le-ltb wrong (length s), ← et, e)
 
-      pub checked_unsound : t ≡ false → Refused (because WrongCheck 2) ≡ checked_iban s
+      pub checked_unsound : t ≡ false → Err (because WrongCheck 2) ≡ checked_iban s
       unfolding checked_iban
       checked_unsound e = simp (le-leb 15 (length s), le-leb (length s) 34, ← ew, le-ltb wrong (length s), ← et, e)

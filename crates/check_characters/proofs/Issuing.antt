@@ -10,50 +10,50 @@ use lib.ListN.{length, drop, set}
 use lib.Seq.{drop-cons, set-append_seam}
 use borrow.Author.Tests.{eq-eqb, ne_eqb, lt-ltb, le-ltb, le-leb}
 use Rattle.refusal.specs.declared.Reason.TheVariants.{OutputTooShort, WrongLength, WrongSymbol}
-use Rattle.refusal.specs.Table.{because}
+use Rattle.refusal.specs.Table.{because, verdict_on}
 use Rattle.refusal.proofs.Verdicts.{no_pass}
 use Rattle.text.specs.Placed.{placed}
 use Rattle.text.proofs.Choices.{came_else}
-use Rattle.check_characters.specs.Answer.{room_for, issued_to, issue_verdict}
+use Rattle.check_characters.specs.Answer.{room_for, issued_to}
 use Rattle.check_characters.specs.Number.{length_of, wrong_in_number, issue_as, issue_answer}
 use Rattle.check_characters.specs.declared.number.Kind.{Kind}
 use Rattle.check_characters.specs.declared.number.Kind.TheVariants.{Tracking, Label}
-use Rattle.check_characters.specs.declared.answer.IssueAnswer.{IssueAnswer}
-use Rattle.check_characters.specs.declared.answer.IssueAnswer.TheVariants.{Issued, Refused}
+use Rattle.std.specs.Prelude.{Result, Ok, Err}
+use Rattle.refusal.specs.declared.Refusal.{Refusal}
 
 module _ (n room : ℕ) where
-  pub room_short : room ≤ n → Refused (because OutputTooShort 0) ≡ room_for (n + 1) room
+  pub room_short : room ≤ n → Err (because OutputTooShort 0) ≡ room_for (n + 1) room
   unfolding room_for
   room_short l = simp (lt-ltb room (n + 1) (omega arith))
 
-  pub room_there : n < room → Issued (n + 1) ≡ room_for (n + 1) room
+  pub room_there : n < room → Ok (n + 1) ≡ room_for (n + 1) room
   unfolding room_for
   room_there l = simp (le-ltb room (n + 1) (omega arith))
 
 module _ (whole room : ℕ) where
-  pub room_whole : (n : ℕ) → room_for whole room ≡ Issued n → n ≡ whole
+  pub room_whole : (n : ℕ) → room_for whole room ≡ Ok n → n ≡ whole
   unfolding room_for
-  room_whole n e = let w = came_else (ltb room whole) (Refused (because OutputTooShort 0)) (Issued whole) (Issued n) (no_pass issue_verdict refl refl) e in cc
+  room_whole n e = let w = came_else (ltb room whole) (Err (because OutputTooShort 0)) (Ok whole) (Ok n) (no_pass verdict_on refl refl) e in cc
 
 -- the body placed at the start, and the check behind it
 pub issue_written : (body out placedOut : List ℕ) (check : ℕ) → length body < length out → placedOut ≡ placed out 0 body →
-    set placedOut (length body) check ≡ issued_to (Issued (length body + 1)) body check out
+    set placedOut (length body) check ≡ issued_to (Ok (length body + 1)) body check out
 unfolding placed issued_to
 issue_written body out placedOut check h ep =
     let front : placedOut ≡ body ++ drop (length body) out = ep ∙ simp (zero-add, le-leb (length body) (length out) (omega arith)) in
     rw (front, add-one, drop-cons out (length body) 0 (omega arith), set-append_seam)
 
 -- the check is the one that the number's rule gives
-pub issued_with : (r : IssueAnswer) (body out after : List ℕ) (check known : ℕ) → check ≡ known → after ≡ issued_to r body check out →
+pub issued_with : (r : Result ℕ Refusal) (body out after : List ℕ) (check known : ℕ) → check ≡ known → after ≡ issued_to r body check out →
     after ≡ issued_to r body known out
 issued_with r body out after check known e f = f ∙ ap (λ (c : ℕ). issued_to r body c out) e
 
 module _ (k : Kind) (body : List ℕ) (room wrong : ℕ) (ew : wrong ≡ wrong_in_number k body) where
-  pub issue_wrong : wrong < length body → Refused (because WrongSymbol wrong) ≡ issue_as k body room
+  pub issue_wrong : wrong < length body → Err (because WrongSymbol wrong) ≡ issue_as k body room
   unfolding issue_as
   issue_wrong h = simp (← ew, lt-ltb wrong (length body))
 
-  pub issue_right : (r : IssueAnswer) → length body ≤ wrong → length body + 1 ≡ length_of k → r ≡ room_for (length body + 1) room →
+  pub issue_right : (r : Result ℕ Refusal) → length body ≤ wrong → length body + 1 ≡ length_of k → r ≡ room_for (length body + 1) room →
       r ≡ issue_as k body room
   unfolding issue_as
   issue_right r h whole e = simp (← ew, le-ltb wrong (length body), ← whole) e
@@ -67,6 +67,6 @@ module _ (body : List ℕ) (room : ℕ) where
   unfolding issue_answer
   issue_label n e = simp (ne_eqb (length body) 14, eq-eqb (length body) 27)
 
-  pub issue_length : (length body ≡ 14 → ⊥) → (length body ≡ 27 → ⊥) → issue_answer body room ≡ Refused (because WrongLength 0)
+  pub issue_length : (length body ≡ 14 → ⊥) → (length body ≡ 27 → ⊥) → issue_answer body room ≡ Err (because WrongLength 0)
   unfolding issue_answer
   issue_length n m = simp (ne_eqb (length body) 14, ne_eqb (length body) 27)

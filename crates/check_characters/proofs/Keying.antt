@@ -11,8 +11,8 @@ use Rattle.text.proofs.Choices.{and_left, and_right, and_both}
 use Rattle.check_characters.specs.Symbol.{value_of}
 use Rattle.check_characters.specs.Mod37.{step}
 use Rattle.check_characters.specs.Wedge.{is_carry, next_carry}
-use Rattle.check_characters.specs.declared.carry.CarryAnswer.TheVariants.{Next, Refused}
 use Rattle.check_characters.proofs.Carries.{Carry}
+use Rattle.std.specs.Prelude.{Ok, Err}
 
 -- the range of a carry, tested from its lower end
 module _ (c : ℕ) where
@@ -35,21 +35,21 @@ module _ (c : ℕ) where
 
 -- the answer, by what the wedge was asked with
 module _ (c b : ℕ) where
-  pub next_no_carry : is_carry c ≡ false → next_carry c b ≡ Refused (because NotThere 0)
+  pub next_no_carry : is_carry c ≡ false → next_carry c b ≡ Err (because NotThere 0)
   unfolding next_carry
   next_no_carry e = simp e
 
-  pub next_no_symbol : Carry c → symbol b ≡ false → next_carry c b ≡ Refused (because WrongSymbol 0)
+  pub next_no_symbol : Carry c → symbol b ≡ false → next_carry c b ≡ Err (because WrongSymbol 0)
   unfolding next_carry
   next_no_symbol h e = simp (there_carry c h, e)
 
-  pub next_step : Carry c → symbol b ≡ true → next_carry c b ≡ Next (step c (value_of b))
+  pub next_step : Carry c → symbol b ≡ true → next_carry c b ≡ Ok (step c (value_of b))
   unfolding next_carry
   next_step h e = simp (there_carry c h, e)
 
 -- the same, where each premise is a fact of a test in the code
 module _ (c b : ℕ) (t : Bool) (et : t ≡ is_carry c) where
-  pub key_no_carry : not t ≡ true → Refused (because NotThere 0) ≡ next_carry c b
+  pub key_no_carry : not t ≡ true → Err (because NotThere 0) ≡ next_carry c b
   key_no_carry h = sym (next_no_carry c b (sym et ∙ not-true t h))
 
   module _ (h : not t ≡ false) where
@@ -63,8 +63,8 @@ module _ (c b : ℕ) (t : Bool) (et : t ≡ is_carry c) where
     key_high = range.high
 
     module _ (u : Bool) (eu : u ≡ symbol b) where
-      pub key_no_symbol : not u ≡ true → Refused (because WrongSymbol 0) ≡ next_carry c b
+      pub key_no_symbol : not u ≡ true → Err (because WrongSymbol 0) ≡ next_carry c b
       key_no_symbol g = sym (next_no_symbol c b range (sym eu ∙ not-true u g))
 
-      pub key_next : (v d : ℕ) → not u ≡ false → v ≡ value_of b → d ≡ step c v → Next d ≡ next_carry c b
-      key_next v d g ev ed = ap Next (ed ∙ ap (step c) ev) ∙ sym (next_step c b range (sym eu ∙ not-false u g))
+      pub key_next : (v d : ℕ) → not u ≡ false → v ≡ value_of b → d ≡ step c v → Ok d ≡ next_carry c b
+      key_next v d g ev ed = ap Ok (ed ∙ ap (step c) ev) ∙ sym (next_step c b range (sym eu ∙ not-false u g))

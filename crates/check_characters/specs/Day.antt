@@ -3,15 +3,14 @@
 --
 -- The 45 bytes 09980000020041F09980000020041G0998000002OO41F are three numbers. Their answers are 0, 18 and 17, and one passed
 -- (`example_day`).
-use Rattle.std.specs.Prelude.{ℕ, ◌*◌, ◌/◌, ◌%◌, ◌≡◌, not, List, eqb, ltb, length, take, drop, if◌then◌else◌}
+use Rattle.std.specs.Prelude.{ℕ, ◌*◌, ◌/◌, ◌%◌, ◌≡◌, not, List, eqb, ltb, length, take, drop, if◌then◌else◌, Result, Ok, Err}
 use Rattle.text.specs.Placed.{written}
 use Rattle.text.specs.Scan.{count}
 use Rattle.text.specs.Tabled.{tabled}
 use Rattle.refusal.specs.declared.Reason.TheVariants.{OutputTooShort, WrongLength}
-use Rattle.refusal.specs.Table.{because, number_told, verdict_of, Verdict}
-use Rattle.check_characters.specs.Number.{number_verdict, checked_number}
-use Rattle.check_characters.specs.declared.day.DayAnswer.{DayAnswer}
-use Rattle.check_characters.specs.declared.day.DayAnswer.TheVariants.{Answered, Refused}
+use Rattle.refusal.specs.Table.{because, number_told, verdict_of, Verdict, verdict_on}
+use Rattle.check_characters.specs.Number.{checked_number}
+use Rattle.refusal.specs.declared.Refusal.{Refusal}
 
 -- "15 bytes after 15 bytes": the number at the place i
 abbrev pub number_at : List ℕ → ℕ → List ℕ
@@ -23,30 +22,25 @@ how_many numbers = length numbers / 15
 
 -- "an answer byte each: 0, 17 or 18 as each number would get alone"
 unfoldable pub day_answers : List ℕ → List ℕ
-day_answers numbers = tabled (λ i. number_told (number_verdict (checked_number (number_at numbers i)))) 0 (how_many numbers)
+day_answers numbers = tabled (λ i. number_told (verdict_on (checked_number (number_at numbers i)))) 0 (how_many numbers)
 
 -- "the count of zeros"
 abbrev pub zeros : List ℕ → ℕ
 zeros answers = count (λ b. eqb b 0) answers
 
 -- "16 if the length is not a multiple of 15, then 13 if there are fewer answer bytes than numbers", with so many answer bytes
-unfoldable pub day_answer : List ℕ → ℕ → DayAnswer
+unfoldable pub day_answer : List ℕ → ℕ → Result ℕ Refusal
 day_answer numbers room =
-    if not (eqb (length numbers % 15) 0) then Refused (because WrongLength 0)
-    else if ltb room (how_many numbers) then Refused (because OutputTooShort 0)
-    else Answered (zeros (day_answers numbers))
+    if not (eqb (length numbers % 15) 0) then Err (because WrongLength 0)
+    else if ltb room (how_many numbers) then Err (because OutputTooShort 0)
+    else Ok (zeros (day_answers numbers))
 
 -- "Answer bytes past the last number stay"; a refusal "leaves the answers untouched"
-unfoldable pub answers_after : DayAnswer → List ℕ → List ℕ → List ℕ
-answers_after (Answered passed) numbers answers = written answers 0 (day_answers numbers)
-answers_after (Refused refusal) numbers answers = answers
+unfoldable pub answers_after : Result ℕ Refusal → List ℕ → List ℕ → List ℕ
+answers_after (Ok passed) numbers answers = written answers 0 (day_answers numbers)
+answers_after (Err refusal) numbers answers = answers
 
 -- the answer and the answer bytes that the call allows
-abbrev pub ChecksDay : List ℕ → List ℕ → DayAnswer → List ℕ → Type 0
+abbrev pub ChecksDay : List ℕ → List ℕ → Result ℕ Refusal → List ℕ → Type 0
 ChecksDay numbers answers answer after =
     (answer ≡ day_answer numbers (length answers)) × (after ≡ answers_after answer numbers answers)
-
--- the paper's number and place for each answer
-abbrev pub day_verdict : DayAnswer → Verdict
-day_verdict (Answered passed) = Verdict.passes
-day_verdict (Refused refusal) = verdict_of refusal

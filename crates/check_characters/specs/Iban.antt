@@ -2,7 +2,7 @@
 --
 -- AT611904300234573201 stands for 1904300234573201102961: the account, then `A` as 10, `T` as 29, and 61. Its remainder by 97 is 1, and
 -- it passes. AT161904300234573201 stands for 1904300234573201102916, which leaves 53: it is refused by 18 at 2 (`example_iban`).
-use Rattle.std.specs.Prelude.{ℕ, ◌+◌, ◌*◌, ◌/◌, ◌%◌, Bool, not, ◌&&◌, ◌||◌, List, [], ◌∷◌, ◌++◌, eqb, ltb, leb, length, get_or, take, drop}
+use Rattle.std.specs.Prelude.{ℕ, ◌+◌, ◌*◌, ◌/◌, ◌%◌, Bool, not, ◌&&◌, ◌||◌, List, [], ◌∷◌, ◌++◌, eqb, ltb, leb, length, get_or, take, drop, ⊤, Result, Ok, Err}
 use Rattle.std.specs.Prelude.{if◌then◌else◌}
 use Rattle.text.specs.Byte.{digit, capital, symbol}
 use Rattle.text.specs.Decimal.{number_from}
@@ -10,8 +10,7 @@ use Rattle.text.specs.Scan.{first_failing}
 use Rattle.refusal.specs.declared.Reason.TheVariants.{WrongLength, WrongSymbol, WrongCheck}
 use Rattle.refusal.specs.Table.{because}
 use Rattle.check_characters.specs.Symbol.{value_of}
-use Rattle.check_characters.specs.declared.answer.CheckAnswer.{CheckAnswer}
-use Rattle.check_characters.specs.declared.answer.CheckAnswer.TheVariants.{Accepted, Refused}
+use Rattle.refusal.specs.declared.Refusal.{Refusal}
 
 -- "two capitals, two digits, then capitals or digits"
 unfoldable pub allowed_in_iban : ℕ → ℕ → Bool
@@ -53,9 +52,9 @@ unfoldable pub sound_of : List ℕ → Bool
 sound_of symbols = not (barred (check_digits symbols)) && eqb (iban_number symbols % 97) 1
 
 -- "IBAN: 15 to 34 long", and "the order 16, 17, 18"
-unfoldable pub checked_iban : List ℕ → CheckAnswer
+unfoldable pub checked_iban : List ℕ → Result ⊤ Refusal
 checked_iban symbols =
-    if not (leb 15 (length symbols) && leb (length symbols) 34) then Refused (because WrongLength 0)
-    else if ltb (wrong_in_iban symbols) (length symbols) then Refused (because WrongSymbol (wrong_in_iban symbols))
-    else if sound_of symbols then Accepted
-    else Refused (because WrongCheck 2)
+    if not (leb 15 (length symbols) && leb (length symbols) 34) then Err (because WrongLength 0)
+    else if ltb (wrong_in_iban symbols) (length symbols) then Err (because WrongSymbol (wrong_in_iban symbols))
+    else if sound_of symbols then Ok tt
+    else Err (because WrongCheck 2)

@@ -4,32 +4,19 @@ ghost use Rattle.check_characters.specs.Answer.{room_for, issued_to};
 
 use refusal::{Reason, Refusal};
 
-#[derive(Clone, Copy)]
-pub enum CheckAnswer {
-    Accepted,
-    Refused(Refusal),
-}
-
-#[derive(Clone, Copy)]
-pub enum IssueAnswer {
-    // How many bytes were written.
-    Issued(usize),
-    Refused(Refusal),
-}
-
 // Writes body and check at the output's start, where there is room for them.
-pub fn issue(body: &[u8], check: u8, output: &mut [u8]) -> IssueAnswer
+pub fn issue(body: &[u8], check: u8, output: &mut [u8]) -> Result<usize, Refusal>
     ensures { (result ≡ room_for (length body.now + 1) (length output.old))
         × (output.new ≡ issued_to result body.now check output.old) }
 {
     let n = body.len();
     if output.len() <= n {
-        return IssueAnswer::Refused(Refusal {
+        return Err(Refusal {
             why: Reason::OutputTooShort,
             place: 0,
         });
     }
     text::place(output, 0, body);
     output[n] = check;
-    IssueAnswer::Issued(n + 1)
+    Ok(n + 1)
 }

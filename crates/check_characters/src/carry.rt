@@ -9,33 +9,26 @@ ghost use Rattle.check_characters.specs.Wedge.{is_carry, next_carry};
 use crate::{steps, symbol};
 use refusal::{Reason, Refusal};
 
-#[derive(Clone, Copy)]
-pub enum CarryAnswer {
-    // The carry after the key.
-    Next(u32),
-    Refused(Refusal),
-}
-
 // The carry after one more symbol, for a caller who takes a number key by key: the first call is given 36, each later one the carry that the
 // call before it answered.
-pub fn next_carry(carry: u32, key: u8) -> CarryAnswer
+pub fn next_carry(carry: u32, key: u8) -> Result<u32, Refusal>
     ensures { result ≡ next_carry carry key }
 {
     if !is_carry(carry) {
-        return CarryAnswer::Refused(Refusal {
+        return Err(Refusal {
             why: Reason::NotThere,
             place: 0,
         });
     }
     if !text::is_symbol(key) {
-        return CarryAnswer::Refused(Refusal {
+        return Err(Refusal {
             why: Reason::WrongSymbol,
             place: 0,
         });
     }
     let table = steps::laid_out();
     let value = symbol::value(key);
-    CarryAnswer::Next(next(&table, carry as usize, value) as u32)
+    Ok(next(&table, carry as usize, value) as u32)
 }
 
 // The check character of a run of symbols.

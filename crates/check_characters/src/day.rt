@@ -2,40 +2,32 @@
 // answer in another. The table of steps is laid out once for all of them.
 ghost use Rattle.std.specs.Prelude.{◌≡◌, ◌≤◌, length};
 ghost use Rattle.text.specs.Placed.{written};
-ghost use Rattle.refusal.specs.Table.{number_told};
-ghost use Rattle.check_characters.specs.Number.{number_verdict};
+ghost use Rattle.refusal.specs.Table.{number_told, verdict_on};
 ghost use Rattle.check_characters.specs.Day.{how_many, day_answers, ChecksDay};
 
-use crate::number::{Kind, NumberAnswer};
+use crate::number::Kind;
 use crate::{number, steps};
 use refusal::{Reason, Refusal};
 
-#[derive(Clone, Copy)]
-pub enum DayAnswer {
-    // How many numbers passed; each has its answer.
-    Answered(usize),
-    Refused(Refusal),
-}
-
 // Checks a day's tracking numbers, and writes for each the byte 0, 17 or 18 that it would be answered alone.
-pub fn check_numbers(numbers: &[u8], answers: &mut [u8]) -> DayAnswer
+pub fn check_numbers(numbers: &[u8], answers: &mut [u8]) -> Result<usize, Refusal>
     ensures { ChecksDay numbers.now answers.old result answers.new }
 {
     if numbers.len() % 15 != 0 {
-        return DayAnswer::Refused(Refusal {
+        return Err(Refusal {
             why: Reason::WrongLength,
             place: 0,
         });
     }
     let n = numbers.len() / 15;
     if answers.len() < n {
-        return DayAnswer::Refused(Refusal {
+        return Err(Refusal {
             why: Reason::OutputTooShort,
             place: 0,
         });
     }
     check_each(numbers, answers);
-    DayAnswer::Answered(text::count_of(0, &answers[..n]))
+    Ok(text::count_of(0, &answers[..n]))
 }
 
 // Writes the answers of numbers that have a byte each.
@@ -55,12 +47,12 @@ fn check_each(numbers: &[u8], answers: &mut [u8])
 }
 
 // The byte of an answer: 0, or the refusal's number.
-fn answer_byte(answer: NumberAnswer) -> u8
-    ensures { result ≡ number_told (number_verdict answer) }
+fn answer_byte(answer: Result<Kind, Refusal>) -> u8
+    ensures { result ≡ number_told (verdict_on answer) }
 {
     match answer {
-        NumberAnswer::Accepted(_) => 0,
-        NumberAnswer::Refused(refusal) => {
+        Ok(_) => 0,
+        Err(refusal) => {
             let why = refusal.why;
             refusal::number(why) as u8
         }

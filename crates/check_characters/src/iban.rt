@@ -11,38 +11,37 @@
 ghost use Rattle.std.specs.Prelude.{◌≡◌, ◌≤◌, length};
 ghost use Rattle.check_characters.specs.Iban.{allowed_in_iban, wrong_in_iban, barred, sound_of, checked_iban};
 
-use crate::answer::CheckAnswer;
 use crate::{remainder, symbol};
 use refusal::{Reason, Refusal};
 
 // Checks an IBAN.
-pub fn check_iban(symbols: &[u8]) -> CheckAnswer
+pub fn check_iban(symbols: &[u8]) -> Result<(), Refusal>
     ensures { result ≡ checked_iban symbols.now }
 {
     let n = symbols.len();
     if n < 15 {
-        return CheckAnswer::Refused(Refusal {
+        return Err(Refusal {
             why: Reason::WrongLength,
             place: 0,
         });
     }
     if 34 < n {
-        return CheckAnswer::Refused(Refusal {
+        return Err(Refusal {
             why: Reason::WrongLength,
             place: 0,
         });
     }
     let wrong = wrong_symbol(symbols);
     if wrong < n {
-        return CheckAnswer::Refused(Refusal {
+        return Err(Refusal {
             why: Reason::WrongSymbol,
             place: wrong,
         });
     }
     if is_sound(symbols) {
-        return CheckAnswer::Accepted;
+        return Ok(());
     }
-    CheckAnswer::Refused(Refusal {
+    Err(Refusal {
         why: Reason::WrongCheck,
         place: 2,
     })

@@ -10,8 +10,8 @@ mod remainder;
 mod steps;
 mod symbol;
 
-pub use answer::{CheckAnswer, IssueAnswer, issue};
-pub use carry::{CarryAnswer, check_of, next_carry};
-pub use day::{DayAnswer, check_numbers};
+pub use answer::issue;
+pub use carry::{check_of, next_carry};
+pub use day::check_numbers;
 pub use iban::check_iban;
-pub use number::{Kind, NumberAnswer, check_number, issue_number};
+pub use number::{Kind, check_number, issue_number};

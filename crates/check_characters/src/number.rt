@@ -16,7 +16,6 @@ ghost use Rattle.check_characters.specs.Answer.{issued_to};
 ghost use Rattle.check_characters.specs.Mod37.{carry, check_of};
 ghost use Rattle.check_characters.specs.Steps.{steps};
 
-use crate::answer::IssueAnswer;
 use crate::{answer, carry, steps, symbol};
 use refusal::{Reason, Refusal};
 
@@ -24,12 +23,6 @@ use refusal::{Reason, Refusal};
 pub enum Kind {
     Tracking,
     Label,
-}
-
-#[derive(Clone, Copy)]
-pub enum NumberAnswer {
-    Accepted(Kind),
-    Refused(Refusal),
 }
 
 // How far a number's symbols are allowed, and the carry behind these.
@@ -40,7 +33,7 @@ struct Walked {
 }
 
 // Checks a tracking number or a label code; the length tells which.
-pub fn check_number(symbols: &[u8]) -> NumberAnswer
+pub fn check_number(symbols: &[u8]) -> Result<Kind, Refusal>
     ensures { result ≡ checked_number symbols.now }
 {
     let table = steps::laid_out();
@@ -51,14 +44,14 @@ pub fn check_number(symbols: &[u8]) -> NumberAnswer
     if n == 28 {
         return check_as(&table, Kind::Label, symbols);
     }
-    NumberAnswer::Refused(Refusal {
+    Err(Refusal {
         why: Reason::WrongLength,
         place: 0,
     })
 }
 
 // Issues the number that has this body: body and check are written at the output's start.
-pub fn issue_number(body: &[u8], output: &mut [u8]) -> IssueAnswer
+pub fn issue_number(body: &[u8], output: &mut [u8]) -> Result<usize, Refusal>
     ensures { Issues body.now output.old result output.new }
 {
     let table = steps::laid_out();
@@ -69,7 +62,7 @@ pub fn issue_number(body: &[u8], output: &mut [u8]) -> IssueAnswer
     if n == 27 {
         return issue_as(&table, Kind::Label, body, output);
     }
-    IssueAnswer::Refused(Refusal {
+    Err(Refusal {
         why: Reason::WrongLength,
         place: 0,
     })
@@ -77,36 +70,41 @@ pub fn issue_number(body: &[u8], output: &mut [u8]) -> IssueAnswer
 
 // Checks a number that has the length of its kind. Its check is walked over like the other symbols: it makes the sum leave 1 modulo 36, so
 // that the carry behind it is 2. A day's numbers are checked by this too.
-pub fn check_as(table: &[u8; 1296], kind: Kind, symbols: &[u8]) -> NumberAnswer
+pub fn check_as(table: &[u8; 1296], kind: Kind, symbols: &[u8]) -> Result<Kind, Refusal>
     requires { (table.now ≡ steps) × (length symbols.now ≡ length_of kind) }
     ensures { result ≡ checked_as kind symbols.now }
 {
     let n = symbols.len();
     let walked = walk(table, kind, symbols);
     if walked.wrong < n {
-        return NumberAnswer::Refused(Refusal {
+        return Err(Refusal {
             why: Reason::WrongSymbol,
             place: walked.wrong,
         });
     }
     if walked.carry == 2 {
-        return NumberAnswer::Accepted(kind);
+        return Ok(kind);
     }
-    NumberAnswer::Refused(Refusal {
+    Err(Refusal {
         why: Reason::WrongCheck,
         place: n - 1,
     })
 }
 
 // Issues a number from a body that is one symbol shorter than its kind.
-fn issue_as(table: &[u8; 1296], kind: Kind, body: &[u8], output: &mut [u8]) -> IssueAnswer
+fn issue_as(
+    table: &[u8; 1296],
+    kind: Kind,
+    body: &[u8],
+    output: &mut [u8],
+) -> Result<usize, Refusal>
     requires { (table.now ≡ steps) × (length body.now + 1 ≡ length_of kind) }
     ensures { (result ≡ issue_as kind body.now (length output.old))
         × (output.new ≡ issued_to result body.now (check_of body.now) output.old) }
 {
     let walked = walk(table, kind, body);
     if walked.wrong < body.len() {
-        return IssueAnswer::Refused(Refusal {
+        return Err(Refusal {
             why: Reason::WrongSymbol,
             place: walked.wrong,
         });

@@ -15,26 +15,21 @@ use lib.Seq.{take-suc, take_all}
 use borrow.Author.Tests.{eqb-true, eq-eqb, ne_eqb, lt-ltb, le-ltb, ltb-false, not-false}
 use Rattle.refusal.specs.declared.Reason.TheVariants.{WrongLength, WrongSymbol, WrongCheck}
 use Rattle.refusal.specs.declared.Refusal.{Refusal}
-use Rattle.refusal.specs.Table.{because}
+use Rattle.refusal.specs.Table.{because, verdict_on}
 use Rattle.refusal.proofs.Verdicts.{no_pass}
-use Rattle.std.specs.Prelude.{if◌then◌else◌}
+use Rattle.std.specs.Prelude.{if◌then◌else◌, ⊤, Result, Ok, Err}
 use Rattle.text.specs.Byte.{digit}
 use Rattle.text.proofs.Choices.{came_then, came_else}
 use Rattle.text.proofs.Bytes.{digit_range}
 use Rattle.text.proofs.Numbers.{eq_or_ne}
 use Rattle.text.proofs.Scans.{none_fails}
 use Rattle.check_characters.specs.Symbol.{value_of, symbol_of}
-use Rattle.check_characters.specs.Answer.{room_for, check_verdict}
+use Rattle.check_characters.specs.Answer.{room_for}
 use Rattle.check_digits.specs.Identcode.{allowed_in_identcode, position, parts, wrong_in_identcode, weight_at}
 use Rattle.check_digits.specs.Identcode.{weighed_from, weighed, check_digit, check_digit_of, passes}
 use Rattle.check_digits.specs.Identcode.{checked_identcode, parts_where, parts_answer, issue_identcode_answer}
-use Rattle.check_characters.specs.declared.answer.CheckAnswer.{CheckAnswer}
-use Rattle.check_characters.specs.declared.answer.CheckAnswer.TheVariants.{Accepted, Refused}
-use Rattle.check_characters.specs.declared.answer.IssueAnswer.{IssueAnswer}
-use Rattle.check_characters.specs.declared.answer.IssueAnswer.TheVariants as issue
 use Rattle.check_digits.specs.declared.identcode.Part.{Part}
 use Rattle.check_digits.specs.declared.identcode.Parts.{Parts}
-use Rattle.check_digits.specs.declared.identcode.PartsAnswer.TheVariants as read
 use Rattle.check_characters.proofs.Symbols.{value_digit, low_symbol}
 
 module _ (i : ℕ) where
@@ -132,12 +127,12 @@ module _ (s : List ℕ) (long : length s ≡ 22) (fine : length s ≤ wrong_in_i
 
 -- what checking a code answers
 module _ (s : List ℕ) where
-  pub checked_length : (length s ≡ 22 → ⊥) → Refused (because WrongLength 0) ≡ checked_identcode s
+  pub checked_length : (length s ≡ 22 → ⊥) → Err (because WrongLength 0) ≡ checked_identcode s
   unfolding checked_identcode
   checked_length n = simp (ne_eqb (length s) 22)
 
   module _ (long : length s ≡ 22) (wrong sum : ℕ) (ew : wrong ≡ wrong_in_identcode s) (es : sum ≡ weighed (take wrong s)) where
-    pub checked_wrong : wrong < 22 → Refused (because WrongSymbol wrong) ≡ checked_identcode s
+    pub checked_wrong : wrong < 22 → Err (because WrongSymbol wrong) ≡ checked_identcode s
     unfolding checked_identcode
     checked_wrong h = simp (eq-eqb (length s) 22, ← ew, lt-ltb wrong (length s) (omega arith))
 
@@ -148,12 +143,12 @@ module _ (s : List ℕ) where
       whole : sum ≡ weighed s
       whole = es ∙ ap weighed (take_all wrong s (omega arith))
 
-      pub checked_passes : sum % 10 ≡ 0 → Accepted ≡ checked_identcode s
+      pub checked_passes : sum % 10 ≡ 0 → Ok tt ≡ checked_identcode s
       unfolding checked_identcode
       checked_passes e =
           simp (eq-eqb (length s) 22, ← ew, le-ltb wrong (length s) (omega arith), passes_leaves s long fine (rw (← whole) e))
 
-      pub checked_fails : (sum % 10 ≡ 0 → ⊥) → Refused (because WrongCheck 21) ≡ checked_identcode s
+      pub checked_fails : (sum % 10 ≡ 0 → ⊥) → Err (because WrongCheck 21) ≡ checked_identcode s
       unfolding checked_identcode
       checked_fails n =
           simp (← ew, long, le-ltb wrong 22, leaves_passes s long fine (λ e. n (rw whole e)))
@@ -164,15 +159,15 @@ pub record Whole (s : List ℕ) : Type 0 where
   pub fine : length s ≤ wrong_in_identcode s
   pub closed : passes s ≡ true
 
-pub accepted_whole : (s : List ℕ) → checked_identcode s ≡ Accepted → Whole s
+pub accepted_whole : (s : List ℕ) → checked_identcode s ≡ Ok tt → Whole s
 unfolding checked_identcode
 accepted_whole s e =
     let wrong = ltb (wrong_in_identcode s) (length s) in
-    let tail = if passes s then Accepted else Refused (because WrongCheck (length s - 1)) in
-    let a = came_else (not (eqb (length s) 22)) (Refused (because WrongLength 0))
-    (if wrong then Refused (because WrongSymbol (wrong_in_identcode s)) else tail) Accepted (no_pass check_verdict refl refl) e in
-    let b = came_else wrong (Refused (because WrongSymbol (wrong_in_identcode s))) tail Accepted (no_pass check_verdict refl refl) a.1 in
-    let c = came_then (passes s) Accepted (Refused (because WrongCheck (length s - 1))) Accepted (no_pass check_verdict refl refl) b.1 in
+    let tail = if passes s then Ok tt else Err (because WrongCheck (length s - 1)) in
+    let a = came_else (not (eqb (length s) 22)) (Err (because WrongLength 0))
+    (if wrong then Err (because WrongSymbol (wrong_in_identcode s)) else tail) (Ok tt) (no_pass verdict_on refl refl) e in
+    let b = came_else wrong (Err (because WrongSymbol (wrong_in_identcode s))) tail (Ok tt) (no_pass verdict_on refl refl) a.1 in
+    let c = came_then (passes s) (Ok tt) (Err (because WrongCheck (length s - 1))) (Ok tt) (no_pass verdict_on refl refl) b.1 in
     record {
       long = eqb-true (length s) 22 (not-false (eqb (length s) 22) a.0);
       fine = ltb-false (wrong_in_identcode s) (length s) b.0;
@@ -184,27 +179,27 @@ pub all_six : (a b c d e f : Part) → a ≡ position 1 2 → b ≡ position 3 7
     f ≡ position 22 22 → record { origin = a; customer = b; sequence = c; product = d; destination = e; check = f } ≡ parts
 all_six a b c d e f ea eb ec ed ee ef = rw (ea, eb, ec, ed, ee, ef)
 
-module _ (s : List ℕ) (a : CheckAnswer) (ea : a ≡ checked_identcode s) where
-  pub parts_read : (found : Parts) → found ≡ parts → a ≡ Accepted → read.Read found ≡ parts_answer s
+module _ (s : List ℕ) (a : Result ⊤ Refusal) (ea : a ≡ checked_identcode s) where
+  pub parts_read : (found : Parts) → found ≡ parts → a ≡ Ok tt → Ok found ≡ parts_answer s
   unfolding parts_answer
-  parts_read found f e = ap read.Read f ∙ ap parts_where (sym e ∙ ea)
+  parts_read found f e = ap Ok f ∙ ap parts_where (sym e ∙ ea)
 
-  pub parts_refused : (refusal : Refusal) → a ≡ Refused refusal → read.Refused refusal ≡ parts_answer s
+  pub parts_refused : (refusal : Refusal) → a ≡ Err refusal → Err refusal ≡ parts_answer s
   unfolding parts_answer
   parts_refused refusal e = ap parts_where (sym e ∙ ea)
 
 -- and issuing one
 module _ (body : List ℕ) (room : ℕ) where
-  pub identcode_length : (length body ≡ 21 → ⊥) → issue.Refused (because WrongLength 0) ≡ issue_identcode_answer body room
+  pub identcode_length : (length body ≡ 21 → ⊥) → Err (because WrongLength 0) ≡ issue_identcode_answer body room
   unfolding issue_identcode_answer
   identcode_length n = simp (ne_eqb (length body) 21)
 
   module _ (long : length body ≡ 21) (wrong : ℕ) (ew : wrong ≡ wrong_in_identcode body) where
-    pub identcode_wrong : wrong < 21 → issue.Refused (because WrongSymbol wrong) ≡ issue_identcode_answer body room
+    pub identcode_wrong : wrong < 21 → Err (because WrongSymbol wrong) ≡ issue_identcode_answer body room
     unfolding issue_identcode_answer
     identcode_wrong h = simp (eq-eqb (length body) 21, ← ew, lt-ltb wrong (length body) (omega arith))
 
-    pub identcode_right : (r : IssueAnswer) → 21 ≤ wrong → r ≡ room_for (length body + 1) room → r ≡ issue_identcode_answer body room
+    pub identcode_right : (r : Result ℕ Refusal) → 21 ≤ wrong → r ≡ room_for (length body + 1) room → r ≡ issue_identcode_answer body room
     unfolding issue_identcode_answer
     identcode_right r h e = simp (eq-eqb (length body) 21, ← ew, le-ltb wrong (length body) (omega arith)) (rw long at e)
 

@@ -8,21 +8,16 @@
 --     85 46379 00327598 18 6342 6
 --
 -- With the check digit 7 it is refused by 18 at 21, with a letter by 17 at that letter, and without its check digit by 16 at 0.
-use Rattle.std.specs.Prelude.{ℕ, suc, ◌+◌, ◌-◌, ◌*◌, ◌%◌, ◌≡◌, Bool, not, List, [], ◌∷◌, eqb, ltb, length, get_or, take, if◌then◌else◌}
+use Rattle.std.specs.Prelude.{ℕ, suc, ◌+◌, ◌-◌, ◌*◌, ◌%◌, ◌≡◌, Bool, not, List, [], ◌∷◌, eqb, ltb, length, get_or, take, if◌then◌else◌, ⊤, Result, Ok, Err}
 use Rattle.text.specs.Byte.{digit}
 use Rattle.text.specs.Scan.{first_failing}
 use Rattle.refusal.specs.declared.Reason.TheVariants.{WrongLength, WrongSymbol, WrongCheck}
 use Rattle.refusal.specs.Table.{because, verdict_of, Verdict}
 use Rattle.check_characters.specs.Symbol.{value_of, symbol_of}
 use Rattle.check_characters.specs.Answer.{room_for, issued_to}
-use Rattle.check_characters.specs.declared.answer.CheckAnswer.{CheckAnswer}
-use Rattle.check_characters.specs.declared.answer.CheckAnswer.TheVariants.{Accepted, Refused}
-use Rattle.check_characters.specs.declared.answer.IssueAnswer.{IssueAnswer}
-use Rattle.check_characters.specs.declared.answer.IssueAnswer.TheVariants as issue
 use Rattle.check_digits.specs.declared.identcode.Part.{Part}
 use Rattle.check_digits.specs.declared.identcode.Parts.{Parts}
-use Rattle.check_digits.specs.declared.identcode.PartsAnswer.{PartsAnswer}
-use Rattle.check_digits.specs.declared.identcode.PartsAnswer.TheVariants as read
+use Rattle.refusal.specs.declared.Refusal.{Refusal}
 
 -- "Position: 3-7": from one place of the code to another, both counted from 1; our places are counted from 0
 abbrev pub position : ℕ → ℕ → Part
@@ -79,34 +74,29 @@ unfoldable pub passes : List ℕ → Bool
 passes code = eqb (get_or code (length code - 1) 0) (check_digit_of (take (length code - 1) code))
 
 -- "alone 16, 17, 18 as for DPD numbers, 18 at the last digit"
-unfoldable pub checked_identcode : List ℕ → CheckAnswer
+unfoldable pub checked_identcode : List ℕ → Result ⊤ Refusal
 checked_identcode code =
-    if not (eqb (length code) 22) then Refused (because WrongLength 0)
-    else if ltb (wrong_in_identcode code) (length code) then Refused (because WrongSymbol (wrong_in_identcode code))
-    else if passes code then Accepted
-    else Refused (because WrongCheck (length code - 1))
+    if not (eqb (length code) 22) then Err (because WrongLength 0)
+    else if ltb (wrong_in_identcode code) (length code) then Err (because WrongSymbol (wrong_in_identcode code))
+    else if passes code then Ok tt
+    else Err (because WrongCheck (length code - 1))
 
 -- "Offer the parts to callers": those of a code that passes
-abbrev pub parts_where : CheckAnswer → PartsAnswer
-parts_where Accepted = read.Read parts
-parts_where (Refused refusal) = read.Refused refusal
+abbrev pub parts_where : Result ⊤ Refusal → Result Parts Refusal
+parts_where (Ok _) = Ok parts
+parts_where (Err refusal) = Err refusal
 
-unfoldable pub parts_answer : List ℕ → PartsAnswer
+unfoldable pub parts_answer : List ℕ → Result Parts Refusal
 parts_answer code = parts_where (checked_identcode code)
 
 -- "issuing 16, 17, 13", with so many bytes of output
-unfoldable pub issue_identcode_answer : List ℕ → ℕ → IssueAnswer
+unfoldable pub issue_identcode_answer : List ℕ → ℕ → Result ℕ Refusal
 issue_identcode_answer body room =
-    if not (eqb (length body) 21) then issue.Refused (because WrongLength 0)
-    else if ltb (wrong_in_identcode body) (length body) then issue.Refused (because WrongSymbol (wrong_in_identcode body))
+    if not (eqb (length body) 21) then Err (because WrongLength 0)
+    else if ltb (wrong_in_identcode body) (length body) then Err (because WrongSymbol (wrong_in_identcode body))
     else room_for 22 room
 
 -- the answer and the output that issuing allows
-abbrev pub IssuesIdentcode : List ℕ → List ℕ → IssueAnswer → List ℕ → Type 0
+abbrev pub IssuesIdentcode : List ℕ → List ℕ → Result ℕ Refusal → List ℕ → Type 0
 IssuesIdentcode body output answer after =
     (answer ≡ issue_identcode_answer body (length output)) × (after ≡ issued_to answer body (check_digit_of body) output)
-
--- the paper's number and place for each answer
-abbrev pub parts_verdict : PartsAnswer → Verdict
-parts_verdict (read.Read found) = Verdict.passes
-parts_verdict (read.Refused refusal) = verdict_of refusal

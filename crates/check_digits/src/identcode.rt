@@ -12,7 +12,6 @@ ghost use Rattle.std.specs.Prelude.{◌≡◌, ◌≤◌, length, take};
 ghost use Rattle.check_digits.specs.Identcode.{wrong_in_identcode, weight_at, weighed, check_digit, checked_identcode};
 ghost use Rattle.check_digits.specs.Identcode.{parts_answer, IssuesIdentcode};
 
-use check_characters::{CheckAnswer, IssueAnswer};
 use refusal::{Reason, Refusal};
 
 // One part: where it starts in the code, and how many digits it has.
@@ -37,12 +36,6 @@ pub struct Parts {
     pub check: Part,
 }
 
-#[derive(Clone, Copy)]
-pub enum PartsAnswer {
-    Read(Parts),
-    Refused(Refusal),
-}
-
 // How far digits reach, and their sum, each times its weight.
 #[derive(Clone, Copy)]
 struct Walk {
@@ -51,38 +44,38 @@ struct Walk {
 }
 
 // Checks an identcode.
-pub fn check_identcode(code: &[u8]) -> CheckAnswer
+pub fn check_identcode(code: &[u8]) -> Result<(), Refusal>
     ensures { result ≡ checked_identcode code.now }
 {
     if code.len() != 22 {
-        return CheckAnswer::Refused(Refusal {
+        return Err(Refusal {
             why: Reason::WrongLength,
             place: 0,
         });
     }
     let walk = weigh(code);
     if walk.wrong < 22 {
-        return CheckAnswer::Refused(Refusal {
+        return Err(Refusal {
             why: Reason::WrongSymbol,
             place: walk.wrong,
         });
     }
     if walk.sum % 10 == 0 {
-        return CheckAnswer::Accepted;
+        return Ok(());
     }
-    CheckAnswer::Refused(Refusal {
+    Err(Refusal {
         why: Reason::WrongCheck,
         place: 21,
     })
 }
 
 // Reads the six parts of an identcode that passes.
-pub fn read_identcode(code: &[u8]) -> PartsAnswer
+pub fn read_identcode(code: &[u8]) -> Result<Parts, Refusal>
     ensures { result ≡ parts_answer code.now }
 {
     let answer = check_identcode(code);
     match answer {
-        CheckAnswer::Accepted => PartsAnswer::Read(Parts {
+        Ok(()) => Ok(Parts {
             origin: part_at(0, 2),
             customer: part_at(2, 5),
             sequence: part_at(7, 8),
@@ -90,23 +83,23 @@ pub fn read_identcode(code: &[u8]) -> PartsAnswer
             destination: part_at(17, 4),
             check: part_at(21, 1),
         }),
-        CheckAnswer::Refused(refusal) => PartsAnswer::Refused(refusal),
+        Err(refusal) => Err(refusal),
     }
 }
 
 // Issues the identcode that has these 21 digits: they and their check digit are written at the output's start.
-pub fn issue_identcode(body: &[u8], output: &mut [u8]) -> IssueAnswer
+pub fn issue_identcode(body: &[u8], output: &mut [u8]) -> Result<usize, Refusal>
     ensures { IssuesIdentcode body.now output.old result output.new }
 {
     if body.len() != 21 {
-        return IssueAnswer::Refused(Refusal {
+        return Err(Refusal {
             why: Reason::WrongLength,
             place: 0,
         });
     }
     let walk = weigh(body);
     if walk.wrong < 21 {
-        return IssueAnswer::Refused(Refusal {
+        return Err(Refusal {
             why: Reason::WrongSymbol,
             place: walk.wrong,
         });

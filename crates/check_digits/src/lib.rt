@@ -3,4 +3,4 @@
 
 mod identcode;
 
-pub use identcode::{Part, Parts, PartsAnswer, check_identcode, issue_identcode, read_identcode};
+pub use identcode::{Part, Parts, check_identcode, issue_identcode, read_identcode};

@@ -4,17 +4,16 @@ use mathlib.Core.Path.{◌≡◌, refl, sym, ap, ◌∙◌}
 use mathlib.Core.List.{List, []}
 use native.Mathlib.Omega.{arith}
 use lib.ListN.{length, take}
-use Rattle.refusal.specs.Table.{number_of, number_told}
+use Rattle.refusal.specs.Table.{number_of, number_told, verdict_on}
 use Rattle.refusal.specs.declared.Refusal.{Refusal}
-use Rattle.check_characters.specs.Day.{day_answers, zeros, day_answer, answers_after, ChecksDay, day_verdict}
-use Rattle.check_characters.specs.declared.day.DayAnswer.{DayAnswer}
-use Rattle.check_characters.specs.declared.day.DayAnswer.TheVariants.{Answered, Refused}
+use Rattle.check_characters.specs.Day.{day_answers, zeros, day_answer, answers_after, ChecksDay}
 use Rattle.check_characters.proofs.Days.{day_answered}
 use Rattle.refused.specs.Day.{RefusedDay}
 use Rattle.refused.proofs.Days as days
 use Rattle.peliranopi.specs.Told.{passed_told}
 use Rattle.peliranopi.specs.Calls.{DayTells}
 use Rattle.demands.specs.Day.{DayExactly, EachAsAlone, ZerosCounted, NoNumbers, DayInPieces}
+use Rattle.std.specs.Prelude.{Result, Ok, Err}
 
 pub day_exactly : DayExactly
 day_exactly = days.day_exactly
@@ -25,14 +24,14 @@ module _ (numbers answers after : List ℕ) (passed place : ℕ) (p : DayTells n
   not_zero refusal (RefusedDay.wrong_length n) e = omega arith
   not_zero refusal (RefusedDay.too_short many whole h) e = omega arith
 
-  told_answered : ChecksDay numbers answers (Answered passed) after
+  told_answered : ChecksDay numbers answers (Ok passed) after
   unfolding answers_after
   told_answered = go (day_answer numbers (length answers)) refl p.0.0 p.1 p.2
     where
-      go : (a : DayAnswer) → a ≡ day_answer numbers (length answers) → 0 ≡ number_told (day_verdict a) → passed ≡ passed_told a →
-          after ≡ answers_after a numbers answers → ChecksDay numbers answers (Answered passed) after
-      go (Answered count) e n q r = (ap Answered q ∙ e, r)
-      go (Refused refusal) e n q r = absurd (not_zero refusal (days.day_refuses numbers answers after refusal e) n)
+      go : (a : Result ℕ Refusal) → a ≡ day_answer numbers (length answers) → 0 ≡ number_told (verdict_on a) → passed ≡ passed_told a →
+          after ≡ answers_after a numbers answers → ChecksDay numbers answers (Ok passed) after
+      go (Ok count) e n q r = (ap Ok q ∙ e, r)
+      go (Err refusal) e n q r = absurd (not_zero refusal (days.day_refuses numbers answers after refusal e) n)
 
 pub each_as_alone : EachAsAlone
 each_as_alone numbers answers after passed place p i number kind at h q =
@@ -46,9 +45,9 @@ zeros_counted numbers answers after passed place p =
 pub no_numbers : NoNumbers
 unfolding day_answers answers_after
 no_numbers answers after answer =
-    let none : Answered 0 ≡ day_answer [] (length answers) = day_answered [] (length answers) 0 refl (omega arith) refl in (
-      (λ (p, q). let e : answer ≡ Answered 0 = p ∙ sym none in (e, q ∙ ap (λ (a : DayAnswer). answers_after a [] answers) e)),
-      (λ (e, f). (e ∙ none, f ∙ ap (λ (a : DayAnswer). answers_after a [] answers) (sym e))),
+    let none : Ok 0 ≡ day_answer [] (length answers) = day_answered [] (length answers) 0 refl (omega arith) refl in (
+      (λ (p, q). let e : answer ≡ Ok 0 = p ∙ sym none in (e, q ∙ ap (λ (a : Result ℕ Refusal). answers_after a [] answers) e)),
+      (λ (e, f). (e ∙ none, f ∙ ap (λ (a : Result ℕ Refusal). answers_after a [] answers) (sym e))),
     )
 
 pub day_in_pieces : DayInPieces

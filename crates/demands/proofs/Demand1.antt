@@ -11,17 +11,15 @@ use Rattle.check_characters.specs.Day.{answers_after}
 use Rattle.check_characters.specs.Wedge.{next_carry}
 use Rattle.check_characters.specs.Iban.{checked_iban}
 use Rattle.check_digits.specs.Identcode.{check_digit_of, checked_identcode, parts_answer, issue_identcode_answer}
-use Rattle.check_characters.specs.declared.answer.IssueAnswer.{IssueAnswer}
-use Rattle.check_characters.specs.declared.day.DayAnswer.{DayAnswer}
 use Rattle.fields.specs.Profile.{profile}
 use Rattle.fields.specs.Field.{tested}
 use Rattle.line.specs.Line.{read_answer}
 use Rattle.line.specs.Find.{find_answer}
 use Rattle.file.specs.File.{judged}
 use Rattle.writer.specs.Write.{record_numbered, between, written_to}
-use Rattle.writer.specs.declared.write.WriteAnswer.{WriteAnswer}
 use Rattle.purpose.specs.Purpose.{purpose_of, list_after, output_after}
-use Rattle.purpose.specs.declared.write.PurposeAnswer.{PurposeAnswer}
+use Rattle.std.specs.Prelude.{Result}
+use Rattle.refusal.specs.declared.Refusal.{Refusal}
 use Rattle.demands.specs.Demand1.{
   CheckNumberUnique,
   CheckNumbersUnique,
@@ -65,15 +63,15 @@ check_number_unique s = one_answer checked_number s
 
 pub check_numbers_unique : CheckNumbersUnique
 check_numbers_unique numbers answers a b x y p q =
-    let same : a ≡ b = p.0 ∙ sym q.0 in (same, p.1 ∙ ap (λ (r : DayAnswer). answers_after r numbers answers) same ∙ sym q.1)
+    let same : a ≡ b = p.0 ∙ sym q.0 in (same, p.1 ∙ ap (λ (r : Result ℕ Refusal). answers_after r numbers answers) same ∙ sym q.1)
 
 -- and what they write is equal
-one_output : (answer : ℕ → IssueAnswer) (body out : List ℕ) (check : ℕ) (a b : IssueAnswer) (x y : List ℕ) →
+one_output : (answer : ℕ → Result ℕ Refusal) (body out : List ℕ) (check : ℕ) (a b : Result ℕ Refusal) (x y : List ℕ) →
     (a ≡ answer (length out)) × (x ≡ issued_to a body check out) → (b ≡ answer (length out)) × (y ≡ issued_to b body check out) →
     (a ≡ b) × (x ≡ y)
 one_output answer body out check a b x y p q =
     let same = one_answer answer (length out) a b p.0 q.0 in
-    (same, p.1 ∙ ap (λ (r : IssueAnswer). issued_to r body check out) same ∙ sym q.1)
+    (same, p.1 ∙ ap (λ (r : Result ℕ Refusal). issued_to r body check out) same ∙ sym q.1)
 
 pub issue_number_unique : IssueNumberUnique
 issue_number_unique body out = one_output (issue_answer body) body out (check_of body)
@@ -120,14 +118,14 @@ clear_unique words = one_answer (λ (w : List ℕ). replicate (length w) 0) word
 pub write_line_unique : WriteLineUnique
 write_line_unique told number text ends out fill a b x y p q =
     let same : a ≡ b = p.0 ∙ sym q.0 in
-    (same, p.1 ∙ ap (λ (r : WriteAnswer). written_to r (record_numbered number) (between text ends) out fill) same ∙ sym q.1)
+    (same, p.1 ∙ ap (λ (r : Result ℕ Refusal). written_to r (record_numbered number) (between text ends) out fill) same ∙ sym q.1)
 
 pub write_purpose_unique : WritePurposeUnique
 write_purpose_unique s n lent out a b list list₂ x y p q =
     let same : a ≡ b = p.0 ∙ sym q.0 in (
       same,
-      p.1 ∙ ap (λ (r : PurposeAnswer). list_after r lent.words (judged s lent).starts) same ∙ sym q.1,
-      p.2 ∙ ap (λ (r : PurposeAnswer). output_after r (purpose_of s n lent) out) same ∙ sym q.2,
+      p.1 ∙ ap (λ (r : Result ℕ Refusal). list_after r lent.words (judged s lent).starts) same ∙ sym q.1,
+      p.2 ∙ ap (λ (r : Result ℕ Refusal). output_after r (purpose_of s n lent) out) same ∙ sym q.2,
     )
 
 pub judge_call_unique : JudgeCallUnique

@@ -1,4 +1,5 @@
 -- Proofs of the statements in specs/Demand2.
+use Rattle.refusal.specs.Table.{verdict_on}
 use Prim.Native.Nat.{ℕ}
 use mathlib.Core.Path.{refl, sym, ◌∙◌}
 use mathlib.Core.List.{List, [], ◌∷◌, ◌++◌}
@@ -6,12 +7,9 @@ use lib.ListN.{take}
 use Rattle.fields.specs.Profile.{profile}
 use Rattle.records.specs.declared.record.Record.{Record}
 use Rattle.records.specs.declared.record.Record.TheVariants.{Header, Sender, Shipment, Parcel, Product, Feature}
-use Rattle.line.specs.Line.{alone, line_answer, read_answer, line_verdict}
-use Rattle.line.specs.Find.{field_answer, find_answer, field_verdict}
-use Rattle.line.specs.declared.read.LineAnswer.TheVariants.{Accepted as AcceptedLine, Refused as NotRead}
-use Rattle.line.specs.declared.find.FieldAnswer.TheVariants.{Found, Refused as NotFound}
-use Rattle.writer.specs.Write.{answer_under, write_answer, write_verdict}
-use Rattle.writer.specs.declared.write.WriteAnswer.TheVariants.{Written, Refused as NotWritten}
+use Rattle.line.specs.Line.{alone, line_answer, read_answer}
+use Rattle.line.specs.Find.{field_answer, find_answer}
+use Rattle.writer.specs.Write.{answer_under, write_answer}
 use Rattle.refusal.proofs.Verdicts.{no_pass}
 use Rattle.grammar.specs.Written.{Writable}
 use Rattle.refused.proofs.Told.{told_exactly}
@@ -19,7 +17,6 @@ use Rattle.grammar.specs.Grammar.{LineOk, Reads, StandsInLine}
 use Rattle.allowed.specs.Allowed.{FileLine, LinesOk, version_on, codes_on, identcodes as identcodesOf}
 use Rattle.grammar.proofs.Lines as lines
 use Rattle.grammar.proofs.Finding as finding
-use Rattle.file.specs.declared.whole.FileAnswer.TheVariants.{Accepted as AcceptedFile}
 use Rattle.grammar.proofs.Back as writing
 use Rattle.allowed.proofs.Files.{one_division}
 use Rattle.refused.proofs.Deciding.{judge_exactly}
@@ -30,6 +27,7 @@ use Rattle.slips.proofs.Identcodes as identcodes
 use Rattle.slips.proofs.IdentcodeIssues as codes
 use Rattle.slips.proofs.Parts as parts
 use Rattle.refused.proofs.Parcels.{parcel_passes}
+use Rattle.std.specs.Prelude.{Ok, Err}
 use Rattle.demands.specs.Demand2.{
   FileExactly,
   OneDivisionIntoLines,
@@ -55,7 +53,7 @@ use Rattle.demands.specs.Demand2.{
 }
 
 pub file_exactly : FileExactly
-file_exactly s lent totals list = judge_exactly s lent (AcceptedFile totals) list
+file_exactly s lent totals list = judge_exactly s lent (Ok totals) list
 
 pub one_division_into_lines : OneDivisionIntoLines
 one_division_into_lines countries others s ls ks a b =
@@ -64,7 +62,7 @@ one_division_into_lines countries others s ls ks a b =
 pub line_exactly : LineExactly
 unfolding read_answer
 line_exactly told s at line =
-    told_exactly told NotRead (λ version. line_answer (alone (profile version)) s at) (AcceptedLine line) (no_pass line_verdict refl refl)
+    told_exactly told Err (λ version. line_answer (alone (profile version)) s at) (Ok line) (no_pass verdict_on refl refl)
     (λ version. (fs : List (List ℕ)) × Reads (alone (profile version)) s at line fs) (λ version. lines.line_exactly (alone (profile version)) s at line)
 
 pub field_exactly : FieldExactly
@@ -74,7 +72,7 @@ field_exactly told version e s at line fs n start long g = rw e (finding.field_e
 pub found_exactly : FoundExactly
 unfolding find_answer
 found_exactly told s at n start long =
-    told_exactly told NotFound (λ version. field_answer (profile version) s at n) (Found start long) (no_pass field_verdict refl refl)
+    told_exactly told Err (λ version. field_answer (profile version) s at n) (Ok (record { start = start; long = long })) (no_pass verdict_on refl refl)
     (λ version. StandsInLine (profile version) s at n start long) (λ version. finding.found_exactly (profile version) s at n start long)
 
 pub one_reading : OneReading
@@ -89,8 +87,8 @@ accepted_writes_again version s at line fs g = writing.writes_again g
 pub written_exactly : WrittenExactly
 unfolding write_answer
 written_exactly told number text ends size fill n =
-    told_exactly told NotWritten (λ version. answer_under (profile version) number text ends size fill) (Written n)
-    (no_pass write_verdict refl refl) (λ version. Writable (profile version) number text ends size fill n)
+    told_exactly told Err (λ version. answer_under (profile version) number text ends size fill) (Ok n)
+    (no_pass verdict_on refl refl) (λ version. Writable (profile version) number text ends size fill n)
     (λ version. writing.written_exactly (profile version) number text ends size fill n)
 
 pub number_exactly : NumberExactly

@@ -5,8 +5,6 @@ use mathlib.Core.List.{List}
 use Rattle.refusal.specs.declared.Refusal.{Refusal}
 use Rattle.line.specs.Find.{field_answer, find_answer}
 use Rattle.line.specs.declared.read.Line.{Line}
-use Rattle.line.specs.declared.read.LineAnswer.TheVariants.{Refused as NotRead}
-use Rattle.line.specs.declared.find.FieldAnswer.TheVariants.{Refused as NotFound}
 use Rattle.grammar.specs.Grammar.{Reads, StandsInLine}
 use Rattle.grammar.specs.Written.{Writable}
 use Rattle.refused.specs.Line.{RefusedAt, RefusedFind}
@@ -26,6 +24,8 @@ use Rattle.refused.proofs.Keys as keys
 use Rattle.refused.proofs.Identcodes as identcodes
 use Rattle.refused.proofs.Parcels as parcels
 use Rattle.refused.proofs.Either as either
+use Rattle.std.specs.Prelude.{Err, Result}
+use Rattle.line.specs.declared.find.Span.{Span}
 use Rattle.demands.specs.Refusals.{
   FileRefusedExactly,
   JudgeExactly,
@@ -86,19 +86,19 @@ allowed_begins = deciding.allowed_begins
 pub line_refused_exactly : LineRefusedExactly
 unfolding read_answer
 line_refused_exactly told s at refusal =
-    told_refused_exactly told (λ version. RefusedAt (alone (profile version)) s at) NotRead (λ version. line_answer (alone (profile version)) s at)
+    told_refused_exactly told (λ version. RefusedAt (alone (profile version)) s at) Err (λ version. line_answer (alone (profile version)) s at)
     (λ a b e. line_told e) (λ version. lines.line_refused_exactly (alone (profile version)) s at) refusal
   where
-    line_told : {a b : Refusal} → NotRead a ≡ NotRead b → a ≡ b
+    line_told : {a b : Refusal} → ◌≡◌ {A = Result Line Refusal} (Err a) (Err b) → a ≡ b
     line_told e = cc
 
 pub field_refused_exactly : FieldRefusedExactly
 unfolding find_answer
 field_refused_exactly told s at n refusal =
-    told_refused_exactly told (λ version. RefusedFind (profile version) s at n) NotFound (λ version. field_answer (profile version) s at n)
+    told_refused_exactly told (λ version. RefusedFind (profile version) s at n) Err (λ version. field_answer (profile version) s at n)
     (λ a b e. field_told e) (λ version. seeking.field_refused_exactly (profile version) s at n) refusal
   where
-    field_told : {a b : Refusal} → NotFound a ≡ NotFound b → a ≡ b
+    field_told : {a b : Refusal} → ◌≡◌ {A = Result Span Refusal} (Err a) (Err b) → a ≡ b
     field_told e = cc
 
 pub write_refused_exactly : WriteRefusedExactly

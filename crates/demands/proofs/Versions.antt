@@ -11,15 +11,14 @@ use Rattle.records.specs.Version.{version_numbered}
 use Rattle.records.specs.declared.version.Version.{Version}
 use Rattle.records.specs.declared.version.Version.TheVariants.{Five, Seven}
 use Rattle.records.proofs.Versions.{told_neither}
-use Rattle.records.specs.declared.version.VersionTold.TheVariants.{Either}
 use Rattle.records.specs.declared.record.Record.{Record}
 use Rattle.grammar.specs.Grammar.{LineOk}
-use Rattle.file.specs.declared.whole.FileAnswer.TheVariants.{Accepted as AcceptedFile}
 use Rattle.allowed.specs.Allowed.{AllowedUnder, version_on}
 use Rattle.allowed.proofs.Versions.{first_header, header_says, version_on_lem, under_one, version_found}
 use Rattle.allowed.proofs.Saying as saying
 use Rattle.refused.proofs.Deciding.{judge_exactly}
 use Rattle.refused.proofs.Told.{same_version, no_version}
+use Rattle.std.specs.Prelude.{Some, Ok}
 use Rattle.demands.specs.Versions.{
   VersionExactly,
   FileExactlyUnder,
@@ -36,9 +35,9 @@ version_exactly s = (saying.version_says s, saying.says_version s)
 pub file_exactly_under : FileExactlyUnder
 file_exactly_under version s lent totals list = (
   λ p.
-      let a = (judge_exactly s lent (AcceptedFile totals) list).0 p.0 in
+      let a = (judge_exactly s lent (Ok totals) list).0 p.0 in
       (a, subst (λ (v : Version). AllowedUnder v lent.countries s a.lines) (sym (version_found a.allowed) ∙ p.1) a.allowed),
-  λ g. ((judge_exactly s lent (AcceptedFile totals) list).1 g.0, under_one g.0.lines g.1),
+  λ g. ((judge_exactly s lent (Ok totals) list).1 g.0, under_one g.0.lines g.1),
 )
 
 pub one_version : OneVersion
@@ -62,11 +61,11 @@ pub first_reads_seven : FirstReadsSeven
 first_reads_seven = saying.first_reads_seven
 
 -- a number is 5, 7 or neither, and is told as that
-five : (told : ℕ) → told ≡ 5 → version_numbered told ≡ Either Five
+five : (told : ℕ) → told ≡ 5 → version_numbered told ≡ Some Five
 unfolding version_numbered
 five told e = rw e
 
-seven : (told : ℕ) → told ≡ 7 → version_numbered told ≡ Either Seven
+seven : (told : ℕ) → told ≡ 7 → version_numbered told ≡ Some Seven
 unfolding version_numbered
 seven told e = rw e
 

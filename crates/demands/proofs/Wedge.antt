@@ -1,17 +1,17 @@
 -- Proofs of the statements in specs/Wedge.
 use Prim.Native.Nat.{ℕ}
 use mathlib.Core.Path.{◌≡◌, refl, ap, ◌∙◌}
-use Rattle.refusal.specs.Table.{because, number_told, place_told}
+use Rattle.refusal.specs.Table.{because, number_told, place_told, verdict_on}
 use Rattle.refusal.specs.declared.Reason.TheVariants.{NotThere}
 use Rattle.check_characters.specs.Steps.{steps}
-use Rattle.check_characters.specs.Wedge.{next_carry, carry_verdict}
-use Rattle.check_characters.specs.declared.carry.CarryAnswer.{CarryAnswer}
-use Rattle.check_characters.specs.declared.carry.CarryAnswer.TheVariants.{Next, Refused}
+use Rattle.check_characters.specs.Wedge.{next_carry}
 use Rattle.check_characters.proofs.Entries.{entry_step}
 use Rattle.check_characters.proofs.Keying.{next_no_carry}
 use Rattle.slips.proofs.Typing as typing
 use Rattle.refused.proofs.Keys as keys
 use Rattle.peliranopi.specs.Told.{carry_told}
+use Rattle.std.specs.Prelude.{Result, Ok, Err}
+use Rattle.refusal.specs.declared.Refusal.{Refusal}
 use Rattle.demands.specs.Wedge.{
   EachEntry,
   KeyExactly,
@@ -42,15 +42,15 @@ pub accepted_leaves_two : AcceptedLeavesTwo
 accepted_leaves_two = typing.accepted_typed
 
 -- what is told as the next carry behind a refusal is 0
-none_told : (answer : CarryAnswer) (number : ℕ) → number ≡ number_told (carry_verdict answer) → (number ≡ 0 → ⊥) → carry_told answer ≡ 0
-none_told (Next carry) number e n = absurd (n e)
-none_told (Refused refusal) number e n = refl
+none_told : (answer : Result ℕ Refusal) (number : ℕ) → number ≡ number_told (verdict_on answer) → (number ≡ 0 → ⊥) → carry_told answer ≡ 0
+none_told (Ok carry) number e n = absurd (n e)
+none_told (Err refusal) number e n = refl
 
 pub overlooked_stays_refused : OverlookedStaysRefused
 overlooked_stays_refused start key number next place p n key₂ number₂ next₂ place₂ q =
     let none : next ≡ 0 = p.1 ∙ none_told (next_carry start key) number p.0.0 n in
-    let refused : next_carry next key₂ ≡ Refused (because NotThere 0) = ap (λ (c : ℕ). next_carry c key₂) none ∙ next_no_carry 0 key₂ refl in (
-      q.0.0 ∙ ap (λ (a : CarryAnswer). number_told (carry_verdict a)) refused,
+    let refused : next_carry next key₂ ≡ Err (because NotThere 0) = ap (λ (c : ℕ). next_carry c key₂) none ∙ next_no_carry 0 key₂ refl in (
+      q.0.0 ∙ ap (λ (a : Result ℕ Refusal). number_told (verdict_on a)) refused,
       q.1 ∙ ap carry_told refused,
-      q.0.1 ∙ ap (λ (a : CarryAnswer). place_told (carry_verdict a)) refused,
+      q.0.1 ∙ ap (λ (a : Result ℕ Refusal). place_told (verdict_on a)) refused,
     )

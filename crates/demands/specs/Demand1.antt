@@ -2,7 +2,7 @@
 -- it." That is what the checker shows of every function, and no entry point has a `requires`. "It refuses by the numbers in our
 -- table, at the first place the table's order gives, and what each buffer then holds is fixed": of each entry point, two outcomes
 -- that its contract allows are equal.
-use Rattle.std.specs.Prelude.{ℕ, ◌+◌, ◌≡◌, List, length, replicate}
+use Rattle.std.specs.Prelude.{ℕ, ◌+◌, ◌≡◌, List, length, replicate, ⊤, Result}
 use Rattle.text.specs.Placed.{placed}
 use Rattle.check_characters.specs.Answer.{room_for, issued_to}
 use Rattle.check_characters.specs.Number.{Issues, checked_number}
@@ -10,86 +10,81 @@ use Rattle.check_characters.specs.Day.{ChecksDay}
 use Rattle.check_characters.specs.Wedge.{next_carry}
 use Rattle.check_characters.specs.Iban.{checked_iban}
 use Rattle.check_digits.specs.Identcode.{checked_identcode, parts_answer, IssuesIdentcode}
-use Rattle.check_characters.specs.declared.carry.CarryAnswer.{CarryAnswer}
-use Rattle.check_characters.specs.declared.day.DayAnswer.{DayAnswer}
-use Rattle.check_characters.specs.declared.number.NumberAnswer.{NumberAnswer}
-use Rattle.check_characters.specs.declared.answer.IssueAnswer.{IssueAnswer}
-use Rattle.check_characters.specs.declared.answer.CheckAnswer.{CheckAnswer}
-use Rattle.check_digits.specs.declared.identcode.PartsAnswer.{PartsAnswer}
 use Rattle.identcodes.specs.Tree.{Finds}
 use Rattle.identcodes.specs.declared.CodeAnswer.{CodeAnswer}
 use Rattle.fields.specs.Profile.{profile}
 use Rattle.fields.specs.Field.{tested}
 use Rattle.records.specs.declared.version.Version.{Version}
 use Rattle.records.specs.declared.record.Record.{Record}
-use Rattle.fields.specs.declared.field.Tested.{Tested}
 use Rattle.line.specs.Line.{read_answer}
 use Rattle.line.specs.Find.{find_answer}
-use Rattle.line.specs.declared.read.LineAnswer.{LineAnswer}
-use Rattle.line.specs.declared.find.FieldAnswer.{FieldAnswer}
 use Rattle.file.specs.Lent.{Lent}
 use Rattle.file.specs.File.{Judges}
 use Rattle.writer.specs.Write.{Writes}
-use Rattle.writer.specs.declared.write.WriteAnswer.{WriteAnswer}
 use Rattle.purpose.specs.Purpose.{Purposes}
-use Rattle.purpose.specs.declared.write.PurposeAnswer.{PurposeAnswer}
-use Rattle.file.specs.declared.whole.FileAnswer.{FileAnswer}
 use Rattle.peliranopi.specs.Calls.{JudgeTells, LineTells, FieldTells, WriteTells, PurposeTells, NumberTells, IssueTells, IbanTells}
 use Rattle.peliranopi.specs.Calls.{DayTells, CarryTells, IdentcodeTells, PartsTells, IssueIdentcodeTells}
+use Rattle.check_characters.specs.declared.number.Kind.{Kind}
+use Rattle.check_digits.specs.declared.identcode.Parts.{Parts}
+use Rattle.line.specs.declared.read.Line.{Line}
+use Rattle.line.specs.declared.find.Span.{Span}
+use Rattle.file.specs.declared.whole.Totals.{Totals}
+use Rattle.refusal.specs.declared.Refusal.{Refusal}
+use Rattle.refusal.specs.declared.Reason.{Reason}
 
 -- A contract `answer ≡ definition of the inputs` leaves one answer. That is the contract of every public function but those that
 -- write into a buffer, which have relations of their own (`Issues`, `Judges` and so on).
 abbrev pub CheckNumberUnique : Type 0
 CheckNumberUnique =
-    (symbols : List ℕ) (a b : NumberAnswer) → a ≡ checked_number symbols → b ≡ checked_number symbols → a ≡ b
+    (symbols : List ℕ) (a b : Result Kind Refusal) → a ≡ checked_number symbols → b ≡ checked_number symbols → a ≡ b
 
 abbrev pub CheckNumbersUnique : Type 0
 CheckNumbersUnique =
-    (numbers answers : List ℕ) (a b : DayAnswer) (x y : List ℕ) → ChecksDay numbers answers a x → ChecksDay numbers answers b y →
+    (numbers answers : List ℕ) (a b : Result ℕ Refusal) (x y : List ℕ) → ChecksDay numbers answers a x → ChecksDay numbers answers b y →
     (a ≡ b) × (x ≡ y)
 
 abbrev pub IssueNumberUnique : Type 0
 IssueNumberUnique =
-    (body output : List ℕ) (a b : IssueAnswer) (x y : List ℕ) → Issues body output a x → Issues body output b y →
+    (body output : List ℕ) (a b : Result ℕ Refusal) (x y : List ℕ) → Issues body output a x → Issues body output b y →
     (a ≡ b) × (x ≡ y)
 
 abbrev pub NextCarryUnique : Type 0
 NextCarryUnique =
-    (carry key : ℕ) (a b : CarryAnswer) → a ≡ next_carry carry key → b ≡ next_carry carry key → a ≡ b
+    (carry key : ℕ) (a b : Result ℕ Refusal) → a ≡ next_carry carry key → b ≡ next_carry carry key → a ≡ b
 
 abbrev pub CheckIbanUnique : Type 0
 CheckIbanUnique =
-    (symbols : List ℕ) (a b : CheckAnswer) → a ≡ checked_iban symbols → b ≡ checked_iban symbols → a ≡ b
+    (symbols : List ℕ) (a b : Result ⊤ Refusal) → a ≡ checked_iban symbols → b ≡ checked_iban symbols → a ≡ b
 
 abbrev pub CheckIdentcodeUnique : Type 0
 CheckIdentcodeUnique =
-    (code : List ℕ) (a b : CheckAnswer) → a ≡ checked_identcode code → b ≡ checked_identcode code → a ≡ b
+    (code : List ℕ) (a b : Result ⊤ Refusal) → a ≡ checked_identcode code → b ≡ checked_identcode code → a ≡ b
 
 abbrev pub ReadIdentcodeUnique : Type 0
 ReadIdentcodeUnique =
-    (code : List ℕ) (a b : PartsAnswer) → a ≡ parts_answer code → b ≡ parts_answer code → a ≡ b
+    (code : List ℕ) (a b : Result Parts Refusal) → a ≡ parts_answer code → b ≡ parts_answer code → a ≡ b
 
 abbrev pub IssueIdentcodeUnique : Type 0
 IssueIdentcodeUnique =
-    (body output : List ℕ) (a b : IssueAnswer) (x y : List ℕ) → IssuesIdentcode body output a x → IssuesIdentcode body output b y →
+    (body output : List ℕ) (a b : Result ℕ Refusal) (x y : List ℕ) → IssuesIdentcode body output a x → IssuesIdentcode body output b y →
     (a ≡ b) × (x ≡ y)
 
 abbrev pub ReadLineUnique : Type 0
 ReadLineUnique =
-    (told : ℕ) (file : List ℕ) (offset : ℕ) (a b : LineAnswer) → a ≡ read_answer told file offset → b ≡ read_answer told file offset → a ≡ b
+    (told : ℕ) (file : List ℕ) (offset : ℕ) (a b : Result Line Refusal) → a ≡ read_answer told file offset → b ≡ read_answer told file offset → a ≡ b
 
 abbrev pub FindFieldUnique : Type 0
 FindFieldUnique =
-    (told : ℕ) (file : List ℕ) (offset n : ℕ) (a b : FieldAnswer) → a ≡ find_answer told file offset n → b ≡ find_answer told file offset n → a ≡ b
+    (told : ℕ) (file : List ℕ) (offset n : ℕ) (a b : Result Span Refusal) → a ≡ find_answer told file offset n → b ≡ find_answer told file offset n → a ≡ b
 
 abbrev pub TestFieldUnique : Type 0
 TestFieldUnique =
-    (version : Version) (kind : Record) (n : ℕ) (beside f : List ℕ) (a b : Tested) → a ≡ tested (profile version kind) n beside f →
+    (version : Version) (kind : Record) (n : ℕ) (beside f : List ℕ) (a b : Result ⊤ Reason) → a ≡ tested (profile version kind) n beside f →
     b ≡ tested (profile version kind) n beside f → a ≡ b
 
 abbrev pub JudgeUnique : Type 0
 JudgeUnique =
-    (file : List ℕ) (lent : Lent) (a b : FileAnswer) (x y : List ℕ) → Judges file lent a x → Judges file lent b y → (a ≡ b) × (x ≡ y)
+    (file : List ℕ) (lent : Lent) (a b : Result Totals Refusal) (x y : List ℕ) → Judges file lent a x → Judges file lent b y → (a ≡ b) × (x ≡ y)
 
 -- a run placed in an output
 abbrev pub PlaceUnique : Type 0
@@ -99,7 +94,7 @@ PlaceUnique =
 -- a number written with its check, whatever it is
 abbrev pub IssueUnique : Type 0
 IssueUnique =
-    (body : List ℕ) (check : ℕ) (output : List ℕ) (a b : IssueAnswer) (x y : List ℕ) →
+    (body : List ℕ) (check : ℕ) (output : List ℕ) (a b : Result ℕ Refusal) (x y : List ℕ) →
     (a ≡ room_for (length body + 1) (length output)) × (x ≡ issued_to a body check output) →
     (b ≡ room_for (length body + 1) (length output)) × (y ≡ issued_to b body check output) → (a ≡ b) × (x ≡ y)
 
@@ -116,12 +111,12 @@ ClearUnique =
 
 abbrev pub WriteLineUnique : Type 0
 WriteLineUnique =
-    (told number : ℕ) (text ends output : List ℕ) (fill : ℕ) (a b : WriteAnswer) (x y : List ℕ) →
+    (told number : ℕ) (text ends output : List ℕ) (fill : ℕ) (a b : Result ℕ Refusal) (x y : List ℕ) →
     Writes told number text ends output fill a x → Writes told number text ends output fill b y → (a ≡ b) × (x ≡ y)
 
 abbrev pub WritePurposeUnique : Type 0
 WritePurposeUnique =
-    (file : List ℕ) (n : ℕ) (lent : Lent) (output : List ℕ) (a b : PurposeAnswer) (list list₂ x y : List ℕ) →
+    (file : List ℕ) (n : ℕ) (lent : Lent) (output : List ℕ) (a b : Result ℕ Refusal) (list list₂ x y : List ℕ) →
     Purposes file n lent output a list x → Purposes file n lent output b list₂ y → (a ≡ b) × (list ≡ list₂) × (x ≡ y)
 
 -- The same calls for C and Rust (crate peliranopi): the number returned, each number behind a pointer, each lent buffer.

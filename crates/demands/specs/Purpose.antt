@@ -1,13 +1,12 @@
 -- Document 01, 'Payment purpose', over the file's own lines.
-use Rattle.std.specs.Prelude.{ℕ, ◌≤◌, ◌≡◌, List, length}
+use Rattle.std.specs.Prelude.{ℕ, ◌≤◌, ◌≡◌, List, length, Result, Ok}
 use Rattle.text.specs.Placed.{written}
 use Rattle.file.specs.Lent.{Lent}
 use Rattle.file.specs.File.{list_of}
 use Rattle.allowed.specs.Allowed.{FileLine, AllowedFile, line_starts}
 use Rattle.purpose.specs.Purpose.{purpose_long, cut, Purposes}
 use Rattle.allowed.specs.Sentence.{LineNo, CashLine, Belongs, named_text}
-use Rattle.purpose.specs.declared.write.PurposeAnswer.{PurposeAnswer}
-use Rattle.purpose.specs.declared.write.PurposeAnswer.TheVariants.{Written}
+use Rattle.refusal.specs.declared.Refusal.{Refusal}
 
 -- Every 006 line of an allowed file belongs to a shipment, the nearest 030 above it, and to that shipment's first parcel.
 abbrev pub PurposeHasShipment : Type 0
@@ -20,7 +19,7 @@ abbrev pub PurposeIsNamed : Type 0
 PurposeIsNamed =
     (lent : Lent) (file : List ℕ) (ls : List FileLine) → AllowedFile lent.countries file ls → (n : ℕ) (l : FileLine) → LineNo ls n l →
     CashLine l → length ls ≤ lent.words → (output : List ℕ) → purpose_long ≤ length output →
-    (answer : PurposeAnswer) (list after : List ℕ) → Purposes file n lent output answer list after →
+    (answer : Result ℕ Refusal) (list after : List ℕ) → Purposes file n lent output answer list after →
     (shipment : FileLine) × (parcel : FileLine) × Belongs ls n shipment parcel
-    × ((answer ≡ Written (length (cut (named_text l shipment parcel)))) × (list ≡ list_of lent.words (line_starts 0 ls))
+    × ((answer ≡ Ok (length (cut (named_text l shipment parcel)))) × (list ≡ list_of lent.words (line_starts 0 ls))
     × (after ≡ written output 0 (cut (named_text l shipment parcel))))

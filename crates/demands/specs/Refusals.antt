@@ -1,7 +1,7 @@
 -- Demand 1: "It refuses by the numbers in our table, at the first place the table's order gives". Document 01, 'Refusal numbers': "Each is
 -- given exactly then." Each call refuses, with this number and place, exactly when the input's own lines, fields and symbols say so; and
 -- what the lent buffers then hold.
-use Rattle.std.specs.Prelude.{ℕ, ◌+◌, ◌≤◌, ◌≡◌, true, List, [], ◌∷◌, ◌⊎◌, ◌↔◌, length, drop, replicate}
+use Rattle.std.specs.Prelude.{ℕ, ◌+◌, ◌≤◌, ◌≡◌, true, List, [], ◌∷◌, ◌⊎◌, ◌↔◌, length, drop, replicate, Result, Ok, Err}
 use Rattle.refusal.specs.Table.{because}
 use Rattle.refusal.specs.declared.Refusal.{Refusal}
 use Rattle.refusal.specs.declared.Reason.TheVariants.{FieldForm}
@@ -10,13 +10,7 @@ use Rattle.check_characters.specs.Day.{ChecksDay}
 use Rattle.check_characters.specs.Wedge.{next_carry}
 use Rattle.check_characters.specs.Iban.{checked_iban}
 use Rattle.check_digits.specs.Identcode.{checked_identcode, parts_answer, IssuesIdentcode}
-use Rattle.check_digits.specs.declared.identcode.PartsAnswer.TheVariants.{Refused as NotRead}
-use Rattle.check_characters.specs.declared.carry.CarryAnswer.TheVariants.{Refused as NoNext}
-use Rattle.check_characters.specs.declared.day.DayAnswer.TheVariants.{Refused as NotAnswered}
 use Rattle.check_characters.specs.declared.number.Kind.{Kind}
-use Rattle.check_characters.specs.declared.number.NumberAnswer.TheVariants.{Refused as RefusedAsNumber}
-use Rattle.check_characters.specs.declared.answer.IssueAnswer.TheVariants.{Refused as NotIssued}
-use Rattle.check_characters.specs.declared.answer.CheckAnswer.TheVariants.{Accepted as Passed, Refused as Failed}
 use Rattle.records.specs.Record.{may_end}
 use Rattle.fields.specs.Profile.{profile, width_in_table}
 use Rattle.records.specs.Version.{UnderVersion}
@@ -27,17 +21,11 @@ use Rattle.records.specs.declared.record.Record.TheVariants.{Parcel}
 use Rattle.line.specs.Line.{line_answer, alone, file_limit, read_answer}
 use Rattle.line.specs.Find.{find_answer}
 use Rattle.line.specs.declared.read.Line.{Line}
-use Rattle.line.specs.declared.read.LineAnswer.TheVariants.{Refused as RefusedAsLine}
-use Rattle.line.specs.declared.find.FieldAnswer.TheVariants.{Refused as NotFound}
 use Rattle.file.specs.Lent.{Lent}
 use Rattle.file.specs.Version.{version_of}
 use Rattle.file.specs.File.{Judges}
-use Rattle.file.specs.declared.whole.FileAnswer.{FileAnswer}
-use Rattle.file.specs.declared.whole.FileAnswer.TheVariants.{Refused as RefusedAsFile}
 use Rattle.writer.specs.Write.{Writes}
-use Rattle.writer.specs.declared.write.WriteAnswer.TheVariants.{Refused as NotWritten}
 use Rattle.purpose.specs.Purpose.{Purposes}
-use Rattle.purpose.specs.declared.write.PurposeAnswer.TheVariants.{Refused as NoPurpose}
 use Rattle.grammar.specs.Grammar.{Filled, Reads, StandsInLine}
 use Rattle.grammar.specs.Written.{Writable}
 use Rattle.allowed.specs.Allowed.{FileLine, file_bytes, AllowedFile}
@@ -51,6 +39,7 @@ use Rattle.refused.specs.Number.{RefusedNumber, RefusedIban, RefusedIssue}
 use Rattle.refused.specs.Day.{AnsweredDay, RefusedDay}
 use Rattle.refused.specs.Wedge.{RefusedKey}
 use Rattle.refused.specs.Identcode.{RefusedIdentcode, RefusedIdentcodeIssue}
+use Rattle.file.specs.declared.whole.Totals.{Totals}
 
 -- A file is refused exactly when it is too long; or the list of countries has an odd length; or it begins with lines that are allowed,
 -- and the next one is refused by its own rule, is a shipment into a listed country whose sender lacks a contact, repeats an identcode, or
@@ -58,12 +47,12 @@ use Rattle.refused.specs.Identcode.{RefusedIdentcode, RefusedIdentcodeIssue}
 abbrev pub FileRefusedExactly : Type 0
 FileRefusedExactly =
     (file : List ℕ) (lent : Lent) (refusal : Refusal) (list : List ℕ) →
-    Judges file lent (RefusedAsFile refusal) list ↔ (RefusedFile file lent refusal × (list ≡ replicate lent.words 0))
+    Judges file lent (Err refusal) list ↔ (RefusedFile file lent refusal × (list ≡ replicate lent.words 0))
 
 -- Accepted or refused, the judge's answer and the list mean what the paper says of the file's own lines, and no other answer does.
 abbrev pub JudgeExactly : Type 0
 JudgeExactly =
-    (file : List ℕ) (lent : Lent) (answer : FileAnswer) (list : List ℕ) →
+    (file : List ℕ) (lent : Lent) (answer : Result Totals Refusal) (list : List ℕ) →
     Judges file lent answer list ↔ Means file lent answer list
 
 -- Every file is allowed, with a word for each line, or refused;
@@ -94,72 +83,72 @@ AllowedBegins =
 -- One line at an offset: 22, then "1, 2, 3, 5 to 9"; 4 is the file's, where a record is due.
 abbrev pub LineRefusedExactly : Type 0
 LineRefusedExactly =
-    (told : ℕ) (file : List ℕ) (offset : ℕ) (refusal : Refusal) → (read_answer told file offset ≡ RefusedAsLine refusal) ↔
+    (told : ℕ) (file : List ℕ) (offset : ℕ) (refusal : Refusal) → (read_answer told file offset ≡ Err refusal) ↔
     RefusedTold told (λ version. RefusedAt (alone (profile version)) file offset) refusal
 
 -- One field of it: the line's refusals, then 15.
 abbrev pub FieldRefusedExactly : Type 0
 FieldRefusedExactly =
-    (told : ℕ) (file : List ℕ) (offset n : ℕ) (refusal : Refusal) → (find_answer told file offset n ≡ NotFound refusal) ↔
+    (told : ℕ) (file : List ℕ) (offset n : ℕ) (refusal : Refusal) → (find_answer told file offset n ≡ Err refusal) ↔
     RefusedTold told (λ version. RefusedFind (profile version) file offset n) refusal
 
 -- The writer; "a refusal changes none" of the output's bytes.
 abbrev pub WriteRefusedExactly : Type 0
 WriteRefusedExactly =
     (told number : ℕ) (text ends output : List ℕ) (fill : ℕ) (refusal : Refusal) (after : List ℕ) →
-    Writes told number text ends output fill (NotWritten refusal) after ↔
+    Writes told number text ends output fill (Err refusal) after ↔
     (RefusedTold told (λ version. RefusedWrite (profile version) number text ends (length output) fill) refusal × (after ≡ output))
 
 -- The payment purpose; "The output's other bytes stay, and all of them on a refusal; the list's words are all 0 after 15 or 13 too."
 abbrev pub PurposeRefusedExactly : Type 0
 PurposeRefusedExactly =
     (file : List ℕ) (n : ℕ) (lent : Lent) (output : List ℕ) (refusal : Refusal) (list after : List ℕ) →
-    Purposes file n lent output (NoPurpose refusal) list after ↔
+    Purposes file n lent output (Err refusal) list after ↔
     (RefusedPurpose file n lent (length output) refusal × (list ≡ replicate lent.words 0) × (after ≡ output))
 
 -- A tracking number or label code, an IBAN, and the body of a number to be issued: "a refusal writes nothing".
 abbrev pub NumberRefusedExactly : Type 0
 NumberRefusedExactly =
     (symbols : List ℕ) (refusal : Refusal) →
-    (checked_number symbols ≡ RefusedAsNumber refusal) ↔ RefusedNumber symbols refusal
+    (checked_number symbols ≡ Err refusal) ↔ RefusedNumber symbols refusal
 
 abbrev pub IbanRefusedExactly : Type 0
 IbanRefusedExactly =
     (symbols : List ℕ) (refusal : Refusal) →
-    (checked_iban symbols ≡ Failed refusal) ↔ RefusedIban symbols refusal
+    (checked_iban symbols ≡ Err refusal) ↔ RefusedIban symbols refusal
 
 abbrev pub IssueRefusedExactly : Type 0
 IssueRefusedExactly =
     (body output : List ℕ) (refusal : Refusal) (after : List ℕ) →
-    Issues body output (NotIssued refusal) after ↔ (RefusedIssue body (length output) refusal × (after ≡ output))
+    Issues body output (Err refusal) after ↔ (RefusedIssue body (length output) refusal × (after ≡ output))
 
 -- Document 02, request 4. The carry after one more key: 15, then 17.
 abbrev pub KeyRefusedExactly : Type 0
 KeyRefusedExactly =
     (carry key : ℕ) (refusal : Refusal) →
-    (next_carry carry key ≡ NoNext refusal) ↔ RefusedKey carry key refusal
+    (next_carry carry key ≡ Err refusal) ↔ RefusedKey carry key refusal
 
 -- Document 02, request 6. A day's numbers: 16, then 13; "either leaves the answers untouched".
 abbrev pub DayRefusedExactly : Type 0
 DayRefusedExactly =
     (numbers answers after : List ℕ) (refusal : Refusal) →
-    ChecksDay numbers answers (NotAnswered refusal) after ↔ (RefusedDay numbers (length answers) refusal × (after ≡ answers))
+    ChecksDay numbers answers (Err refusal) after ↔ (RefusedDay numbers (length answers) refusal × (after ≡ answers))
 
 -- Document 02, request 2. An identcode, its parts, and the 21 digits of one to be issued: "with nothing written".
 abbrev pub IdentcodeRefusedExactly : Type 0
 IdentcodeRefusedExactly =
     (code : List ℕ) (refusal : Refusal) →
-    (checked_identcode code ≡ Failed refusal) ↔ RefusedIdentcode code refusal
+    (checked_identcode code ≡ Err refusal) ↔ RefusedIdentcode code refusal
 
 abbrev pub PartsRefusedExactly : Type 0
 PartsRefusedExactly =
     (code : List ℕ) (refusal : Refusal) →
-    (parts_answer code ≡ NotRead refusal) ↔ RefusedIdentcode code refusal
+    (parts_answer code ≡ Err refusal) ↔ RefusedIdentcode code refusal
 
 abbrev pub IssueIdentcodeRefusedExactly : Type 0
 IssueIdentcodeRefusedExactly =
     (body output : List ℕ) (refusal : Refusal) (after : List ℕ) →
-    IssuesIdentcode body output (NotIssued refusal) after ↔ (RefusedIdentcodeIssue body (length output) refusal × (after ≡ output))
+    IssuesIdentcode body output (Err refusal) after ↔ (RefusedIdentcodeIssue body (length output) refusal × (after ≡ output))
 
 -- "a failing code in a file is 8", at the field: whatever record is due, a 040 line that may come and whose first field is no wider than
 -- the version lets it be, but does not pass, is refused there;
@@ -167,16 +156,16 @@ abbrev pub FailingCodeRefused : Type 0
 FailingCodeRefused =
     (version : Version) (due : Due) (file : List ℕ) (offset : ℕ) (code : List ℕ) (more : List (List ℕ)) → length file ≤ file_limit →
     offset ≤ length file → Counted (record { rules = profile version; due = due }) (drop offset file) Parcel (code ∷ more) →
-    Filled code → length code ≤ width_in_table (profile version Parcel) 1 → (checked_identcode code ≡ Passed → ⊥) →
-    line_answer (record { rules = profile version; due = due }) file offset ≡ RefusedAsLine (because FieldForm (offset + 4))
+    Filled code → length code ≤ width_in_table (profile version Parcel) 1 → (checked_identcode code ≡ Ok tt → ⊥) →
+    line_answer (record { rules = profile version; due = due }) file offset ≡ Err (because FieldForm (offset + 4))
 
 -- and so is the file that begins with allowed lines and then has such a line.
 abbrev pub FailingCodeRefusesFile : Type 0
 FailingCodeRefusesFile =
     (file : List ℕ) (lent : Lent) (ls : List FileLine) (left code : List ℕ) (more : List (List ℕ)) →
     Begins lent.countries file ls left → length ls ≤ lent.words → Counted (told_behind file ls) left Parcel (code ∷ more) →
-    Filled code → length code ≤ width_in_table (profile (version_of file) Parcel) 1 → (checked_identcode code ≡ Passed → ⊥) →
-    Judges file lent (RefusedAsFile (because FieldForm (length (file_bytes ls) + 4))) (replicate lent.words 0)
+    Filled code → length code ≤ width_in_table (profile (version_of file) Parcel) 1 → (checked_identcode code ≡ Ok tt → ⊥) →
+    Judges file lent (Err (because FieldForm (length (file_bytes ls) + 4))) (replicate lent.words 0)
 
 -- A line, a field, a writing, a number, an IBAN, an identcode, a key and a day's numbers pass or are refused, never both.
 abbrev pub LineAlwaysOne : Type 0

@@ -1,19 +1,16 @@
 -- Document 02, request 5, 'Version 7 files': what the version does that a header names or a line call is told.
-use Rattle.std.specs.Prelude.{ℕ, ◌≡◌, List, ◌∷◌, ◌↔◌}
+use Rattle.std.specs.Prelude.{ℕ, ◌≡◌, List, ◌∷◌, ◌↔◌, Some, None, Ok}
 use Rattle.records.specs.Version.{numeral, version_numbered}
 use Rattle.records.specs.declared.version.Version.{Version}
 use Rattle.records.specs.declared.version.Version.TheVariants.{Five, Seven}
-use Rattle.records.specs.declared.version.VersionTold.TheVariants.{Either, Neither}
 use Rattle.records.specs.declared.record.Record.TheVariants.{Header}
 use Rattle.line.specs.Parts.{field_no}
 use Rattle.line.specs.Line.{read_answer}
 use Rattle.line.specs.declared.read.Line.{Line}
-use Rattle.line.specs.declared.read.LineAnswer.TheVariants.{Accepted}
 use Rattle.file.specs.Lent.{Lent}
 use Rattle.file.specs.Version.{version_of}
 use Rattle.file.specs.File.{Judges}
 use Rattle.file.specs.declared.whole.Totals.{Totals}
-use Rattle.file.specs.declared.whole.FileAnswer.TheVariants.{Accepted as AcceptedFile}
 use Rattle.allowed.specs.Allowed.{FileLine, version_on, AllowedUnder, AllowedFile, Accepts}
 use Rattle.allowed.specs.Version.{SaysSeven}
 
@@ -27,7 +24,7 @@ VersionExactly = (file : List ℕ) → (version_of file ≡ Seven) ↔ SaysSeven
 abbrev pub FileExactlyUnder : Type 0
 FileExactlyUnder =
     (version : Version) (file : List ℕ) (lent : Lent) (totals : Totals) (list : List ℕ) →
-    (Judges file lent (AcceptedFile totals) list × (version_of file ≡ version)) ↔
+    (Judges file lent (Ok totals) list × (version_of file ≡ version)) ↔
     ((a : Accepts file lent totals list) × AllowedUnder version lent.countries file a.lines)
 
 -- One file has one version: the rules of no two allow it, with whichever countries and whatever lines.
@@ -53,10 +50,10 @@ HeaderHasVersion =
 abbrev pub FirstReadsSeven : Type 0
 FirstReadsSeven =
     (countries file : List ℕ) (ls : List FileLine) → AllowedFile countries file ls →
-    (version_on ls ≡ Seven) ↔ ((line : Line) × (read_answer 7 file 0 ≡ Accepted line))
+    (version_on ls ≡ Seven) ↔ ((line : Line) × (read_answer 7 file 0 ≡ Ok line))
 
 -- "Line calls are told the version": 5, 7, or neither.
 abbrev pub ToldExactly : Type 0
 ToldExactly =
-    (told : ℕ) → ((version_numbered told ≡ Either Five) ↔ (told ≡ 5)) × ((version_numbered told ≡ Either Seven) ↔ (told ≡ 7)) ×
-    ((version_numbered told ≡ Neither) ↔ ((told ≡ 5 → ⊥) × (told ≡ 7 → ⊥)))
+    (told : ℕ) → ((version_numbered told ≡ Some Five) ↔ (told ≡ 5)) × ((version_numbered told ≡ Some Seven) ↔ (told ≡ 7)) ×
+    ((version_numbered told ≡ None) ↔ ((told ≡ 5 → ⊥) × (told ≡ 7 → ⊥)))

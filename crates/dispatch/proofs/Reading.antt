@@ -1,7 +1,7 @@
 -- What was read of a file is enough to judge it: all of it, or more than a file may have.
 use Rattle.std.proofs.Common.{◌≡◌, ℕ, ◌<◌, ◌≤◌, List, [], ◌++◌, length, take, sym, ap, ◌∙◌, subst, ⊎_elim, arith, append-nil}
 use Rattle.std.proofs.Common.{length-append, length-take-le}
-use Rattle.std.specs.Prelude.{Option, None, Some, IfSome, Result, Ok, OnOk}
+use Rattle.std.specs.Prelude.{Option, None, Some, IfSome, Result, Ok, Err, OnOk}
 use Rattle.std.specs.Io.KnownBytes.{Appends, Consumes, IsAtEnd}
 use Rattle.std.proofs.lemmas.Result.{on_ok_weaker}
 use Rattle.std.specs.declared.io.Error.{Error}
@@ -10,12 +10,11 @@ use borrow.Author.Tests.{lt-ltb}
 use Rattle.text.proofs.Numbers.{le_or_lt}
 use Rattle.refusal.specs.Table.{because}
 use Rattle.refusal.specs.declared.Reason.TheVariants.{FileTooLong}
-use Rattle.file.specs.declared.whole.FileAnswer.TheVariants.{Refused}
 use Rattle.file.specs.File.{judged}
 use Rattle.dispatch.specs.Answer.{answer_to, line_of, lent}
 
 -- a file that is too long is refused, whatever it is
-too_long : (file : List ℕ) → 65535 < length file → judged file lent ≡ record { answer = Refused (because FileTooLong 65535); starts = [] }
+too_long : (file : List ℕ) → 65535 < length file → judged file lent ≡ record { answer = Err (because FileTooLong 65535); starts = [] }
 unfolding judged
 too_long file h = simp (lt-ltb 65535 (length file) h)
 

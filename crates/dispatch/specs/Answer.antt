@@ -1,10 +1,9 @@
 -- The line that answers a file.
-use Rattle.std.specs.Prelude.{ℕ, List, [], ◌∷◌, ◌++◌, codes}
+use Rattle.std.specs.Prelude.{ℕ, List, [], ◌∷◌, ◌++◌, codes, Result, Ok, Err}
 use Rattle.streams.specs.Lines.{numbers}
 use Rattle.refusal.specs.Table.{number_of}
 use Rattle.refusal.specs.declared.Refusal.{Refusal}
 use Rattle.file.specs.declared.whole.Totals.{Totals}
-use Rattle.file.specs.declared.whole.FileAnswer.{FileAnswer}
 use Rattle.file.specs.File.{judged}
 use Rattle.file.specs.Lent.{Lent}
 
@@ -16,9 +15,9 @@ ok_line totals = codes "ok" ++ numbers (totals.lines ∷ totals.parcels ∷ tota
 abbrev pub no_line : Refusal → List ℕ
 no_line refusal = codes "no" ++ numbers (number_of refusal.why ∷ refusal.place ∷ [])
 
-abbrev pub line_of : FileAnswer → List ℕ
-line_of (FileAnswer.Accepted totals) = ok_line totals
-line_of (FileAnswer.Refused refusal) = no_line refusal
+abbrev pub line_of : Result Totals Refusal → List ℕ
+line_of (Ok totals) = ok_line totals
+line_of (Err refusal) = no_line refusal
 
 -- what the program lends: 4,096 words, and no country
 abbrev pub lent : Lent

@@ -8,7 +8,7 @@ ghost use Rattle.std.specs.Io.KnownBytes.{Appends};
 ghost use Rattle.streams.specs.Counts.{IsPrefixLen};
 ghost use Rattle.dispatch.specs.Answer.{answer_to, ok_line, no_line};
 
-use file::{FileAnswer, Totals};
+use file::Totals;
 use refusal::Refusal;
 use std::io;
 use std::io::{Eprint, Read, Write};
@@ -45,8 +45,8 @@ fn answer(s: &[u8], line: &mut [u8; 72]) -> usize
     let mut list = [0u32; 4096];
     let answer = file::judge(s, b"", &mut list);
     match answer {
-        FileAnswer::Accepted(totals) => say_ok(totals, line),
-        FileAnswer::Refused(refusal) => say_no(refusal, line),
+        Ok(totals) => say_ok(totals, line),
+        Err(refusal) => say_no(refusal, line),
     }
 }
 

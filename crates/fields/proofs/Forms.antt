@@ -11,22 +11,22 @@ use Rattle.text.proofs.Choices.{and_both}
 use Rattle.text.proofs.Scans.{all_of}
 use Rattle.forms.specs.Shape.{all_digits, digits}
 use Rattle.check_digits.specs.Identcode.{checked_identcode}
-use Rattle.check_characters.specs.declared.answer.CheckAnswer.{CheckAnswer}
-use Rattle.check_characters.specs.declared.answer.CheckAnswer.TheVariants.{Accepted, Refused}
 use Rattle.check_digits.proofs.Identcodes.{code_digit, accepted_whole}
 use Rattle.fields.specs.Form.{accepted, is_identcode}
+use Rattle.std.specs.Prelude.{⊤, Result, Ok, Err}
+use Rattle.refusal.specs.declared.Refusal.{Refusal}
 
 -- a test of a check's answer is a test of the answer's definition
-pub check_told : (a definition : CheckAnswer) (t : Bool) → a ≡ definition → t ≡ accepted a → t ≡ accepted definition
+pub check_told : (a definition : Result ⊤ Refusal) (t : Bool) → a ≡ definition → t ≡ accepted a → t ≡ accepted definition
 check_told a definition t e q = q ∙ ap accepted e
 
-pub accepted_is : (a : CheckAnswer) → accepted a ≡ true → a ≡ Accepted
-accepted_is Accepted e = refl
-accepted_is (Refused refusal) e = absurd (false≢true e)
+pub accepted_is : (a : Result ⊤ Refusal) → accepted a ≡ true → a ≡ Ok tt
+accepted_is (Ok _) e = refl
+accepted_is (Err refusal) e = absurd (false≢true e)
 
-pub not_accepted : (a : CheckAnswer) → (a ≡ Accepted → ⊥) → accepted a ≡ false
-not_accepted Accepted n = absurd (n refl)
-not_accepted (Refused refusal) n = refl
+pub not_accepted : (a : Result ⊤ Refusal) → (a ≡ Ok tt → ⊥) → accepted a ≡ false
+not_accepted (Ok _) n = absurd (n refl)
+not_accepted (Err refusal) n = refl
 
 pub identcode_digits : (f : List ℕ) → is_identcode f ≡ true → digits 22 f ≡ true
 unfolding digits all_digits

@@ -1,12 +1,11 @@
 -- Document 01, 'The file': the form of each filled field. "Forms apply to filled fields."
-use Rattle.std.specs.Prelude.{ℕ, Bool, true, false, ◌||◌, List, if◌then◌else◌}
+use Rattle.std.specs.Prelude.{ℕ, Bool, true, false, ◌||◌, List, if◌then◌else◌, ⊤, Result, Ok, Err}
 use Rattle.text.specs.Quoted.{bytes}
 use Rattle.text.specs.Scan.{same}
 use Rattle.forms.specs.Shape.{digits, purpose_text}
 use Rattle.check_characters.specs.Iban.{checked_iban}
 use Rattle.check_digits.specs.Identcode.{checked_identcode}
-use Rattle.check_characters.specs.declared.answer.CheckAnswer.{CheckAnswer}
-use Rattle.check_characters.specs.declared.answer.CheckAnswer.TheVariants.{Accepted, Refused}
+use Rattle.refusal.specs.declared.Refusal.{Refusal}
 
 -- a form is a test of a field and of the field in front of it, which is "the country or feature code beside it where the rule
 -- names one"
@@ -30,9 +29,9 @@ abbrev pub reference : Form
 reference code f = if is_cash code then purpose_text f else true
 
 -- "In a file all these are 8."
-abbrev pub accepted : CheckAnswer → Bool
-accepted Accepted = true
-accepted (Refused refusal) = false
+abbrev pub accepted : Result ⊤ Refusal → Bool
+accepted (Ok _) = true
+accepted (Err refusal) = false
 
 abbrev pub is_iban : List ℕ → Bool
 is_iban f = accepted (checked_iban f)

@@ -8,12 +8,6 @@ use crate::{form, table};
 use records::{Record, Version};
 use refusal::Reason;
 
-#[derive(Clone, Copy)]
-pub enum Tested {
-    Good,
-    Bad(Reason),
-}
-
 // Tests the field with this number; beside it stands the field in front of it.
 pub fn test_field(
     version: Version,
@@ -21,23 +15,23 @@ pub fn test_field(
     number: usize,
     beside: &[u8],
     field: &[u8],
-) -> Tested
+) -> Result<(), Reason>
     ensures { result ≡ tested (profile version kind) number beside.now field.now }
 {
     // No empty field is too long, and most fields are empty: so this is asked first.
     if field.len() == 0 {
         if table::is_required(version, kind, number) {
-            return Tested::Bad(Reason::FieldEmpty);
+            return Err(Reason::FieldEmpty);
         }
-        return Tested::Good;
+        return Ok(());
     }
     if width_of(version, kind, number, beside) < field.len() {
-        return Tested::Bad(Reason::FieldTooLong);
+        return Err(Reason::FieldTooLong);
     }
     if form::has_form(version, kind, number, beside, field) {
-        return Tested::Good;
+        return Ok(());
     }
-    Tested::Bad(Reason::FieldForm)
+    Err(Reason::FieldForm)
 }
 
 // How wide the field may be.

@@ -4,8 +4,8 @@ ghost use Rattle.fields.specs.Form.{post_code, is_cash, reference, accepted, is_
 ghost use Rattle.fields.specs.Profile.{profile, has_form};
 ghost use Rattle.records.specs.declared.version.Version.{Version};
 
-use check_characters::CheckAnswer;
 use records::{Record, Version};
+use refusal::Refusal;
 
 // Whether a filled field has its form.
 pub fn has_form(version: Version, kind: Record, number: usize, beside: &[u8], field: &[u8]) -> bool
@@ -129,11 +129,11 @@ fn is_identcode(field: &[u8]) -> bool
 }
 
 // Whether a check passed.
-fn is_accepted(answer: CheckAnswer) -> bool
+fn is_accepted(answer: Result<(), Refusal>) -> bool
     ensures { result ≡ accepted answer }
 {
     match answer {
-        CheckAnswer::Accepted => true,
-        CheckAnswer::Refused(_) => false,
+        Ok(()) => true,
+        Err(_) => false,
     }
 }

@@ -5,5 +5,5 @@ mod field;
 mod form;
 mod table;
 
-pub use field::{Tested, test_field};
+pub use field::test_field;
 pub use form::is_cash;

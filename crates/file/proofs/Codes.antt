@@ -22,14 +22,13 @@ use Rattle.line.specs.Render.{joined, text_of, render}
 use Rattle.line.specs.Walk.{behind, walk}
 use Rattle.line.specs.Line.{text_at, line_answer}
 use Rattle.line.specs.Told.{Told}
-use Rattle.line.specs.declared.walk.Walk.TheVariants.{Fine}
 use Rattle.line.specs.declared.read.Line.{Line}
-use Rattle.line.specs.declared.read.LineAnswer.{LineAnswer}
-use Rattle.line.specs.declared.read.LineAnswer.TheVariants.{Accepted}
 use Rattle.line.proofs.Passing.{fine_each}
 use Rattle.line.proofs.Ends.{ended}
 use Rattle.line.proofs.Accepting.{TextOk, LineAt, lies, text_written, line_stands}
 use Rattle.file.specs.Step.{parcels_in}
+use Rattle.std.specs.Prelude.{Result, Ok}
+use Rattle.refusal.specs.declared.Refusal.{Refusal}
 
 -- what stands at a place where a line is rendered
 pub type_there : (s : List ℕ) (at : ℕ) (kind : Record) (fs : List (List ℕ)) (rest : List ℕ) → drop at s ≡ render kind fs ++ rest →
@@ -62,7 +61,7 @@ parcel_coded told at text line w g k =
     (ap (λ (r : Record). walk (told.rules r) 1 (at + length (name_of text) + 1) (name_of text) (fields_of text)) (sym k) ∙ g.walks)
   where
     go : (fs : List (List ℕ)) → fields_of text ≡ fs → count_fits Parcel (length fs) ≡ true →
-        walk (told.rules Parcel) 1 (at + length (name_of text) + 1) (name_of text) fs ≡ Fine → Coded (fields_of text)
+        walk (told.rules Parcel) 1 (at + length (name_of text) + 1) (name_of text) fs ≡ Ok tt → Coded (fields_of text)
     go [] e c f = absurd (false≢true c)
     go (code ∷ more) e c f =
         let good = (fine_each (tested (told.rules Parcel)) behind 1 (at + length (name_of text) + 1) (name_of text) (code ∷ more) f).0 in
@@ -70,7 +69,7 @@ parcel_coded told at text line w g k =
         record { code = code; more = more; are = e; holds = w.digital (name_of text) code (passed.formed (passed.filled w.coded)) }
 
 -- what an accepted line tells of its identcode
-module _ (told : Told) (s : List ℕ) (at : ℕ) (a : LineAnswer) (ea : a ≡ line_answer told s at) (line : Line) (el : a ≡ Accepted line) where
+module _ (told : Told) (s : List ℕ) (at : ℕ) (a : Result Line Refusal) (ea : a ≡ line_answer told s at) (line : Line) (el : a ≡ Ok line) where
   here : LineAt told s at line
   here = lies told s at a ea line el
 

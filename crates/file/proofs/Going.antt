@@ -23,16 +23,14 @@ use Rattle.file.specs.Step.{told_by, parcels_in, behind, listed_so_far, step_ans
 use Rattle.file.specs.File.{Judged, begin, passed, ended, on_step, file_from, judged, list_of, Judges}
 use Rattle.records.specs.declared.version.Version.{Version}
 use Rattle.file.specs.declared.step.State.{State}
-use Rattle.file.specs.declared.step.Step.{Step}
-use Rattle.file.specs.declared.step.Step.TheVariants.{Next, Stopped}
-use Rattle.file.specs.declared.whole.FileAnswer.{FileAnswer}
-use Rattle.file.specs.declared.whole.FileAnswer.TheVariants.{Accepted, Refused}
 use Rattle.file.specs.Identcode.{parcels_most, tree_words, Sown}
 use Rattle.file.proofs.Cashing.{cash_below}
 use Rattle.file.proofs.Codes.{accepted_far}
 use Rattle.file.proofs.Sowing.{sown_none}
 use Rattle.file.proofs.Stepping.{Went, went}
 use Rattle.file.proofs.Lists.{word_left, listed_none, listed_more, unlisted_more, list_whole}
+use Rattle.std.specs.Prelude.{Result, Ok, Err}
+use Rattle.file.specs.declared.whole.Totals.{Totals}
 
 pub record Going (s : List ℕ) (lent : Lent) (words codes : List ℕ) (state : State) : Type 0 where
   pub in_limit : length s ≤ file_limit
@@ -84,7 +82,7 @@ parcels_le Product = omega arith
 parcels_le Feature = omega arith
 
 -- a file of which this is said lists no line: all words are 0
-all_clear : (s : List ℕ) (lent : Lent) (a : FileAnswer) → judged s lent ≡ record { answer = a; starts = [] } → (words list : List ℕ) →
+all_clear : (s : List ℕ) (lent : Lent) (a : Result Totals Refusal) → judged s lent ≡ record { answer = a; starts = [] } → (words list : List ℕ) →
     length words ≡ lent.words → list ≡ replicate (length words) 0 → Judges s lent a list
 all_clear s lent a e words list long el =
     let k : length words ≡ lent.words - 0 = omega arith in (
@@ -93,14 +91,14 @@ all_clear s lent a e words list long el =
     )
 
 pub long_judged : (s : List ℕ) (lent : Lent) → file_limit < length s → (words list : List ℕ) → length words ≡ lent.words →
-    list ≡ replicate (length words) 0 → Judges s lent (Refused (because FileTooLong file_limit)) list
+    list ≡ replicate (length words) 0 → Judges s lent (Err (because FileTooLong file_limit)) list
 unfolding judged
-long_judged s lent h = all_clear s lent (Refused (because FileTooLong file_limit)) (rw (lt-ltb file_limit (length s) h))
+long_judged s lent h = all_clear s lent (Err (because FileTooLong file_limit)) (rw (lt-ltb file_limit (length s) h))
 
 pub odd_judged : (s : List ℕ) (lent : Lent) → length s ≤ file_limit → (t : Bool) → t ≡ is_paired lent.countries → not t ≡ true →
-    (words list : List ℕ) → length words ≡ lent.words → list ≡ replicate (length words) 0 → Judges s lent (Refused (because CountriesOdd 0)) list
+    (words list : List ℕ) → length words ≡ lent.words → list ≡ replicate (length words) 0 → Judges s lent (Err (because CountriesOdd 0)) list
 unfolding judged
-odd_judged s lent h t et e = all_clear s lent (Refused (because CountriesOdd 0)) (rw (le-ltb file_limit (length s) h, ← et, not-true t e))
+odd_judged s lent h t et e = all_clear s lent (Err (because CountriesOdd 0)) (rw (le-ltb file_limit (length s) h, ← et, not-true t e))
 
 pub even_told : (countries : List ℕ) (t : Bool) → t ≡ is_paired countries → not t ≡ false → is_paired countries ≡ true
 even_told countries t et e = sym et ∙ not-false t e
@@ -117,24 +115,24 @@ module _ (s : List ℕ) (lent : Lent) (words codes : List ℕ) (state : State) (
       let k : length s + 1 - state.lines ≡ suc (length s - state.lines) = omega (arith, g.lines) in
       sym (ap (λ (n : ℕ). file_from n s lent (listed_so_far state.lines words) state) k ∙ rw (lt-ltb state.at (length s) h)) ∙ g.going
 
-  module _ (step : Step) (h : state.at < length s)
+  module _ (step : Result State Refusal) (h : state.at < length s)
       (el : step ≡ step_answer s (record { countries = lent.countries; words = length words }) (listed_so_far state.lines words) state) where
     es : step ≡ step_answer s lent (listed_so_far state.lines words) state
     es = el ∙ ap (λ (n : ℕ). step_answer s (record { countries = lent.countries; words = n }) (listed_so_far state.lines words) state) g.long
 
     -- a step that goes on has a word for its line, and comes nearer to the end
-    over : (next : State) → step ≡ Next next → Went s lent (listed_so_far state.lines words) state next
+    over : (next : State) → step ≡ Ok next → Went s lent (listed_so_far state.lines words) state next
     over next e = went s lent (listed_so_far state.lines words) state next (sym es ∙ e)
 
-    pub less_left : (next : State) → step ≡ Next next → length s - next.at < length s - state.at
+    pub less_left : (next : State) → step ≡ Ok next → length s - next.at < length s - state.at
     less_left next e =
         let w = over next e in
         let after = next_after (told_by state) s state.at (line_answer (told_by state) s state.at) refl w.line w.accepted in
         omega (arith, after, ap (λ (n : State). n.at) w.there)
 
-    pub going_more : (next : State) → step ≡ Next next → (list after : List ℕ) →
-        ((n : State) → step ≡ Next n → Sown s (listed_so_far state.lines words ++ (state.at ∷ [])) n.parcels after) →
-        ((n : State) → step ≡ Next n → list ≡ set words state.lines state.at) → Going s lent list after next
+    pub going_more : (next : State) → step ≡ Ok next → (list after : List ℕ) →
+        ((n : State) → step ≡ Ok n → Sown s (listed_so_far state.lines words ++ (state.at ∷ [])) n.parcels after) →
+        ((n : State) → step ≡ Ok n → list ≡ set words state.lines state.at) → Going s lent list after next
     going_more next e list after sown listed =
         let w = over next e in
         let line = w.line in
@@ -155,7 +153,7 @@ module _ (s : List ℕ) (lent : Lent) (words codes : List ℕ) (state : State) (
           cents = omega (arith, g.cents, cash_below line.kind (split (text_at s state.at)));
           cleared = unlisted_more words state.lines lent.words state.at g.long w.room g.cleared;
           far = omega (arith, g.far, far);
-          sown = rw more-listed (sown now (e ∙ ap Next (sym w.there)));
+          sown = rw more-listed (sown now (e ∙ ap Ok (sym w.there)));
           going = ap (λ (n : ℕ). file_from n s lent (listed_so_far (state.lines + 1) (set words state.lines state.at)) now) fewer
               ∙ ap (λ (l : List ℕ). file_from (length s - state.lines) s lent l now)
               more-listed
@@ -164,9 +162,9 @@ module _ (s : List ℕ) (lent : Lent) (words codes : List ℕ) (state : State) (
         rw (listed next e) (rw w.there at more)
 
     -- what the code answers and leaves where a line stops it
-    pub stop_judged : (refusal : Refusal) → step ≡ Stopped refusal → (left list : List ℕ) → length left ≡ length words →
-        list ≡ replicate (length left) 0 → Judges s lent (Refused refusal) list
-    stop_judged refusal e left list kept el = all_clear s lent (Refused refusal) (sym (rw (sym es ∙ e) at (turn h))) left list (kept ∙ g.long) el
+    pub stop_judged : (refusal : Refusal) → step ≡ Err refusal → (left list : List ℕ) → length left ≡ length words →
+        list ≡ replicate (length left) 0 → Judges s lent (Err refusal) list
+    stop_judged refusal e left list kept el = all_clear s lent (Err refusal) (sym (rw (sym es ∙ e) at (turn h))) left list (kept ∙ g.long) el
 
   module _ (h : length s ≤ state.at) where
     file_ends : (turns : ℕ) → file_from turns s lent (listed_so_far state.lines words) state ≡ ended s (listed_so_far state.lines words) state
@@ -177,11 +175,11 @@ module _ (s : List ℕ) (lent : Lent) (words codes : List ℕ) (state : State) (
     at_end = sym g.going ∙ file_ends (length s + 1 - state.lines)
 
     module _ (t : Bool) (et : t ≡ may_end state.due) where
-      pub due_judged : not t ≡ true → (list : List ℕ) → list ≡ replicate (length words) 0 → Judges s lent (Refused (because FileEnds (length s))) list
-      due_judged e list el = all_clear s lent (Refused (because FileEnds (length s))) (at_end ∙ rw (← et, not-true t e)) words list g.long el
+      pub due_judged : not t ≡ true → (list : List ℕ) → list ≡ replicate (length words) 0 → Judges s lent (Err (because FileEnds (length s))) list
+      due_judged e list el = all_clear s lent (Err (because FileEnds (length s))) (at_end ∙ rw (← et, not-true t e)) words list g.long el
 
       pub end_judged : not t ≡ false →
-          Judges s lent (Accepted (record { lines = state.lines; parcels = state.parcels; cents = state.cents })) words
+          Judges s lent (Ok (record { lines = state.lines; parcels = state.parcels; cents = state.cents })) words
       end_judged e =
           let all_read : judged s lent ≡ passed (listed_so_far state.lines words) state = at_end ∙ rw (← et, not-false t e) in (
             sym (ap (λ (j : Judged). j.answer) all_read),
@@ -190,7 +188,7 @@ module _ (s : List ℕ) (lent : Lent) (words codes : List ℕ) (state : State) (
           )
 
 -- the list's length is what it was
-pub same_judged : (s countries : List ℕ) (m n : ℕ) → m ≡ n → (r : FileAnswer) (list : List ℕ) →
+pub same_judged : (s countries : List ℕ) (m n : ℕ) → m ≡ n → (r : Result Totals Refusal) (list : List ℕ) →
     Judges s (record { countries = countries; words = m }) r list → Judges s (record { countries = countries; words = n }) r list
 same_judged s countries m n e r list j = rw e at j
 

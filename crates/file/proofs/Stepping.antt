@@ -6,7 +6,7 @@ use mathlib.Core.List.{List, [], ◌∷◌, ◌++◌}
 use native.Mathlib.Omega.{arith}
 use lib.ListN.{length, take, drop}
 use borrow.Author.Tests.{not-false}
-use Rattle.std.specs.Prelude.{if◌then◌else◌}
+use Rattle.std.specs.Prelude.{if◌then◌else◌, Result, Ok, Err}
 use Rattle.text.proofs.Choices.{came_else}
 use Rattle.refusal.specs.declared.Reason.TheVariants.{ContactMissing, IdentcodeRepeated, ListFull}
 use Rattle.refusal.specs.Table.{because}
@@ -20,8 +20,6 @@ use Rattle.line.specs.Parts.{split}
 use Rattle.line.specs.Line.{text_at, file_limit, line_answer}
 use Rattle.line.specs.Told.{Told}
 use Rattle.line.specs.declared.read.Line.{Line}
-use Rattle.line.specs.declared.read.LineAnswer.{LineAnswer}
-use Rattle.line.specs.declared.read.LineAnswer.TheVariants.{Accepted, Refused}
 use Rattle.line.proofs.Accepting.{text_starts, text_inside, next_least, text_is}
 use Rattle.file.proofs.Codes.{accepted_type, accepted_code}
 use Rattle.file.proofs.Lists.{word_left}
@@ -33,36 +31,34 @@ use Rattle.file.specs.Cash.{cash_of}
 use Rattle.fields.proofs.Rules.{sound}
 use Rattle.file.specs.Step.{told_by, parcels_in, behind, has_word, listing, on_line, step_answer}
 use Rattle.file.specs.declared.step.State.{State}
-use Rattle.file.specs.declared.step.Step.{Step}
-use Rattle.file.specs.declared.step.Step.TheVariants.{Next, Stopped}
 
-module _ (s : List ℕ) (lent : Lent) (starts : List ℕ) (state : State) (a : LineAnswer) (ea : a ≡ line_answer (told_by state) s state.at) where
-  stepped : (r : Step) → r ≡ on_line a s lent starts state → r ≡ step_answer s lent starts state
+module _ (s : List ℕ) (lent : Lent) (starts : List ℕ) (state : State) (a : Result Line Refusal) (ea : a ≡ line_answer (told_by state) s state.at) where
+  stepped : (r : Result State Refusal) → r ≡ on_line a s lent starts state → r ≡ step_answer s lent starts state
   unfolding step_answer
-  stepped r e = e ∙ ap (λ (x : LineAnswer). on_line x s lent starts state) ea
+  stepped r e = e ∙ ap (λ (x : Result Line Refusal). on_line x s lent starts state) ea
 
-  pub line_stops : (refusal : Refusal) → a ≡ Refused refusal → Stopped refusal ≡ step_answer s lent starts state
+  pub line_stops : (refusal : Refusal) → a ≡ Err refusal → Err refusal ≡ step_answer s lent starts state
   unfolding on_line
-  line_stops refusal e = stepped (Stopped refusal) (rw e)
+  line_stops refusal e = stepped (Err refusal) (rw e)
 
   -- the text of the line, as the code cuts it out, is the line's own
-  module _ (line : Line) (el : a ≡ Accepted line) (v : Bool)
+  module _ (line : Line) (el : a ≡ Ok line) (v : Bool)
       (ev : v ≡ lacks_contact line.kind (split (take (line.next - 2 - state.at) (drop state.at s))) lent.countries state.contacts) where
     lacks : v ≡ lacks_contact line.kind (split (text_at s state.at)) lent.countries state.contacts
     lacks =
         ev ∙ ap (λ (x : List ℕ). lacks_contact line.kind (split x) lent.countries state.contacts)
         (text_is (told_by state) s state.at a ea line el)
 
-    pub contact_stops : v ≡ true → Stopped (because ContactMissing state.at) ≡ step_answer s lent starts state
+    pub contact_stops : v ≡ true → Err (because ContactMissing state.at) ≡ step_answer s lent starts state
     unfolding on_line
-    contact_stops e = stepped (Stopped (because ContactMissing state.at)) (rw (el, ← lacks, e))
+    contact_stops e = stepped (Err (because ContactMissing state.at)) (rw (el, ← lacks, e))
 
-    pub line_listed : v ≡ false → (r : Step) → r ≡ listing s lent.words starts state line → r ≡ step_answer s lent starts state
+    pub line_listed : v ≡ false → (r : Result State Refusal) → r ≡ listing s lent.words starts state line → r ≡ step_answer s lent starts state
     unfolding on_line
     line_listed e r er = stepped r (er ∙ rw (el, ← lacks, e))
 
 -- an accepted line on its way into the list
-module _ (s : List ℕ) (words : ℕ) (starts : List ℕ) (state : State) (line : Line) (el : line_answer (told_by state) s state.at ≡ Accepted line)
+module _ (s : List ℕ) (words : ℕ) (starts : List ℕ) (state : State) (line : Line) (el : line_answer (told_by state) s state.at ≡ Ok line)
     (codes : List ℕ) (g : Sown s starts state.parcels codes) (t : Bool)
     (et : t ≡ is_there_for line.kind s codes state.parcels state.at) where
   code_holds : line.kind ≡ Parcel → digits 22 (identcode_at s state.at) ≡ true
@@ -71,24 +67,24 @@ module _ (s : List ℕ) (words : ℕ) (starts : List ℕ) (state : State) (line 
   repeated : t ≡ repeats line.kind s starts state.at
   repeated = et ∙ sown_tells s starts state.parcels codes g state.at line.kind code_holds
 
-  pub code_stops : t ≡ true → Stopped (because IdentcodeRepeated (state.at + 4)) ≡ listing s words starts state line
+  pub code_stops : t ≡ true → Err (because IdentcodeRepeated (state.at + 4)) ≡ listing s words starts state line
   unfolding listing
   code_stops e = rw (← repeated, e)
 
   module _ (fresh : t ≡ false) where
     module _ (u : Bool) (eu : u ≡ has_word words state.lines) where
-      pub list_stops : not u ≡ true → Stopped (because ListFull state.at) ≡ listing s words starts state line
+      pub list_stops : not u ≡ true → Err (because ListFull state.at) ≡ listing s words starts state line
       unfolding listing
       list_stops h = rw (← repeated, fresh, ← eu, h)
 
-      pub line_next : not u ≡ false → (next : State) → next ≡ behind s state line → Next next ≡ listing s words starts state line
+      pub line_next : not u ≡ false → (next : State) → next ≡ behind s state line → Ok next ≡ listing s words starts state line
       unfolding listing
       line_next h next en = rw (← repeated, fresh, ← eu, h, en)
 
     -- the tree behind the line
     pub line_sown : tree_words ≤ length codes → state.parcels ≤ parcels_most → state.at ≤ file_limit → (after : List ℕ) →
         after ≡ grown_for line.kind s codes state.parcels state.at →
-        (now : State) → now ≡ behind s state line → (next : State) → Next now ≡ Next next →
+        (now : State) → now ≡ behind s state line → (next : State) → ◌≡◌ {A = Result State Refusal} (Ok now) (Ok next) →
         Sown s (starts ++ (state.at ∷ [])) next.parcels after
     line_sown long few in_limit after ef now en next e =
         let q : now ≡ next = cc in
@@ -99,8 +95,8 @@ pub word_there : (words lines : ℕ) (u : Bool) → u ≡ has_word words lines �
 word_there words lines u eu h = word_left words lines (sym eu ∙ not-false u h)
 
 -- the state behind an accepted line, as the code works it out
-module _ (s : List ℕ) (state : State) (line : Line) (el : line_answer (told_by state) s state.at ≡ Accepted line) where
-  abbrev answer : LineAnswer
+module _ (s : List ℕ) (state : State) (line : Line) (el : line_answer (told_by state) s state.at ≡ Ok line) where
+  abbrev answer : Result Line Refusal
   answer = line_answer (told_by state) s state.at
 
   pub behind_starts : state.at ≤ line.next - 2
@@ -134,32 +130,32 @@ module _ (s : List ℕ) (state : State) (line : Line) (el : line_answer (told_by
 -- a step that goes on went over an accepted line, with a word for it
 pub record Went (s : List ℕ) (lent : Lent) (starts : List ℕ) (state next : State) : Type 0 where
   pub line : Line
-  pub accepted : line_answer (told_by state) s state.at ≡ Accepted line
+  pub accepted : line_answer (told_by state) s state.at ≡ Ok line
   pub reached : lacks_contact line.kind (split (text_at s state.at)) lent.countries state.contacts ≡ false
   pub fresh : repeats line.kind s starts state.at ≡ false
   pub room : has_word lent.words state.lines ≡ true
   pub there : behind s state line ≡ next
 
-pub stopped : {refusal : Refusal} {next : State} → Stopped refusal ≡ Next next → ⊥
+pub stopped : {refusal : Refusal} {next : State} → ◌≡◌ {A = Result State Refusal} (Err refusal) (Ok next) → ⊥
 stopped e = let z : ◌≡◌ {A = ℕ} 0 1 = cc in omega arith
 
-pub went : (s : List ℕ) (lent : Lent) (starts : List ℕ) (state next : State) → step_answer s lent starts state ≡ Next next →
+pub went : (s : List ℕ) (lent : Lent) (starts : List ℕ) (state next : State) → step_answer s lent starts state ≡ Ok next →
     Went s lent starts state next
 unfolding step_answer on_line listing
 went s lent starts state next e = go (line_answer (told_by state) s state.at) refl e
   where
-    go : (a : LineAnswer) → line_answer (told_by state) s state.at ≡ a → on_line a s lent starts state ≡ Next next →
+    go : (a : Result Line Refusal) → line_answer (told_by state) s state.at ≡ a → on_line a s lent starts state ≡ Ok next →
         Went s lent starts state next
-    go (Refused refusal) ea e = absurd (stopped e)
-    go (Accepted line) ea e =
+    go (Err refusal) ea e = absurd (stopped e)
+    go (Ok line) ea e =
         let full = not (has_word lent.words state.lines) in
         let twice = repeats line.kind s starts state.at in
-        let last : Step = if full then Stopped (because ListFull state.at) else Next (behind s state line) in
+        let last : Result State Refusal = if full then Err (because ListFull state.at) else Ok (behind s state line) in
         let v = came_else (lacks_contact line.kind (split (text_at s state.at)) lent.countries state.contacts)
-        (Stopped (because ContactMissing state.at)) (if twice then Stopped (because IdentcodeRepeated (state.at + 4)) else last)
-        (Next next) stopped e in
-        let a = came_else twice (Stopped (because IdentcodeRepeated (state.at + 4))) last (Next next) stopped v.1 in
-        let b = came_else full (Stopped (because ListFull state.at)) (Next (behind s state line)) (Next next) stopped a.1 in
+        (Err (because ContactMissing state.at)) (if twice then Err (because IdentcodeRepeated (state.at + 4)) else last)
+        (Ok next) stopped e in
+        let a = came_else twice (Err (because IdentcodeRepeated (state.at + 4))) last (Ok next) stopped v.1 in
+        let b = came_else full (Err (because ListFull state.at)) (Ok (behind s state line)) (Ok next) stopped a.1 in
         record {
           line = line;
           accepted = ea;
@@ -170,15 +166,15 @@ went s lent starts state next e = go (line_answer (told_by state) s state.at) re
         }
 
 -- no tree and no list is promised behind a line that stops the judge
-pub stopped_sown : (s starts codes : List ℕ) (refusal : Refusal) (next : State) → Stopped refusal ≡ Next next →
+pub stopped_sown : (s starts codes : List ℕ) (refusal : Refusal) (next : State) → ◌≡◌ {A = Result State Refusal} (Err refusal) (Ok next) →
     Sown s starts next.parcels codes
 stopped_sown s starts codes refusal next e = absurd (stopped e)
 
-pub stopped_listed : (list listed : List ℕ) (refusal : Refusal) (next : State) → Stopped refusal ≡ Next next → list ≡ listed
+pub stopped_listed : (list listed : List ℕ) (refusal : Refusal) (next : State) → ◌≡◌ {A = Result State Refusal} (Err refusal) (Ok next) → list ≡ listed
 stopped_listed list listed refusal next e = absurd (stopped e)
 
-pub was_accepted : (told : Told) (s : List ℕ) (at : ℕ) (a : LineAnswer) (line : Line) → a ≡ line_answer told s at → a ≡ Accepted line →
-    line_answer told s at ≡ Accepted line
+pub was_accepted : (told : Told) (s : List ℕ) (at : ℕ) (a : Result Line Refusal) (line : Line) → a ≡ line_answer told s at → a ≡ Ok line →
+    line_answer told s at ≡ Ok line
 was_accepted told s at a line ea el = sym ea ∙ el
 
 -- an arm of a match is a case of the rule

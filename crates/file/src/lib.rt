@@ -11,4 +11,4 @@ mod version;
 mod whole;
 
 pub use list::clear;
-pub use whole::{FileAnswer, Totals, judge};
+pub use whole::{Totals, judge};

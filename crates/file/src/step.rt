@@ -1,14 +1,12 @@
 // One line of a file, judged behind the lines before it.
-ghost use Rattle.std.specs.Prelude.{◌≡◌, ◌*◌, ◌≤◌, length, set, [], ◌∷◌, ◌++◌};
+ghost use Rattle.std.specs.Prelude.{◌≡◌, ◌*◌, ◌≤◌, length, set, [], ◌∷◌, ◌++◌, Ok};
 ghost use Rattle.line.specs.Line.{file_limit, line_answer};
-ghost use Rattle.line.specs.declared.read.LineAnswer.TheVariants.{Accepted};
 ghost use Rattle.file.specs.Step.{told_by, parcels_in, behind, listed_so_far, has_word, listing, step_answer};
 ghost use Rattle.file.specs.Identcode.{parcels_most, tree_words, Sown};
 ghost use Rattle.file.specs.declared.step.State.{State};
-ghost use Rattle.file.specs.declared.step.Step.TheVariants.{Next};
 
 use crate::{cash, contact, identcode};
-use line::{Line, LineAnswer};
+use line::Line;
 use records::{Due, Record, Version};
 use refusal::{Reason, Refusal};
 
@@ -25,12 +23,6 @@ pub struct State {
     pub contacts: bool,
 }
 
-#[derive(Clone, Copy)]
-pub enum Step {
-    Next(State),
-    Stopped(Refusal),
-}
-
 // Judges the line where the state is, and lists it; the list holds the offsets of the lines before it, and the tree their identcodes.
 pub fn one_line(
     file: &[u8],
@@ -38,65 +30,71 @@ pub fn one_line(
     list: &mut [u32],
     codes: &mut [u32],
     state: State,
-) -> Step
+) -> Result<State, Refusal>
     requires within { (state.at ≤ file_limit) × (state.lines ≤ state.at) × (state.lines ≤ length list.old) × (state.parcels ≤ state.lines)
         × (state.cents ≤ 99999999 * state.lines) }
     requires sown { Sown file.now (listed_so_far state.lines list.old) state.parcels codes.old × (state.parcels ≤ parcels_most)
         × (tree_words ≤ length codes.old) }
     ensures value { result ≡ step_answer file.now (record { countries = countries.now; words = length list.old })
         (listed_so_far state.lines list.old) state }
-    ensures sown_after { (next : State) → result ≡ Next next →
+    ensures sown_after { (next : State) → result ≡ Ok next →
         Sown file.now (listed_so_far state.lines list.old ++ (state.at ∷ [])) next.parcels codes.new }
-    ensures listed { (next : State) → result ≡ Next next → list.new ≡ set list.old state.lines state.at }
+    ensures listed { (next : State) → result ≡ Ok next → list.new ≡ set list.old state.lines state.at }
 {
     let offset = state.at;
     let version = state.version;
     let due = state.due;
     let answer = line::judge_line(version, due, file, offset);
     match answer {
-        LineAnswer::Accepted(line) => {
+        Ok(line) => {
             let kind = line.kind;
             let end = line.next - 2;
             if contact::lacks_contact(kind, &file[offset..end], countries, state.contacts) {
-                return Step::Stopped(Refusal {
+                return Err(Refusal {
                     why: Reason::ContactMissing,
                     place: offset,
                 });
             }
             list_line(file, list, codes, state, line)
         }
-        LineAnswer::Refused(refusal) => Step::Stopped(refusal),
+        Err(refusal) => Err(refusal),
     }
 }
 
 // Lists an accepted line, unless it repeats an identcode or the list has no word for it.
-fn list_line(file: &[u8], list: &mut [u32], codes: &mut [u32], state: State, line: Line) -> Step
-    requires accepted { (line_answer (told_by state) file.now state.at ≡ Accepted line) × (state.at ≤ file_limit) × (state.lines ≤ state.at)
+fn list_line(
+    file: &[u8],
+    list: &mut [u32],
+    codes: &mut [u32],
+    state: State,
+    line: Line,
+) -> Result<State, Refusal>
+    requires accepted { (line_answer (told_by state) file.now state.at ≡ Ok line) × (state.at ≤ file_limit) × (state.lines ≤ state.at)
         × (state.lines ≤ length list.old) × (state.parcels ≤ state.lines) × (state.cents ≤ 99999999 * state.lines) }
     requires sown { Sown file.now (listed_so_far state.lines list.old) state.parcels codes.old × (state.parcels ≤ parcels_most)
         × (tree_words ≤ length codes.old) }
     ensures value { result ≡ listing file.now (length list.old) (listed_so_far state.lines list.old) state line }
-    ensures sown_after { (next : State) → result ≡ Next next →
+    ensures sown_after { (next : State) → result ≡ Ok next →
         Sown file.now (listed_so_far state.lines list.old ++ (state.at ∷ [])) next.parcels codes.new }
-    ensures listed { (next : State) → result ≡ Next next → list.new ≡ set list.old state.lines state.at }
+    ensures listed { (next : State) → result ≡ Ok next → list.new ≡ set list.old state.lines state.at }
 {
     let offset = state.at;
     let lines = state.lines;
     let kind = line.kind;
     if identcode::is_repeated(kind, file, codes, state.parcels, offset) {
-        return Step::Stopped(Refusal {
+        return Err(Refusal {
             why: Reason::IdentcodeRepeated,
             place: offset + 4,
         });
     }
     if !has_word(list, lines) {
-        return Step::Stopped(Refusal {
+        return Err(Refusal {
             why: Reason::ListFull,
             place: offset,
         });
     }
     list[lines] = offset as u32;
-    Step::Next(behind_line(file, state, line))
+    Ok(behind_line(file, state, line))
 }
 
 // Whether the list has a word for the line behind so many.
@@ -108,7 +106,7 @@ fn has_word(list: &[u32], lines: usize) -> bool
 
 // The state behind an accepted line.
 fn behind_line(file: &[u8], state: State, line: Line) -> State
-    requires { (line_answer (told_by state) file.now state.at ≡ Accepted line) × (state.at ≤ file_limit) × (state.lines ≤ state.at)
+    requires { (line_answer (told_by state) file.now state.at ≡ Ok line) × (state.at ≤ file_limit) × (state.lines ≤ state.at)
         × (state.parcels ≤ state.lines) × (state.cents ≤ 99999999 * state.lines) }
     ensures { result ≡ behind file.now state line }
 {

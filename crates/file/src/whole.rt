@@ -6,7 +6,7 @@ ghost use Rattle.file.specs.File.{Judges};
 ghost use Rattle.file.specs.Identcode.{tree_words};
 
 use crate::identcode::TREE_WORDS;
-use crate::step::{State, Step};
+use crate::step::State;
 use crate::{list, step, version};
 use line::FILE_LIMIT;
 use records::Due;
@@ -19,27 +19,21 @@ pub struct Totals {
     pub cents: u64,
 }
 
-#[derive(Clone, Copy)]
-pub enum FileAnswer {
-    Accepted(Totals),
-    Refused(Refusal),
-}
-
 // Judges a file, with a list of countries into which a sender ships only with phone and mail. Accepted, each word of the list for the
 // lines is, below the number of lines, that line's offset, and every other word is 0; refused, all words are 0.
-pub fn judge(file: &[u8], countries: &[u8], list: &mut [u32]) -> FileAnswer
+pub fn judge(file: &[u8], countries: &[u8], list: &mut [u32]) -> Result<Totals, Refusal>
     ensures { Judges file.now (record { countries = countries.now; words = length list.old })
         result list.new }
 {
     list::clear(list);
     if FILE_LIMIT < file.len() {
-        return FileAnswer::Refused(Refusal {
+        return Err(Refusal {
             why: Reason::FileTooLong,
             place: FILE_LIMIT,
         });
     }
     if !countries::is_paired(countries) {
-        return FileAnswer::Refused(Refusal {
+        return Err(Refusal {
             why: Reason::CountriesOdd,
             place: 0,
         });
@@ -49,7 +43,12 @@ pub fn judge(file: &[u8], countries: &[u8], list: &mut [u32]) -> FileAnswer
 }
 
 // The lines of a file that is not too long, with a list that is clear, and room for a tree of their identcodes.
-fn run(file: &[u8], countries: &[u8], list: &mut [u32], codes: &mut [u32]) -> FileAnswer
+fn run(
+    file: &[u8],
+    countries: &[u8],
+    list: &mut [u32],
+    codes: &mut [u32],
+) -> Result<Totals, Refusal>
     requires { (length file.now ≤ file_limit) × (is_paired countries.now ≡ true) × (list.old ≡ replicate (length list.old) 0)
         × (tree_words ≤ length codes.old) }
     ensures { Judges file.now (record { countries = countries.now; words = length list.old })
@@ -68,24 +67,24 @@ fn run(file: &[u8], countries: &[u8], list: &mut [u32], codes: &mut [u32]) -> Fi
     while state.at < file.len() {
         let step = step::one_line(file, countries, list, codes, state);
         match step {
-            Step::Next(next) => {
+            Ok(next) => {
                 state = next;
             }
-            Step::Stopped(refusal) => {
+            Err(refusal) => {
                 list::clear(list);
-                return FileAnswer::Refused(refusal);
+                return Err(refusal);
             }
         }
     }
     let due = state.due;
     if !records::may_end(due) {
         list::clear(list);
-        return FileAnswer::Refused(Refusal {
+        return Err(Refusal {
             why: Reason::FileEnds,
             place: file.len(),
         });
     }
-    FileAnswer::Accepted(Totals {
+    Ok(Totals {
         lines: state.lines,
         parcels: state.parcels,
         cents: state.cents,

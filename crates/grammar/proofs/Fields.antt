@@ -10,19 +10,19 @@ use Rattle.text.proofs.Choices.{and_left, and_right, and_both, true_or_false}
 use Rattle.text.proofs.Numbers.{eq_or_ne}
 use Rattle.fields.specs.Profile.{is_required, has_form, Row, width_of}
 use Rattle.fields.specs.Field.{tested}
-use Rattle.fields.specs.declared.field.Tested.TheVariants.{Good}
 use Rattle.fields.proofs.Tests.{empty_good, form_good, good_passed}
 use Rattle.line.specs.Render.{plain, all_in}
 use Rattle.line.proofs.Passing.{Each}
 use Rattle.grammar.specs.Grammar.{FieldOk, FieldsOk}
+use Rattle.std.specs.Prelude.{Ok}
 
 module _ (rows : List Row) (n : ℕ) (beside f : List ℕ) where
-  pub good_field : all plain f ≡ true → tested rows n beside f ≡ Good → FieldOk rows n beside f
+  pub good_field : all plain f ≡ true → tested rows n beside f ≡ Ok tt → FieldOk rows n beside f
   good_field p e =
       let g = good_passed rows n beside f e in
       record { clean = p; fits = g.fits; filled = g.filled; formed = g.formed }
 
-  pub field_good : FieldOk rows n beside f → tested rows n beside f ≡ Good
+  pub field_good : FieldOk rows n beside f → tested rows n beside f ≡ Ok tt
   field_good g =
       ⊎_elim
       (λ (z : length f ≡ 0). ⊎_elim (λ (r : is_required rows n ≡ true). absurd (g.filled r z))

@@ -11,22 +11,21 @@ use borrow.Author.Tests.{le-ltb, lt-ltb, eq-eqb, ne_eqb}
 use Rattle.text.specs.Quoted.{bytes}
 use Rattle.text.proofs.Numbers.{le_or_lt}
 use Rattle.refusal.specs.declared.Reason.TheVariants.{NotThere}
-use Rattle.refusal.specs.Table.{because}
+use Rattle.refusal.specs.Table.{because, verdict_on}
 use Rattle.refusal.specs.declared.Refusal.{Refusal}
 use Rattle.refusal.proofs.Verdicts.{no_pass}
 use Rattle.records.specs.Record.{type_of}
 use Rattle.fields.specs.Profile.{Rules}
+use Rattle.line.specs.declared.find.Span.{Span}
 use Rattle.line.specs.Parts.{start_in, start_of, fields_of, field_no}
 use Rattle.line.specs.Render.{joined, text_of}
 use Rattle.line.specs.Line.{text_at, line_answer, alone}
-use Rattle.line.specs.Find.{in_line, field_answer, field_verdict}
+use Rattle.line.specs.Find.{in_line, field_answer}
 use Rattle.line.specs.Told.{Told}
 use Rattle.line.specs.declared.read.Line.{Line}
-use Rattle.line.specs.declared.read.LineAnswer.{LineAnswer}
-use Rattle.line.specs.declared.read.LineAnswer.TheVariants.{Accepted, Refused}
-use Rattle.line.specs.declared.find.FieldAnswer.TheVariants.{Found, Refused}
 use Rattle.grammar.specs.Grammar.{Reads, FieldStands, StandsInLine}
 use Rattle.grammar.proofs.Lines.{accepted_reads, reads_accepted, reads_alone, read_parts, read_field}
+use Rattle.std.specs.Prelude.{Result, Ok, Err}
 
 -- the bytes in front of a field
 start_joined : (fs : List (List ℕ)) (m : ℕ) → start_in fs m ≡ length (joined (take m fs))
@@ -61,7 +60,7 @@ module _ {told : Told} {s : List ℕ} {at : ℕ} {line : Line} {fs : List (List 
         length-append (text_of line.kind (take m fs)) (bytes ";"),
       ))
 
-  accepted : line_answer (alone told.rules) s at ≡ Accepted line
+  accepted : line_answer (alone told.rules) s at ≡ Ok line
   accepted = reads_accepted (reads_alone g)
 
   there : (m : ℕ) → m < length fs → take (length (get_or fs m [])) (drop (at + length (front m)) s) ≡ get_or fs m []
@@ -71,7 +70,7 @@ module _ {told : Told} {s : List ℕ} {at : ℕ} {line : Line} {fs : List (List 
       rw (← drop-drop (length (front m)) at s, cut, drop-append_seam) (take-append_seam (get_or fs m []) back)
 
   module _ (n : ℕ) where
-    pub found : 1 ≤ n → n ≤ length fs → field_answer told.rules s at n ≡ Found (at + length (front (n - 1))) (length (field_no fs n))
+    pub found : 1 ≤ n → n ≤ length fs → field_answer told.rules s at n ≡ Ok (record { start = at + length (front (n - 1)); long = length (field_no fs n) })
     unfolding field_answer in_line
     found h l =
         rw (
@@ -83,7 +82,7 @@ module _ {told : Told} {s : List ℕ} {at : ℕ} {line : Line} {fs : List (List 
         )
 
     -- a number that no field has is 15 at 0
-    pub field_not_there : (1 ≤ n → n ≤ length fs → ⊥) → field_answer told.rules s at n ≡ Refused (because NotThere 0)
+    pub field_not_there : (1 ≤ n → n ≤ length fs → ⊥) → field_answer told.rules s at n ≡ Err (because NotThere 0)
     unfolding field_answer in_line
     field_not_there h =
         ⊎_elim
@@ -94,41 +93,43 @@ module _ {told : Told} {s : List ℕ} {at : ℕ} {line : Line} {fs : List (List 
         (le_or_lt 1 n)
 
     module _ (start long : ℕ) where
-      found_finds : field_answer told.rules s at n ≡ Found start long → FieldStands line.kind fs s at n start long
+      found_finds : field_answer told.rules s at n ≡ Ok (record { start = start; long = long }) → FieldStands line.kind fs s at n start long
       found_finds e =
           ⊎_elim
           (λ (l : 1 ≤ n). ⊎_elim (λ (m : n ≤ length fs). go l m (sym (found l m) ∙ e))
-          (λ m. absurd (no_pass field_verdict refl refl (sym (field_not_there (λ x y. omega arith)) ∙ e))) (le_or_lt n (length fs)))
-          (λ l. absurd (no_pass field_verdict refl refl (sym (field_not_there (λ x y. omega arith)) ∙ e)))
+          (λ m. absurd (no_pass verdict_on refl refl (sym (field_not_there (λ x y. omega arith)) ∙ e))) (le_or_lt n (length fs)))
+          (λ l. absurd (no_pass verdict_on refl refl (sym (field_not_there (λ x y. omega arith)) ∙ e)))
           (le_or_lt 1 n)
         where
-          go : 1 ≤ n → n ≤ length fs → Found (at + length (front (n - 1))) (length (field_no fs n)) ≡ Found start long →
+          go : 1 ≤ n → n ≤ length fs →
+              ◌≡◌ {A = Result Span Refusal} (Ok (record { start = at + length (front (n - 1)); long = length (field_no fs n) })) (Ok (record { start = start; long = long })) →
               FieldStands line.kind fs s at n start long
           go l m e =
-              let a : start ≡ at + length (front (n - 1)) = cc in
-              let b : long ≡ length (field_no fs n) = cc in
+              let same : ◌≡◌ {A = Span} (record { start = at + length (front (n - 1)); long = length (field_no fs n) }) (record { start = start; long = long }) = cc in
+              let a : start ≡ at + length (front (n - 1)) = sym (ap (λ (s : Span). s.start) same) in
+              let b : long ≡ length (field_no fs n) = sym (ap (λ (s : Span). s.long) same) in
               record { first = l; last = m; starts = a; measures = b; there = rw (a, b) (there (n - 1) (omega arith)) }
 
-      finds_found : FieldStands line.kind fs s at n start long → field_answer told.rules s at n ≡ Found start long
+      finds_found : FieldStands line.kind fs s at n start long → field_answer told.rules s at n ≡ Ok (record { start = start; long = long })
       finds_found f = found f.first f.last ∙ rw (f.starts, f.measures)
 
       -- a field of an accepted line is found exactly where it stands
-      pub field_exactly : (field_answer told.rules s at n ≡ Found start long) ↔ FieldStands line.kind fs s at n start long
+      pub field_exactly : (field_answer told.rules s at n ≡ Ok (record { start = start; long = long })) ↔ FieldStands line.kind fs s at n start long
       field_exactly = (found_finds, finds_found)
 
 -- "hands its refusal on"
-pub field_refused : (rules : Rules) (s : List ℕ) (at n : ℕ) (refusal : Refusal) → line_answer (alone rules) s at ≡ Refused refusal →
-    field_answer rules s at n ≡ Refused refusal
+pub field_refused : (rules : Rules) (s : List ℕ) (at n : ℕ) (refusal : Refusal) → line_answer (alone rules) s at ≡ Err refusal →
+    field_answer rules s at n ≡ Err refusal
 unfolding field_answer in_line
 field_refused rules s at n refusal e = rw e
 
 -- a field is found exactly when an allowed line stands at the offset and the field stands in it
 pub found_exactly :
-    (rules : Rules) (s : List ℕ) (at n start long : ℕ) → (field_answer rules s at n ≡ Found start long) ↔
+    (rules : Rules) (s : List ℕ) (at n start long : ℕ) → (field_answer rules s at n ≡ Ok (record { start = start; long = long })) ↔
     StandsInLine rules s at n start long
 found_exactly rules s at n start long = (λ e. go (line_answer (alone rules) s at) refl e, λ g. finds_found g.1.1.0 n start long g.1.1.1)
   where
-    go : (a : LineAnswer) → line_answer (alone rules) s at ≡ a → field_answer rules s at n ≡ Found start long →
+    go : (a : Result Line Refusal) → line_answer (alone rules) s at ≡ a → field_answer rules s at n ≡ Ok (record { start = start; long = long }) →
         StandsInLine rules s at n start long
-    go (Refused refusal) q e = absurd (no_pass field_verdict refl refl (sym (field_refused rules s at n refusal q) ∙ e))
-    go (Accepted line) q e = let g = accepted_reads (alone rules) s at line q in (line, (fields_of (text_at s at), (g, found_finds g n start long e)))
+    go (Err refusal) q e = absurd (no_pass verdict_on refl refl (sym (field_refused rules s at n refusal q) ∙ e))
+    go (Ok line) q e = let g = accepted_reads (alone rules) s at line q in (line, (fields_of (text_at s at), (g, found_finds g n start long e)))

@@ -24,15 +24,15 @@ use Rattle.line.specs.Render.{joined, text_of, render}
 use Rattle.line.specs.Line.{text_at, text_answer, line_answer, alone, file_limit}
 use Rattle.line.specs.Told.{Told}
 use Rattle.line.specs.declared.read.Line.{Line}
-use Rattle.line.specs.declared.read.LineAnswer.TheVariants.{Accepted}
 use Rattle.line.proofs.Plain.{render_long}
 use Rattle.line.proofs.Ends.{ended, ends_well_lem, text_there}
 use Rattle.line.proofs.Accepting.{line_ok, text_written, line_stands}
 use Rattle.grammar.specs.Grammar.{LineOk, Reads}
 use Rattle.grammar.proofs.Texts.{text_split, text_bytes, text_accepted, text_allowed}
+use Rattle.std.specs.Prelude.{Ok}
 
 -- an accepted line stands there
-pub accepted_reads : (told : Told) (s : List ℕ) (at : ℕ) (line : Line) → line_answer told s at ≡ Accepted line →
+pub accepted_reads : (told : Told) (s : List ℕ) (at : ℕ) (line : Line) → line_answer told s at ≡ Ok line →
     Reads told s at line (fields_of (text_at s at))
 accepted_reads told s at line e =
     let text = text_at s at in
@@ -89,7 +89,7 @@ module _ {told : Told} {s : List ℕ} {at : ℕ} {line : Line} {fs : List (List 
       go : (m : ℕ) → n ≡ suc m → part_at (text_at s at) n ≡ get_or fs m []
       go m e = rw (e, read_parts)
 
-  pub reads_accepted : line_answer told s at ≡ Accepted line
+  pub reads_accepted : line_answer told s at ≡ Ok line
   unfolding line_answer text_answer
   reads_accepted =
       let n : at + length (text_of line.kind fs) + 2 ≡ line.next = omega (arith, g.next, render_long line.kind fs) in
@@ -102,7 +102,7 @@ module _ {told : Told} {s : List ℕ} {at : ℕ} {line : Line} {fs : List (List 
       (text_accepted line.kind fs g.allowed told.due at g.comes ∙ rw (n, ← g.count))
 
 -- a line is accepted exactly when an allowed line stands at the offset
-pub line_exactly : (told : Told) (s : List ℕ) (at : ℕ) (line : Line) → (line_answer told s at ≡ Accepted line) ↔
+pub line_exactly : (told : Told) (s : List ℕ) (at : ℕ) (line : Line) → (line_answer told s at ≡ Ok line) ↔
     ((fs : List (List ℕ)) × Reads told s at line fs)
 line_exactly told s at line = (λ e. (fields_of (text_at s at), accepted_reads told s at line e), λ g. reads_accepted g.1)
 

@@ -14,12 +14,12 @@ use Rattle.fields.proofs.Tests.{good_passed}
 use Rattle.fields.proofs.Rules.{within, Sound, width_le, count_le}
 use Rattle.line.specs.Render.{joined, render}
 use Rattle.line.specs.Line.{line_answer, alone}
-use Rattle.line.specs.declared.read.LineAnswer.TheVariants.{Accepted}
 use Rattle.line.proofs.Plain.{render_long}
 use Rattle.line.proofs.Passing.{each_le}
 use Rattle.grammar.specs.Grammar.{FieldsOk, LineOk, Reads}
 use Rattle.grammar.proofs.Fields.{fields_each}
 use Rattle.grammar.proofs.Lines.{reads_accepted}
+use Rattle.std.specs.Prelude.{Ok}
 
 pub fields_le : (rows : List Row) (n : ℕ) (beside : List ℕ) (fs : List (List ℕ)) → within rows ≡ true → FieldsOk rows n beside fs →
     length (joined fs) ≤ 101 * length fs
@@ -54,5 +54,5 @@ render_reads {rules = rules} w kind fs g =
     }
 
 pub render_accepted : {rules : Rules} → Sound rules → (kind : Record) (fs : List (List ℕ)) → LineOk rules kind fs →
-    line_answer (alone rules) (render kind fs) 0 ≡ Accepted (record { kind = kind; count = length fs; next = length (render kind fs) })
+    line_answer (alone rules) (render kind fs) 0 ≡ Ok (record { kind = kind; count = length fs; next = length (render kind fs) })
 render_accepted {rules = rules} w kind fs g = reads_accepted (render_reads w kind fs g)

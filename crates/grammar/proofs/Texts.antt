@@ -20,7 +20,6 @@ use Rattle.line.specs.Walk.{behind}
 use Rattle.line.specs.Need.{lacks}
 use Rattle.line.specs.Line.{after_walk, of_kind, of_named, of_text}
 use Rattle.line.specs.declared.read.Line.{Line}
-use Rattle.line.specs.declared.read.LineAnswer.TheVariants.{Accepted}
 use Rattle.line.proofs.Splits.{split_some}
 use Rattle.line.proofs.Plain.{split_plain, plain_split, plain_bytes}
 use Rattle.line.proofs.Passing.{fine_each, each_fine}
@@ -28,6 +27,7 @@ use Rattle.line.proofs.Accepting.{TextOk}
 use Rattle.grammar.specs.Grammar.{LineOk}
 use Rattle.grammar.proofs.Needs.{lacks_not}
 use Rattle.grammar.proofs.Fields.{each_fields, fields_each, fields_plain}
+use Rattle.std.specs.Prelude.{Ok}
 
 -- the text of an allowed line
 module _ {rules : Rules} (kind : Record) (fs : List (List ℕ)) (g : LineOk rules kind fs) where
@@ -42,7 +42,7 @@ module _ {rules : Rules} (kind : Record) (fs : List (List ℕ)) (g : LineOk rule
 
   pub text_accepted : (due : Due) (at : ℕ) → may_come due kind ≡ true →
       of_text (record { rules = rules; due = due }) at (text_of kind fs) ≡
-      Accepted (record { kind = kind; count = length fs; next = at + length (text_of kind fs) + 2 })
+      Ok (record { kind = kind; count = length fs; next = at + length (text_of kind fs) + 2 })
   unfolding of_text of_named of_kind after_walk
   text_accepted due at m =
       simp (

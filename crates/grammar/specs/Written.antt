@@ -1,15 +1,12 @@
 -- Document 01, 'Writer': when a line is written, apart from any order of tests, and what reading it back means.
-use Rattle.std.specs.Prelude.{ℕ, ◌+◌, ◌≤◌, ◌≡◌, true, List, [], ◌∷◌, ◌++◌, length, take, drop}
+use Rattle.std.specs.Prelude.{ℕ, ◌+◌, ◌≤◌, ◌≡◌, true, List, [], ◌∷◌, ◌++◌, length, take, drop, Some, Ok}
 use Rattle.fields.specs.Profile.{Rules, profile}
 use Rattle.records.specs.declared.version.Version.{Version}
 use Rattle.records.specs.declared.record.Record.{Record}
-use Rattle.records.specs.declared.record.Named.TheVariants.{Known}
 use Rattle.line.specs.Parts.{field_no}
 use Rattle.line.specs.Render.{render}
 use Rattle.line.specs.Line.{read_answer}
 use Rattle.line.specs.Find.{find_answer}
-use Rattle.line.specs.declared.read.LineAnswer.TheVariants.{Accepted}
-use Rattle.line.specs.declared.find.FieldAnswer.TheVariants.{Found}
 use Rattle.writer.specs.Write.{record_numbered, ends_hold, between}
 use Rattle.grammar.specs.Grammar.{LineOk}
 
@@ -26,7 +23,7 @@ ends_from start (f ∷ fs) = (start + length f) ∷ ends_from (start + length f)
 -- when a line is written, apart from any order of tests: it is of a known record, its ends hold, it is allowed, and there is room
 pub record Writable (rules : Rules) (number : ℕ) (text ends : List ℕ) (size fill n : ℕ) : Type 0 where
   pub kind : Record
-  pub known : record_numbered number ≡ Known kind
+  pub known : record_numbered number ≡ Some kind
   pub held : ends_hold ends (length text) ≡ true
   pub allowed : LineOk rules kind (between text ends)
   pub fits : fill + length (render kind (between text ends)) ≤ size
@@ -37,7 +34,7 @@ pub record Writable (rules : Rules) (number : ℕ) (text ends : List ℕ) (size 
 pub record ReadsBack (told : ℕ) (version : Version) (kind : Record) (fs : List (List ℕ)) (line : List ℕ) : Type 0 where
   pub allowed : LineOk (profile version) kind fs
   pub rendered : line ≡ render kind fs
-  pub read : read_answer told line 0 ≡ Accepted (record { kind = kind; count = length fs; next = length line })
+  pub read : read_answer told line 0 ≡ Ok (record { kind = kind; count = length fs; next = length line })
   pub found :
-      (n : ℕ) → 1 ≤ n → n ≤ length fs → (start : ℕ) × ((find_answer told line 0 n ≡ Found start (length (field_no fs n))) ×
+      (n : ℕ) → 1 ≤ n → n ≤ length fs → (start : ℕ) × ((find_answer told line 0 n ≡ Ok (record { start = start; long = length (field_no fs n) })) ×
       (take (length (field_no fs n)) (drop start line) ≡ field_no fs n))

@@ -16,20 +16,14 @@ use Rattle.refusal.specs.declared.Refusal.{Refusal}
 use Rattle.fields.specs.Profile.{Rules}
 use Rattle.records.specs.Record.{named, count_fits, may_come}
 use Rattle.records.specs.declared.record.Record.{Record}
-use Rattle.records.specs.declared.record.Named.{Named}
-use Rattle.records.specs.declared.record.Named.TheVariants.{Known, Unknown}
 use Rattle.line.specs.Parts.{semicolon, split, name_of, fields_of}
 use Rattle.line.specs.Walk.{walk}
 use Rattle.line.specs.Need.{lacks}
 use Rattle.line.specs.Line.{line_end, ends_well, text_at, after_walk, of_kind, of_named, of_text, text_answer, line_answer, file_limit}
-use Rattle.line.specs.declared.scan.TextAnswer.{TextAnswer}
-use Rattle.line.specs.declared.scan.TextAnswer.TheVariants.{Ends, Refused}
-use Rattle.line.specs.declared.walk.Walk.{Walk}
-use Rattle.line.specs.declared.walk.Walk.TheVariants.{Fine, Stopped}
 use Rattle.line.specs.Told.{Told}
-use Rattle.line.specs.declared.read.LineAnswer.{LineAnswer}
-use Rattle.line.specs.declared.read.LineAnswer.TheVariants.{Accepted, Refused}
 use Rattle.line.proofs.Parts.{count_fields}
+use Rattle.std.specs.Prelude.{⊤, Option, Some, None, Result, Ok, Err}
+use Rattle.line.specs.declared.read.Line.{Line}
 
 -- CR LF
 module _ (s : List ℕ) (end : ℕ) where
@@ -50,77 +44,77 @@ module _ (rules : Rules) (kind : Record) (at : ℕ) (line : List ℕ) (n : ℕ) 
   fits : t ≡ count_fits kind (length (fields_of line))
   fits = et ∙ ap (count_fits kind) (count_fields n line en)
 
-  pub count_wrong : not t ≡ true → Refused (because FieldCount at) ≡ of_kind rules kind at line
+  pub count_wrong : not t ≡ true → Err (because FieldCount at) ≡ of_kind rules kind at line
   unfolding of_kind
   count_wrong e = rw (← fits, e)
 
   pub count_right :
-      not t ≡ false → (w : Walk) → w ≡ walk (rules kind) 1 (at + length (name_of line) + 1) (name_of line) (fields_of line) →
-      (a : LineAnswer) → a ≡ after_walk w kind at line → a ≡ of_kind rules kind at line
+      not t ≡ false → (w : Result ⊤ Refusal) → w ≡ walk (rules kind) 1 (at + length (name_of line) + 1) (name_of line) (fields_of line) →
+      (a : Result Line Refusal) → a ≡ after_walk w kind at line → a ≡ of_kind rules kind at line
   unfolding of_kind
-  count_right right w ew a e = rw (← fits, right) (e ∙ ap (λ (v : Walk). after_walk v kind at line) ew)
+  count_right right w ew a e = rw (← fits, right) (e ∙ ap (λ (v : Result ⊤ Refusal). after_walk v kind at line) ew)
 
 -- a field that stops the walk, then what the feature needs
-module _ (kind : Record) (at : ℕ) (line : List ℕ) (w : Walk) where
-  pub field_wrong : (refusal : Refusal) → w ≡ Stopped refusal → Refused refusal ≡ after_walk w kind at line
+module _ (kind : Record) (at : ℕ) (line : List ℕ) (w : Result ⊤ Refusal) where
+  pub field_wrong : (refusal : Refusal) → w ≡ Err refusal → Err refusal ≡ after_walk w kind at line
   unfolding after_walk
   field_wrong refusal e = rw e
 
-  module _ (fine : w ≡ Fine) (u : Bool) (eu : u ≡ lacks kind (split line)) where
-    pub lacks_one : u ≡ true → Refused (because FeatureLacks at) ≡ after_walk w kind at line
+  module _ (fine : w ≡ Ok tt) (u : Bool) (eu : u ≡ lacks kind (split line)) where
+    pub lacks_one : u ≡ true → Err (because FeatureLacks at) ≡ after_walk w kind at line
     unfolding after_walk
     lacks_one e = rw (fine, ← eu, e)
 
     pub has_all : u ≡ false → (n : ℕ) → n ≡ length (fields_of line) →
-        Accepted (record { kind = kind; count = n; next = at + length line + 2 }) ≡ after_walk w kind at line
+        Ok (record { kind = kind; count = n; next = at + length line + 2 }) ≡ after_walk w kind at line
     unfolding after_walk
     has_all e n en = rw (fine, ← eu, e, en)
 
 -- the record type, then the order
-module _ (told : Told) (at : ℕ) (line name : List ℕ) (en : name ≡ name_of line) (nd : Named) (ed : nd ≡ named name) where
-  typed : (a : LineAnswer) → a ≡ of_named nd told at line → a ≡ of_text told at line
+module _ (told : Told) (at : ℕ) (line name : List ℕ) (en : name ≡ name_of line) (nd : Option Record) (ed : nd ≡ named name) where
+  typed : (a : Result Line Refusal) → a ≡ of_named nd told at line → a ≡ of_text told at line
   unfolding of_text
-  typed a e = e ∙ ap (λ (m : Named). of_named m told at line) (ed ∙ ap named en)
+  typed a e = e ∙ ap (λ (m : Option Record). of_named m told at line) (ed ∙ ap named en)
 
-  pub type_unknown : nd ≡ Unknown → Refused (because UnknownRecord at) ≡ of_text told at line
+  pub type_unknown : nd ≡ None → Err (because UnknownRecord at) ≡ of_text told at line
   unfolding of_named
-  type_unknown e = typed (Refused (because UnknownRecord at)) (rw e)
+  type_unknown e = typed (Err (because UnknownRecord at)) (rw e)
 
-  module _ (kind : Record) (known : nd ≡ Known kind) (t : Bool) (et : t ≡ may_come told.due kind) where
-    pub out_of_order : not t ≡ true → Refused (because OutOfOrder at) ≡ of_text told at line
+  module _ (kind : Record) (known : nd ≡ Some kind) (t : Bool) (et : t ≡ may_come told.due kind) where
+    pub out_of_order : not t ≡ true → Err (because OutOfOrder at) ≡ of_text told at line
     unfolding of_named
-    out_of_order e = typed (Refused (because OutOfOrder at)) (rw (known, ← et, e))
+    out_of_order e = typed (Err (because OutOfOrder at)) (rw (known, ← et, e))
 
-    pub in_order : not t ≡ false → (a : LineAnswer) → a ≡ of_kind told.rules kind at line → a ≡ of_text told at line
+    pub in_order : not t ≡ false → (a : Result Line Refusal) → a ≡ of_kind told.rules kind at line → a ≡ of_text told at line
     unfolding of_named
     in_order e a ea = typed a (rw (known, ← et, e) ea)
 
 -- the text, then what is answered of it
-module _ (told : Told) (s : List ℕ) (at : ℕ) (a : TextAnswer) (ea : a ≡ text_answer s at) where
-  pub text_refused : (refusal : Refusal) → a ≡ Refused refusal → Refused refusal ≡ line_answer told s at
+module _ (told : Told) (s : List ℕ) (at : ℕ) (a : Result ℕ Refusal) (ea : a ≡ text_answer s at) where
+  pub text_refused : (refusal : Refusal) → a ≡ Err refusal → Err refusal ≡ line_answer told s at
   unfolding line_answer
   text_refused refusal e = rw (← ea, e)
 
-  pub text_judged : (end : ℕ) → a ≡ Ends end → (r : LineAnswer) → r ≡ of_text told at (take (end - at) (drop at s)) → r ≡ line_answer told s at
+  pub text_judged : (end : ℕ) → a ≡ Ok end → (r : Result Line Refusal) → r ≡ of_text told at (take (end - at) (drop at s)) → r ≡ line_answer told s at
   unfolding line_answer
   text_judged end e r er = rw (← ea, e) er
 
 -- the file's length, the offset, the line's end
 module _ (s : List ℕ) (at : ℕ) where
-  pub file_long : file_limit < length s → text_answer s at ≡ Refused (because FileTooLong file_limit)
+  pub file_long : file_limit < length s → text_answer s at ≡ Err (because FileTooLong file_limit)
   unfolding text_answer
   file_long h = simp (lt-ltb file_limit (length s))
 
   module _ (h : length s ≤ file_limit) where
-    pub past_file : length s < at → text_answer s at ≡ Refused (because NoLineEnd (length s))
+    pub past_file : length s < at → text_answer s at ≡ Err (because NoLineEnd (length s))
     unfolding text_answer
     past_file l = simp (le-ltb file_limit (length s), lt-ltb (length s) at)
 
     module _ (l : at ≤ length s) (end : ℕ) (ee : end ≡ line_end s at) (t : Bool) (et : t ≡ ends_well s end) where
-      pub no_end : not t ≡ true → Refused (because NoLineEnd end) ≡ text_answer s at
+      pub no_end : not t ≡ true → Err (because NoLineEnd end) ≡ text_answer s at
       unfolding text_answer
       no_end e = simp (le-ltb file_limit (length s), le-ltb (length s) at, ← ee, ← et, e)
 
-      pub line_ends : not t ≡ false → Ends end ≡ text_answer s at
+      pub line_ends : not t ≡ false → Ok end ≡ text_answer s at
       unfolding text_answer
       line_ends e = simp (le-ltb file_limit (length s), le-ltb (length s) at, ← ee, ← et, e)

@@ -8,20 +8,18 @@ use lib.ListN.{length}
 use Rattle.refusal.specs.Table.{because}
 use Rattle.refusal.specs.declared.Refusal.{Refusal}
 use Rattle.refusal.specs.declared.Reason.{Reason}
-use Rattle.fields.specs.declared.field.Tested.{Tested}
-use Rattle.fields.specs.declared.field.Tested.TheVariants.{Good, Bad}
 use Rattle.line.specs.Parts.{part_before}
 use Rattle.line.specs.Walk.{on_test, walk_by}
-use Rattle.line.specs.declared.walk.Walk.TheVariants.{Fine, Stopped}
 use Rattle.line.proofs.Passing.{Each}
+use Rattle.std.specs.Prelude.{⊤, Result, Ok, Err}
 
-fine_stopped : {A : Type 0} {refusal : Refusal} → Fine ≡ Stopped refusal → A
+fine_stopped : {A : Type 0} {refusal : Refusal} → ◌≡◌ {A = Result ⊤ Refusal} (Ok tt) (Err refusal) → A
 fine_stopped e = let z : ◌≡◌ {A = ℕ} 0 1 = cc in absurd (omega arith)
 
-stopped_by : {refusal other : Refusal} → Stopped refusal ≡ Stopped other → other ≡ refusal
+stopped_by : {refusal other : Refusal} → ◌≡◌ {A = Result ⊤ Refusal} (Err refusal) (Err other) → other ≡ refusal
 stopped_by e = cc
 
-module _ (test : ℕ → List ℕ → List ℕ → Tested) (further : ℕ → List ℕ → ℕ) where
+module _ (test : ℕ → List ℕ → List ℕ → Result ⊤ Reason) (further : ℕ → List ℕ → ℕ) where
   -- the place of the field behind these, the first of which is at this place
   abbrev pub place_behind : ℕ → List (List ℕ) → ℕ
   place_behind place [] = place
@@ -35,20 +33,20 @@ module _ (test : ℕ → List ℕ → List ℕ → Tested) (further : ℕ → Li
     pub parts : fs ≡ front ++ field ∷ more
     pub before : Each test n beside front
     pub why : Reason
-    pub here : test (n + length front) (part_before beside front) field ≡ Bad why
+    pub here : test (n + length front) (part_before beside front) field ≡ Err why
     pub is : refusal ≡ because why (place_behind place front)
 
   pub stopped_stops : (n place : ℕ) (beside : List ℕ) (fs : List (List ℕ)) (refusal : Refusal) →
-      walk_by test further n place beside fs ≡ Stopped refusal → Stops n place beside fs refusal
+      walk_by test further n place beside fs ≡ Err refusal → Stops n place beside fs refusal
   stopped_stops n place beside [] refusal e = fine_stopped e
   stopped_stops n place beside (f ∷ fs) refusal e =
       go (test n beside f) refl (λ q. stopped_stops (suc n) (further place f) f fs refusal q) e
     where
       go :
-          (t : Tested) → test n beside f ≡ t →
-          (walk_by test further (suc n) (further place f) f fs ≡ Stopped refusal → Stops (suc n) (further place f) f fs refusal) →
-          on_test t place (walk_by test further (suc n) (further place f) f fs) ≡ Stopped refusal → Stops n place beside (f ∷ fs) refusal
-      go Good t on q =
+          (t : Result ⊤ Reason) → test n beside f ≡ t →
+          (walk_by test further (suc n) (further place f) f fs ≡ Err refusal → Stops (suc n) (further place f) f fs refusal) →
+          on_test t place (walk_by test further (suc n) (further place f) f fs) ≡ Err refusal → Stops n place beside (f ∷ fs) refusal
+      go (Ok tt) t on q =
           let r = on q in
           record {
             front = f ∷ r.front;
@@ -60,7 +58,7 @@ module _ (test : ℕ → List ℕ → List ℕ → Tested) (further : ℕ → Li
             here = rw (add-suc n (length r.front), ← suc-add n (length r.front)) r.here;
             is = r.is;
           }
-      go (Bad why) t on q =
+      go (Err why) t on q =
           record {
             front = [];
             field = f;
@@ -73,9 +71,9 @@ module _ (test : ℕ → List ℕ → List ℕ → Tested) (further : ℕ → Li
           }
 
   pub stops_stopped : (n place : ℕ) (beside : List ℕ) (front : List (List ℕ)) (f : List ℕ) (more : List (List ℕ)) (why : Reason) →
-      Each test n beside front → test (n + length front) (part_before beside front) f ≡ Bad why →
-      walk_by test further n place beside (front ++ f ∷ more) ≡ Stopped (because why (place_behind place front))
+      Each test n beside front → test (n + length front) (part_before beside front) f ≡ Err why →
+      walk_by test further n place beside (front ++ f ∷ more) ≡ Err (because why (place_behind place front))
   stops_stopped n place beside [] f more why b h = rw (rw (add-zero n) at h)
   stops_stopped n place beside (g ∷ front) f more why b h =
-      let h' : test (suc n + length front) (part_before g front) f ≡ Bad why = rw (suc-add n (length front), ← add-suc n (length front)) h in
+      let h' : test (suc n + length front) (part_before g front) f ≡ Err why = rw (suc-add n (length front), ← add-suc n (length front)) h in
       rw b.0 (stops_stopped (suc n) (further place g) g front f more why b.1 h')

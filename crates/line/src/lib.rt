@@ -8,9 +8,8 @@ mod read;
 mod scan;
 mod walk;
 
-pub use find::{FieldAnswer, find_field};
+pub use find::{Span, find_field};
 pub use need::{is_filled, lacks_field};
 pub use part::field_in;
-pub use read::{Line, LineAnswer, judge_line, read_line};
-pub use scan::{FILE_LIMIT, TextAnswer, text_at};
-pub use walk::Walk;
+pub use read::{Line, judge_line, read_line};
+pub use scan::{FILE_LIMIT, text_at};

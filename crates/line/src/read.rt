@@ -5,10 +5,8 @@ ghost use Rattle.line.specs.Parts.{name_of, fields_of};
 ghost use Rattle.line.specs.Line.{of_text, of_kind, after_walk, file_limit, line_answer, read_answer};
 
 use crate::part::field_in;
-use crate::scan::TextAnswer;
-use crate::walk::Walk;
 use crate::{need, scan, walk};
-use records::{Due, Named, Record, Version, VersionTold};
+use records::{Due, Record, Version};
 use refusal::{Reason, Refusal};
 
 #[derive(Clone, Copy)]
@@ -19,19 +17,13 @@ pub struct Line {
     pub next: usize,
 }
 
-#[derive(Clone, Copy)]
-pub enum LineAnswer {
-    Accepted(Line),
-    Refused(Refusal),
-}
-
 // Judges the line that starts here, alone, under the rules of the version with this number.
-pub fn read_line(version: u32, file: &[u8], offset: usize) -> LineAnswer
+pub fn read_line(version: u32, file: &[u8], offset: usize) -> Result<Line, Refusal>
     ensures { result ≡ read_answer version file.now offset }
 {
     let told = records::version_numbered(version);
-    let VersionTold::Either(one) = told else {
-        return LineAnswer::Refused(Refusal {
+    let Some(one) = told else {
+        return Err(Refusal {
             why: Reason::UnknownVersion,
             place: 0,
         });
@@ -40,31 +32,31 @@ pub fn read_line(version: u32, file: &[u8], offset: usize) -> LineAnswer
 }
 
 // Judges the line that starts here, under a version's rules and where this record is due.
-pub fn judge_line(version: Version, due: Due, file: &[u8], offset: usize) -> LineAnswer
+pub fn judge_line(version: Version, due: Due, file: &[u8], offset: usize) -> Result<Line, Refusal>
     ensures { result ≡ line_answer (record { rules = profile version; due = due }) file.now offset }
 {
     let answer = scan::find_text(file, offset);
     match answer {
-        TextAnswer::Ends(end) => of_text(version, due, offset, &file[offset..end]),
-        TextAnswer::Refused(refusal) => LineAnswer::Refused(refusal),
+        Ok(end) => of_text(version, due, offset, &file[offset..end]),
+        Err(refusal) => Err(refusal),
     }
 }
 
 // The text of a line that starts at this place and ends well.
-fn of_text(version: Version, due: Due, offset: usize, line: &[u8]) -> LineAnswer
+fn of_text(version: Version, due: Due, offset: usize, line: &[u8]) -> Result<Line, Refusal>
     requires { offset + length line.now ≤ file_limit }
     ensures { result ≡ of_text (record { rules = profile version; due = due }) offset line.now }
 {
     let name = field_in(line, 0);
     let named = records::record_named(name);
-    let Named::Known(kind) = named else {
-        return LineAnswer::Refused(Refusal {
+    let Some(kind) = named else {
+        return Err(Refusal {
             why: Reason::UnknownRecord,
             place: offset,
         });
     };
     if !records::may_come(due, kind) {
-        return LineAnswer::Refused(Refusal {
+        return Err(Refusal {
             why: Reason::OutOfOrder,
             place: offset,
         });
@@ -73,13 +65,19 @@ fn of_text(version: Version, due: Due, offset: usize, line: &[u8]) -> LineAnswer
 }
 
 // The text of a line of a record that may come, whose type is so long.
-fn of_kind(version: Version, kind: Record, offset: usize, line: &[u8], name: usize) -> LineAnswer
+fn of_kind(
+    version: Version,
+    kind: Record,
+    offset: usize,
+    line: &[u8],
+    name: usize,
+) -> Result<Line, Refusal>
     requires { (name ≡ length (name_of line.now)) × (offset + length line.now ≤ file_limit) }
     ensures { result ≡ of_kind (profile version) kind offset line.now }
 {
     let count = scan::field_count(line);
     if !records::count_fits(kind, count) {
-        return LineAnswer::Refused(Refusal {
+        return Err(Refusal {
             why: Reason::FieldCount,
             place: offset,
         });
@@ -89,20 +87,26 @@ fn of_kind(version: Version, kind: Record, offset: usize, line: &[u8], name: usi
 }
 
 // The fields of a line, so many, are in order or one is not; then what a feature needs.
-fn after_walk(walked: Walk, kind: Record, count: usize, offset: usize, line: &[u8]) -> LineAnswer
+fn after_walk(
+    walked: Result<(), Refusal>,
+    kind: Record,
+    count: usize,
+    offset: usize,
+    line: &[u8],
+) -> Result<Line, Refusal>
     requires { (count ≡ length (fields_of line.now)) × (offset + length line.now ≤ file_limit) }
     ensures { result ≡ after_walk walked kind offset line.now }
 {
-    if let Walk::Stopped(refusal) = walked {
-        return LineAnswer::Refused(refusal);
+    if let Err(refusal) = walked {
+        return Err(refusal);
     }
     if need::lacks_field(kind, line) {
-        return LineAnswer::Refused(Refusal {
+        return Err(Refusal {
             why: Reason::FeatureLacks,
             place: offset,
         });
     }
-    LineAnswer::Accepted(Line {
+    Ok(Line {
         kind,
         count,
         next: offset + line.len() + 2,

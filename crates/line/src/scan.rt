@@ -9,38 +9,31 @@ use refusal::{Reason, Refusal};
 // The most bytes that a file may have.
 pub const FILE_LIMIT: usize = 65535;
 
-#[derive(Clone, Copy)]
-pub enum TextAnswer {
-    // The text of the line runs up to this byte, where CR LF stands.
-    Ends(usize),
-    Refused(Refusal),
-}
-
 // Finds the text of the line that starts here.
-pub fn find_text(file: &[u8], offset: usize) -> TextAnswer
+pub fn find_text(file: &[u8], offset: usize) -> Result<usize, Refusal>
     ensures { result ≡ text_answer file.now offset }
 {
     let n = file.len();
     if FILE_LIMIT < n {
-        return TextAnswer::Refused(Refusal {
+        return Err(Refusal {
             why: Reason::FileTooLong,
             place: FILE_LIMIT,
         });
     }
     if n < offset {
-        return TextAnswer::Refused(Refusal {
+        return Err(Refusal {
             why: Reason::NoLineEnd,
             place: n,
         });
     }
     let stop = line_end(file, offset);
     if !ends_well(file, stop) {
-        return TextAnswer::Refused(Refusal {
+        return Err(Refusal {
             why: Reason::NoLineEnd,
             place: stop,
         });
     }
-    TextAnswer::Ends(stop)
+    Ok(stop)
 }
 
 // The first byte from here on that is no text byte, or the end of the file.

@@ -6,19 +6,18 @@ ghost use Rattle.line.specs.Walk.{walk};
 ghost use Rattle.line.specs.Line.{file_limit};
 
 use crate::scan::field_end;
-use fields::Tested;
 use records::{Record, Version};
 use refusal::Refusal;
 
-#[derive(Clone, Copy)]
-pub enum Walk {
-    Fine,
-    Stopped(Refusal),
-}
-
 // Tests the fields of a line that starts at the place at and whose record type is so long. Beside a field stands the part in front
 // of it.
-pub fn walk_fields(version: Version, kind: Record, line: &[u8], offset: usize, name: usize) -> Walk
+pub fn walk_fields(
+    version: Version,
+    kind: Record,
+    line: &[u8],
+    offset: usize,
+    name: usize,
+) -> Result<(), Refusal>
     requires { (name ≡ length (name_of line.now)) × (offset + length line.now ≤ file_limit) }
     ensures { result ≡ walk (profile version kind) 1 (offset + length (name_of line.now) + 1)
         (name_of line.now) (fields_of line.now) }
@@ -35,8 +34,8 @@ pub fn walk_fields(version: Version, kind: Record, line: &[u8], offset: usize, n
             &line[beside..start - 1],
             &line[start..end],
         );
-        if let Tested::Bad(why) = tested {
-            return Walk::Stopped(Refusal {
+        if let Err(why) = tested {
+            return Err(Refusal {
                 why,
                 place: offset + start,
             });
@@ -45,5 +44,5 @@ pub fn walk_fields(version: Version, kind: Record, line: &[u8], offset: usize, n
         start = end + 1;
         number += 1;
     }
-    Walk::Fine
+    Ok(())
 }

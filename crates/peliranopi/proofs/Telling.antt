@@ -5,13 +5,11 @@ use mathlib.Core.List.{List}
 use Rattle.refusal.specs.Table.{Verdict, number_told, place_told}
 use Rattle.check_characters.specs.Answer.{issued_to}
 use Rattle.check_characters.specs.Day.{answers_after}
-use Rattle.check_characters.specs.declared.answer.IssueAnswer.{IssueAnswer}
-use Rattle.check_characters.specs.declared.day.DayAnswer.{DayAnswer}
-use Rattle.records.specs.declared.record.Named.{Named}
 use Rattle.writer.specs.Write.{written_to}
-use Rattle.writer.specs.declared.write.WriteAnswer.{WriteAnswer}
 use Rattle.purpose.specs.Purpose.{list_after, output_after}
-use Rattle.purpose.specs.declared.write.PurposeAnswer.{PurposeAnswer}
+use Rattle.std.specs.Prelude.{Option, Result}
+use Rattle.records.specs.declared.record.Record.{Record}
+use Rattle.refusal.specs.declared.Refusal.{Refusal}
 
 -- a value that is told of an answer is that of the answer's definition, where the answer's case is known
 pub told : {A B : Type 0} (value : A → B) (answer definition known : A) (n : B) → answer ≡ definition → answer ≡ known → n ≡ value known →
@@ -32,22 +30,22 @@ pub left : {A : Type 0} (buffer : A → List ℕ) (answer definition : A) (after
     after ≡ buffer definition
 left buffer answer definition after e t = t ∙ ap buffer e
 
-pub line_left : (kind : Named) (fs : List (List ℕ)) (out : List ℕ) (fill : ℕ) (answer definition : WriteAnswer) (after : List ℕ) →
+pub line_left : (kind : Option Record) (fs : List (List ℕ)) (out : List ℕ) (fill : ℕ) (answer definition : Result ℕ Refusal) (after : List ℕ) →
     answer ≡ definition → after ≡ written_to answer kind fs out fill → after ≡ written_to definition kind fs out fill
-line_left kind fs out fill = left (λ (a : WriteAnswer). written_to a kind fs out fill)
+line_left kind fs out fill = left (λ (a : Result ℕ Refusal). written_to a kind fs out fill)
 
-pub list_left : (words : ℕ) (starts : List ℕ) (answer definition : PurposeAnswer) (after : List ℕ) → answer ≡ definition →
+pub list_left : (words : ℕ) (starts : List ℕ) (answer definition : Result ℕ Refusal) (after : List ℕ) → answer ≡ definition →
     after ≡ list_after answer words starts → after ≡ list_after definition words starts
-list_left words starts = left (λ (a : PurposeAnswer). list_after a words starts)
+list_left words starts = left (λ (a : Result ℕ Refusal). list_after a words starts)
 
-pub purpose_left : (text out : List ℕ) (answer definition : PurposeAnswer) (after : List ℕ) → answer ≡ definition →
+pub purpose_left : (text out : List ℕ) (answer definition : Result ℕ Refusal) (after : List ℕ) → answer ≡ definition →
     after ≡ output_after answer text out → after ≡ output_after definition text out
-purpose_left text out = left (λ (a : PurposeAnswer). output_after a text out)
+purpose_left text out = left (λ (a : Result ℕ Refusal). output_after a text out)
 
-pub number_left : (body : List ℕ) (check : ℕ) (out : List ℕ) (answer definition : IssueAnswer) (after : List ℕ) → answer ≡ definition →
+pub number_left : (body : List ℕ) (check : ℕ) (out : List ℕ) (answer definition : Result ℕ Refusal) (after : List ℕ) → answer ≡ definition →
     after ≡ issued_to answer body check out → after ≡ issued_to definition body check out
-number_left body check out = left (λ (a : IssueAnswer). issued_to a body check out)
+number_left body check out = left (λ (a : Result ℕ Refusal). issued_to a body check out)
 
-pub day_left : (numbers answers : List ℕ) (answer definition : DayAnswer) (after : List ℕ) → answer ≡ definition →
+pub day_left : (numbers answers : List ℕ) (answer definition : Result ℕ Refusal) (after : List ℕ) → answer ≡ definition →
     after ≡ answers_after answer numbers answers → after ≡ answers_after definition numbers answers
-day_left numbers answers = left (λ (a : DayAnswer). answers_after a numbers answers)
+day_left numbers answers = left (λ (a : Result ℕ Refusal). answers_after a numbers answers)

@@ -1,22 +1,22 @@
 -- What each call for C and Rust leaves: the number that it returns, the numbers behind the pointers, and the lent buffers.
-use Rattle.std.specs.Prelude.{ℕ, ◌≡◌, List, length}
-use Rattle.refusal.specs.Table.{Verdict, number_told, place_told}
-use Rattle.check_characters.specs.Answer.{issued_to, check_verdict, issue_verdict}
+use Rattle.std.specs.Prelude.{ℕ, ◌≡◌, List, length, Result}
+use Rattle.refusal.specs.Table.{Verdict, number_told, place_told, verdict_on}
+use Rattle.check_characters.specs.Answer.{issued_to}
 use Rattle.check_characters.specs.Mod37.{check_of}
-use Rattle.check_characters.specs.Number.{issue_answer, number_verdict, checked_number}
-use Rattle.check_characters.specs.Day.{day_answer, answers_after, day_verdict}
-use Rattle.check_characters.specs.Wedge.{next_carry, carry_verdict}
+use Rattle.check_characters.specs.Number.{issue_answer, checked_number}
+use Rattle.check_characters.specs.Day.{day_answer, answers_after}
+use Rattle.check_characters.specs.Wedge.{next_carry}
 use Rattle.check_characters.specs.Iban.{checked_iban}
-use Rattle.check_digits.specs.Identcode.{check_digit_of, checked_identcode, parts_answer, issue_identcode_answer, parts_verdict}
-use Rattle.check_characters.specs.declared.answer.IssueAnswer.{IssueAnswer}
-use Rattle.line.specs.Line.{read_answer, line_verdict}
-use Rattle.line.specs.Find.{find_answer, field_verdict}
+use Rattle.check_digits.specs.Identcode.{check_digit_of, checked_identcode, parts_answer, issue_identcode_answer}
+use Rattle.line.specs.Line.{read_answer}
+use Rattle.line.specs.Find.{find_answer}
 use Rattle.file.specs.Lent.{Lent}
-use Rattle.file.specs.File.{judged, list_of, file_verdict}
-use Rattle.writer.specs.Write.{record_numbered, between, write_answer, written_to, write_verdict}
-use Rattle.purpose.specs.Purpose.{purpose_answer, purpose_of, list_after, output_after, purpose_verdict}
+use Rattle.file.specs.File.{judged, list_of}
+use Rattle.writer.specs.Write.{record_numbered, between, write_answer, written_to}
+use Rattle.purpose.specs.Purpose.{purpose_answer, purpose_of, list_after, output_after}
 use Rattle.peliranopi.specs.Told.{lines_told, parcels_told, cents_told, record_told, count_told, next_told, start_told, length_told}
 use Rattle.peliranopi.specs.Told.{written_told, purpose_told, issued_told, kind_told, carry_told, passed_told, parts_told}
+use Rattle.refusal.specs.declared.Refusal.{Refusal}
 
 -- what every call tells: its number, and the place
 abbrev pub Tells : Verdict → ℕ → ℕ → Type 0
@@ -26,7 +26,7 @@ Tells verdict number place = (number ≡ number_told verdict) × (place ≡ plac
 abbrev pub JudgeTells : List ℕ → Lent → ℕ → ℕ → ℕ → ℕ → ℕ → List ℕ → Type 0
 JudgeTells file lent number lines parcels cents place list =
     let said = judged file lent in
-    Tells (file_verdict said.answer) number place
+    Tells (verdict_on said.answer) number place
     × (lines ≡ lines_told said.answer) × (parcels ≡ parcels_told said.answer) × (cents ≡ cents_told said.answer)
     × (list ≡ list_of lent.words said.starts)
 
@@ -34,20 +34,20 @@ JudgeTells file lent number lines parcels cents place list =
 abbrev pub LineTells : ℕ → List ℕ → ℕ → ℕ → ℕ → ℕ → ℕ → ℕ → Type 0
 LineTells version file offset number kind fields next place =
     let answer = read_answer version file offset in
-    Tells (line_verdict answer) number place
+    Tells (verdict_on answer) number place
     × (kind ≡ record_told answer) × (fields ≡ count_told answer) × (next ≡ next_told answer)
 
 -- finding a field of it
 abbrev pub FieldTells : ℕ → List ℕ → ℕ → ℕ → ℕ → ℕ → ℕ → ℕ → Type 0
 FieldTells version file offset field number start long place =
     let answer = find_answer version file offset field in
-    Tells (field_verdict answer) number place × (start ≡ start_told answer) × (long ≡ length_told answer)
+    Tells (verdict_on answer) number place × (start ≡ start_told answer) × (long ≡ length_told answer)
 
 -- writing a line into an output from its fill on, told a version
 abbrev pub WriteTells : ℕ → ℕ → List ℕ → List ℕ → List ℕ → ℕ → ℕ → ℕ → ℕ → List ℕ → Type 0
 WriteTells version kind text ends output fill number bytes place after =
     let answer = write_answer version kind text ends (length output) fill in
-    Tells (write_verdict answer) number place
+    Tells (verdict_on answer) number place
     × (bytes ≡ written_told answer)
     × (after ≡ written_to answer (record_numbered kind) (between text ends) output fill)
 
@@ -55,7 +55,7 @@ WriteTells version kind text ends output fill number bytes place after =
 abbrev pub PurposeTells : List ℕ → ℕ → Lent → List ℕ → ℕ → ℕ → ℕ → List ℕ → List ℕ → Type 0
 PurposeTells file line lent output number bytes place list after =
     let answer = purpose_answer file line lent (length output) in
-    Tells (purpose_verdict answer) number place
+    Tells (verdict_on answer) number place
     × (bytes ≡ purpose_told answer)
     × (list ≡ list_after answer lent.words (judged file lent).starts)
     × (after ≡ output_after answer (purpose_of file line lent) output)
@@ -64,18 +64,18 @@ PurposeTells file line lent output number bytes place list after =
 abbrev pub NumberTells : List ℕ → ℕ → ℕ → ℕ → Type 0
 NumberTells symbols number kind place =
     let answer = checked_number symbols in
-    Tells (number_verdict answer) number place × (kind ≡ kind_told answer)
+    Tells (verdict_on answer) number place × (kind ≡ kind_told answer)
 
 -- checking a day's numbers
 abbrev pub DayTells : List ℕ → List ℕ → ℕ → ℕ → ℕ → List ℕ → Type 0
 DayTells numbers answers number passed place after =
     let answer = day_answer numbers (length answers) in
-    Tells (day_verdict answer) number place × (passed ≡ passed_told answer) × (after ≡ answers_after answer numbers answers)
+    Tells (verdict_on answer) number place × (passed ≡ passed_told answer) × (after ≡ answers_after answer numbers answers)
 
 -- issuing a number with its check: what the answer tells, and the output then
-abbrev pub IssuedTells : IssueAnswer → List ℕ → ℕ → List ℕ → ℕ → ℕ → ℕ → List ℕ → Type 0
+abbrev pub IssuedTells : Result ℕ Refusal → List ℕ → ℕ → List ℕ → ℕ → ℕ → ℕ → List ℕ → Type 0
 IssuedTells answer body check output number bytes place after =
-    Tells (issue_verdict answer) number place × (bytes ≡ issued_told answer) × (after ≡ issued_to answer body check output)
+    Tells (verdict_on answer) number place × (bytes ≡ issued_told answer) × (after ≡ issued_to answer body check output)
 
 abbrev pub IssueTells : List ℕ → List ℕ → ℕ → ℕ → ℕ → List ℕ → Type 0
 IssueTells body output number bytes place after =
@@ -85,21 +85,21 @@ IssueTells body output number bytes place after =
 abbrev pub CarryTells : ℕ → ℕ → ℕ → ℕ → ℕ → Type 0
 CarryTells carry key number next place =
     let answer = next_carry carry key in
-    Tells (carry_verdict answer) number place × (next ≡ carry_told answer)
+    Tells (verdict_on answer) number place × (next ≡ carry_told answer)
 
 -- checking an IBAN
 abbrev pub IbanTells : List ℕ → ℕ → ℕ → Type 0
-IbanTells symbols number place = Tells (check_verdict (checked_iban symbols)) number place
+IbanTells symbols number place = Tells (verdict_on (checked_iban symbols)) number place
 
 -- checking an identcode
 abbrev pub IdentcodeTells : List ℕ → ℕ → ℕ → Type 0
-IdentcodeTells code number place = Tells (check_verdict (checked_identcode code)) number place
+IdentcodeTells code number place = Tells (verdict_on (checked_identcode code)) number place
 
 -- reading its parts
 abbrev pub PartsTells : List ℕ → ℕ → List ℕ → ℕ → Type 0
 PartsTells code number parts place =
     let answer = parts_answer code in
-    Tells (parts_verdict answer) number place × (parts ≡ parts_told answer)
+    Tells (verdict_on answer) number place × (parts ≡ parts_told answer)
 
 -- issuing one
 abbrev pub IssueIdentcodeTells : List ℕ → List ℕ → ℕ → ℕ → ℕ → List ℕ → Type 0

@@ -3,8 +3,6 @@ ghost use Rattle.std.specs.Prelude.{length};
 ghost use Rattle.peliranopi.specs.Calls.{JudgeTells, PurposeTells};
 
 use crate::tell;
-use file::FileAnswer;
-use purpose::PurposeAnswer;
 
 pub fn peliranopi_judge(
     file: &[u8],
@@ -20,13 +18,13 @@ pub fn peliranopi_judge(
 {
     let answer = file::judge(file, countries, list);
     match answer {
-        FileAnswer::Accepted(totals) => {
+        Ok(totals) => {
             *lines = totals.lines;
             *parcels = totals.parcels;
             *cents = totals.cents;
             tell::accepted(place)
         }
-        FileAnswer::Refused(refusal) => {
+        Err(refusal) => {
             *lines = 0;
             *parcels = 0;
             *cents = 0;
@@ -49,11 +47,11 @@ pub fn peliranopi_write_purpose(
 {
     let answer = purpose::write_purpose(file, countries, line, list, output);
     match answer {
-        PurposeAnswer::Written(bytes) => {
+        Ok(bytes) => {
             *written = bytes;
             tell::accepted(place)
         }
-        PurposeAnswer::Refused(refusal) => {
+        Err(refusal) => {
             *written = 0;
             tell::refused(refusal, place)
         }

@@ -4,9 +4,7 @@ ghost use Rattle.peliranopi.specs.Told.{record_number};
 ghost use Rattle.peliranopi.specs.Calls.{LineTells, FieldTells, WriteTells};
 
 use crate::tell;
-use line::{FieldAnswer, LineAnswer};
 use records::Record;
-use writer::WriteAnswer;
 
 pub fn peliranopi_read_line(
     version: u32,
@@ -21,14 +19,14 @@ pub fn peliranopi_read_line(
 {
     let answer = line::read_line(version, file, offset);
     match answer {
-        LineAnswer::Accepted(line) => {
+        Ok(line) => {
             let which = line.kind;
             *kind = record_number(which);
             *fields = line.count;
             *next = line.next;
             tell::accepted(place)
         }
-        LineAnswer::Refused(refusal) => {
+        Err(refusal) => {
             *kind = 0;
             *fields = 0;
             *next = 0;
@@ -50,15 +48,12 @@ pub fn peliranopi_find_field(
 {
     let answer = line::find_field(version, file, offset, number);
     match answer {
-        FieldAnswer::Found {
-            start: from,
-            long: found,
-        } => {
-            *start = from;
-            *long = found;
+        Ok(span) => {
+            *start = span.start;
+            *long = span.long;
             tell::accepted(place)
         }
-        FieldAnswer::Refused(refusal) => {
+        Err(refusal) => {
             *start = 0;
             *long = 0;
             tell::refused(refusal, place)
@@ -81,11 +76,11 @@ pub fn peliranopi_write_line(
 {
     let answer = writer::write_line(version, kind, text, ends, output, fill);
     match answer {
-        WriteAnswer::Written(bytes) => {
+        Ok(bytes) => {
             *written = bytes;
             tell::accepted(place)
         }
-        WriteAnswer::Refused(refusal) => {
+        Err(refusal) => {
             *written = 0;
             tell::refused(refusal, place)
         }

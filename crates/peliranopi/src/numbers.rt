@@ -1,24 +1,25 @@
 // The calls on DPD numbers and their carry, IBANs and identcodes.
+ghost use Rattle.refusal.specs.Table.{verdict_on};
 ghost use Rattle.std.specs.Prelude.{◌≡◌};
-ghost use Rattle.check_characters.specs.Answer.{check_verdict, issue_verdict};
 ghost use Rattle.peliranopi.specs.Told.{kind_number, issued_told, as_numbers};
 ghost use Rattle.peliranopi.specs.Calls.{Tells, NumberTells, IssueTells, CarryTells, IbanTells, IdentcodeTells, PartsTells};
 ghost use Rattle.peliranopi.specs.Calls.{DayTells, IssueIdentcodeTells};
 
 use crate::tell;
-use check_characters::{CarryAnswer, CheckAnswer, DayAnswer, IssueAnswer, Kind, NumberAnswer};
-use check_digits::{Parts, PartsAnswer};
+use check_characters::Kind;
+use check_digits::Parts;
+use refusal::Refusal;
 
 pub fn peliranopi_check_number(symbols: &[u8], kind: &mut u32, place: &mut usize) -> u32
     ensures { NumberTells symbols.now result kind.new place.new }
 {
     let answer = check_characters::check_number(symbols);
     match answer {
-        NumberAnswer::Accepted(which) => {
+        Ok(which) => {
             *kind = kind_number(which);
             tell::accepted(place)
         }
-        NumberAnswer::Refused(refusal) => {
+        Err(refusal) => {
             *kind = 0;
             tell::refused(refusal, place)
         }
@@ -35,11 +36,11 @@ pub fn peliranopi_check_numbers(
 {
     let answer = check_characters::check_numbers(numbers, answers);
     match answer {
-        DayAnswer::Answered(count) => {
+        Ok(count) => {
             *passed = count;
             tell::accepted(place)
         }
-        DayAnswer::Refused(refusal) => {
+        Err(refusal) => {
             *passed = 0;
             tell::refused(refusal, place)
         }
@@ -62,11 +63,11 @@ pub fn peliranopi_next_carry(carry: u32, key: u8, next: &mut u32, place: &mut us
 {
     let answer = check_characters::next_carry(carry, key);
     match answer {
-        CarryAnswer::Next(after) => {
+        Ok(after) => {
             *next = after;
             tell::accepted(place)
         }
-        CarryAnswer::Refused(refusal) => {
+        Err(refusal) => {
             *next = 0;
             tell::refused(refusal, place)
         }
@@ -91,11 +92,11 @@ pub fn peliranopi_read_identcode(code: &[u8], parts: &mut [usize; 12], place: &m
 {
     let answer = check_digits::read_identcode(code);
     match answer {
-        PartsAnswer::Read(found) => {
+        Ok(found) => {
             *parts = as_numbers(found);
             tell::accepted(place)
         }
-        PartsAnswer::Refused(refusal) => {
+        Err(refusal) => {
             *parts = [0; 12];
             tell::refused(refusal, place)
         }
@@ -115,25 +116,25 @@ pub fn peliranopi_issue_identcode(
 }
 
 // What checking a number tells.
-fn tell_checked(answer: CheckAnswer, place: &mut usize) -> u32
-    ensures { Tells (check_verdict answer) result place.new }
+fn tell_checked(answer: Result<(), Refusal>, place: &mut usize) -> u32
+    ensures { Tells (verdict_on answer) result place.new }
 {
     match answer {
-        CheckAnswer::Accepted => tell::accepted(place),
-        CheckAnswer::Refused(refusal) => tell::refused(refusal, place),
+        Ok(()) => tell::accepted(place),
+        Err(refusal) => tell::refused(refusal, place),
     }
 }
 
 // What issuing a number tells.
-fn tell_issued(answer: IssueAnswer, written: &mut usize, place: &mut usize) -> u32
-    ensures { Tells (issue_verdict answer) result place.new × (written.new ≡ issued_told answer) }
+fn tell_issued(answer: Result<usize, Refusal>, written: &mut usize, place: &mut usize) -> u32
+    ensures { Tells (verdict_on answer) result place.new × (written.new ≡ issued_told answer) }
 {
     match answer {
-        IssueAnswer::Issued(bytes) => {
+        Ok(bytes) => {
             *written = bytes;
             tell::accepted(place)
         }
-        IssueAnswer::Refused(refusal) => {
+        Err(refusal) => {
             *written = 0;
             tell::refused(refusal, place)
         }

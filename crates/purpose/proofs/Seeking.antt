@@ -8,7 +8,7 @@ use native.Mathlib.Omega.{arith}
 use lib.ListN.{length, drop, get_or, drop_of_length-le}
 use lib.Seq.{drop-cons}
 use borrow.Author.Tests.{le-leb, lt-leb, not-true, not-false}
-use Rattle.std.specs.Prelude.{if◌then◌else◌}
+use Rattle.std.specs.Prelude.{if◌then◌else◌, Some, None}
 use Rattle.text.specs.Quoted.{bytes}
 use Rattle.line.specs.Parts.{split}
 use Rattle.line.specs.Need.{is_filled}
@@ -17,7 +17,6 @@ use Rattle.purpose.specs.At.{is_typed}
 use Rattle.purpose.specs.Source.{is_cash_line, shipment_above, first_parcel, from_shipment, for_feature, source_of}
 use Rattle.purpose.specs.declared.source.Source.{Source}
 use Rattle.purpose.specs.declared.source.Source.TheVariants.{Field}
-use Rattle.purpose.specs.declared.source.Sourced.TheVariants.{From, Nowhere}
 
 -- the loop upward from a line: the shipment above the line i is the one looked for
 module _ (s starts : List ℕ) (i z : ℕ) (left : shipment_above s starts i ≡ z) where
@@ -64,15 +63,15 @@ module _ (s starts : List ℕ) (n at : ℕ) (ea : at ≡ get_or starts n 0) (t :
 
 -- the source for any line
 module _ (s starts : List ℕ) (n : ℕ) where
-  pub past_lines : length starts ≤ n → Nowhere ≡ source_of s starts n
+  pub past_lines : length starts ≤ n → None ≡ source_of s starts n
   unfolding source_of
   past_lines h = rw (le-leb (length starts) n h)
 
   module _ (h : n < length starts) (at : ℕ) (ea : at ≡ get_or starts n 0) (t : Bool) (et : t ≡ is_cash_line s at) where
-    pub no_cash_line : not t ≡ true → Nowhere ≡ source_of s starts n
+    pub no_cash_line : not t ≡ true → None ≡ source_of s starts n
     unfolding source_of
     no_cash_line e = rw (lt-leb (length starts) n h, ← ea, ← et, not-true t e)
 
-    pub cash_line : not t ≡ false → (r : Source) → r ≡ for_feature s starts n → From r ≡ source_of s starts n
+    pub cash_line : not t ≡ false → (r : Source) → r ≡ for_feature s starts n → Some r ≡ source_of s starts n
     unfolding source_of
     cash_line e r er = rw (lt-leb (length starts) n h, ← ea, ← et, not-false t e, er)

@@ -1,13 +1,11 @@
 -- Document 01, 'Payment purpose' (document 000, 5.6.4): which field, or which two, supply the text. A file's lines are known here by
 -- where they start.
-use Rattle.std.specs.Prelude.{ℕ, zero, suc, ◌+◌, Bool, ◌&&◌, List, [], ◌∷◌, leb, length, drop, get_or, if◌then◌else◌}
+use Rattle.std.specs.Prelude.{ℕ, zero, suc, ◌+◌, Bool, ◌&&◌, List, [], ◌∷◌, leb, length, drop, get_or, if◌then◌else◌, Option, Some, None}
 use Rattle.text.specs.Quoted.{bytes}
 use Rattle.text.specs.Scan.{same}
 use Rattle.purpose.specs.At.{field_at, filled_at, is_typed}
 use Rattle.purpose.specs.declared.source.Source.{Source}
 use Rattle.purpose.specs.declared.source.Source.TheVariants.{Field, Joined}
-use Rattle.purpose.specs.declared.source.Sourced.{Sourced}
-use Rattle.purpose.specs.declared.source.Sourced.TheVariants.{From, Nowhere}
 
 -- "a 006 line": a 060 line with this code
 unfoldable pub is_cash_line : List ℕ → ℕ → Bool
@@ -44,8 +42,8 @@ for_feature file starts n =
     else in_shipment file starts (shipment_above file starts n)
 
 -- "no such field or line, or not a 006 line"
-unfoldable pub source_of : List ℕ → List ℕ → ℕ → Sourced
+unfoldable pub source_of : List ℕ → List ℕ → ℕ → Option Source
 source_of file starts n =
-    if leb (length starts) n then Nowhere
-    else if is_cash_line file (get_or starts n 0) then From (for_feature file starts n)
-    else Nowhere
+    if leb (length starts) n then None
+    else if is_cash_line file (get_or starts n 0) then Some (for_feature file starts n)
+    else None

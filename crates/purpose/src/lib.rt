@@ -7,4 +7,4 @@ mod shipment;
 mod source;
 mod write;
 
-pub use write::{PurposeAnswer, write_purpose};
+pub use write::write_purpose;

@@ -13,25 +13,19 @@ pub enum Source {
     Joined { parcel: usize, shipment: usize },
 }
 
-#[derive(Clone, Copy)]
-pub enum Sourced {
-    From(Source),
-    Nowhere,
-}
-
 // The source for the line with this number; the first words of the list, as many as the file has lines, hold where each starts.
-pub fn find_source(file: &[u8], list: &[u32], lines: usize, number: usize) -> Sourced
+pub fn find_source(file: &[u8], list: &[u32], lines: usize, number: usize) -> Option<Source>
     requires { lines ≤ length list.now }
     ensures { result ≡ source_of file.now (take lines list.now) number }
 {
     let starts = &list[..lines];
     if starts.len() <= number {
-        return Sourced::Nowhere;
+        return None;
     }
     if !is_cash_line(file, offset_of(starts, number)) {
-        return Sourced::Nowhere;
+        return None;
     }
-    Sourced::From(for_feature(file, starts, number))
+    Some(for_feature(file, starts, number))
 }
 
 // Whether a 060 line with the code 006 starts here.

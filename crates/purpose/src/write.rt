@@ -3,16 +3,8 @@ ghost use Rattle.std.specs.Prelude.{length};
 ghost use Rattle.purpose.specs.Purpose.{Purposes};
 
 use crate::cut::PURPOSE_LONG;
-use crate::source::Sourced;
 use crate::{cut, source};
-use file::FileAnswer;
 use refusal::{Reason, Refusal};
-
-#[derive(Clone, Copy)]
-pub enum PurposeAnswer {
-    Written(usize),
-    Refused(Refusal),
-}
 
 // Writes the purpose of the line with this number at the output's start. Written, the list is as for the whole file; otherwise all
 // its words are 0 and the output is as it was.
@@ -22,30 +14,30 @@ pub fn write_purpose(
     line: usize,
     list: &mut [u32],
     output: &mut [u8],
-) -> PurposeAnswer
+) -> Result<usize, Refusal>
     ensures { Purposes file.now line (record { countries = countries.now; words = length list.old })
         output.old result list.new output.new }
 {
     let answer = file::judge(file, countries, list);
     match answer {
-        FileAnswer::Accepted(totals) => {
+        Ok(totals) => {
             let sourced = source::find_source(file, list, totals.lines, line);
-            let Sourced::From(source) = sourced else {
+            let Some(source) = sourced else {
                 file::clear(list);
-                return PurposeAnswer::Refused(Refusal {
+                return Err(Refusal {
                     why: Reason::NotThere,
                     place: 0,
                 });
             };
             if output.len() < PURPOSE_LONG {
                 file::clear(list);
-                return PurposeAnswer::Refused(Refusal {
+                return Err(Refusal {
                     why: Reason::OutputTooShort,
                     place: 0,
                 });
             }
-            PurposeAnswer::Written(cut::write_source(file, source, output))
+            Ok(cut::write_source(file, source, output))
         }
-        FileAnswer::Refused(refusal) => PurposeAnswer::Refused(refusal),
+        Err(refusal) => Err(refusal),
     }
 }

@@ -9,8 +9,8 @@ use Rattle.text.specs.Scan.{same}
 use Rattle.records.specs.Record.{type_of, named, count_fits, row_of, record_at, may_follow, may_come, may_end}
 use Rattle.records.specs.declared.record.Record.{Record}
 use Rattle.records.specs.declared.record.Record.TheVariants.{Header, Sender, Shipment, Parcel, Product, Feature}
-use Rattle.records.specs.declared.record.Named.TheVariants.{Known, Unknown}
 use Rattle.records.specs.declared.record.Due.{Due}
+use Rattle.std.specs.Prelude.{Some, None}
 
 pub row_below : (row : ℕ) (kind : Record) → row ≡ row_of kind → row < 6
 row_below row Header e = omega arith
@@ -86,35 +86,35 @@ or_last m n = go (eqb m n)
 
 -- the tests of a name in their order
 module _ (name : List ℕ) (a : Bool) (ea : a ≡ same name (type_of Header)) where
-  pub is_header : a ≡ true → Known Header ≡ named name
+  pub is_header : a ≡ true → Some Header ≡ named name
   unfolding named
   is_header h = simp (← ea, h)
 
   module _ (na : a ≡ false) (b : Bool) (eb : b ≡ same name (type_of Sender)) where
-    pub is_sender : b ≡ true → Known Sender ≡ named name
+    pub is_sender : b ≡ true → Some Sender ≡ named name
     unfolding named
     is_sender h = simp (← ea, na, ← eb, h)
 
     module _ (nb : b ≡ false) (c : Bool) (ec : c ≡ same name (type_of Shipment)) where
-      pub is_shipment : c ≡ true → Known Shipment ≡ named name
+      pub is_shipment : c ≡ true → Some Shipment ≡ named name
       unfolding named
       is_shipment h = simp (← ea, na, ← eb, nb, ← ec, h)
 
       module _ (nc : c ≡ false) (d : Bool) (ed : d ≡ same name (type_of Parcel)) where
-        pub is_parcel : d ≡ true → Known Parcel ≡ named name
+        pub is_parcel : d ≡ true → Some Parcel ≡ named name
         unfolding named
         is_parcel h = simp (← ea, na, ← eb, nb, ← ec, nc, ← ed, h)
 
         module _ (nd : d ≡ false) (e : Bool) (ee : e ≡ same name (type_of Product)) where
-          pub is_product : e ≡ true → Known Product ≡ named name
+          pub is_product : e ≡ true → Some Product ≡ named name
           unfolding named
           is_product h = simp (← ea, na, ← eb, nb, ← ec, nc, ← ed, nd, ← ee, h)
 
           module _ (ne : e ≡ false) (f : Bool) (ef : f ≡ same name (type_of Feature)) where
-            pub is_feature_lem : f ≡ true → Known Feature ≡ named name
+            pub is_feature_lem : f ≡ true → Some Feature ≡ named name
             unfolding named
             is_feature_lem h = simp (← ea, na, ← eb, nb, ← ec, nc, ← ed, nd, ← ee, ne, ← ef, h)
 
-            pub is_none : f ≡ false → Unknown ≡ named name
+            pub is_none : f ≡ false → None ≡ named name
             unfolding named
             is_none h = simp (← ea, na, ← eb, nb, ← ec, nc, ← ed, nd, ← ee, ne, ← ef, h)

@@ -5,17 +5,15 @@ use mathlib.Core.Bool.{Bool, true, false}
 use mathlib.Core.List.{List}
 use native.Mathlib.Omega.{arith}
 use lib.ListN.{length}
-use Rattle.std.specs.Prelude.{if◌then◌else◌}
+use Rattle.std.specs.Prelude.{if◌then◌else◌, Option, Some, None}
 use Rattle.text.specs.Scan.{same}
 use Rattle.text.proofs.Scans.{same_eq}
 use Rattle.records.specs.Record.{type_of, named}
 use Rattle.records.specs.declared.record.Record.{Record}
 use Rattle.records.specs.declared.record.Record.TheVariants.{Header, Sender, Shipment, Parcel, Product, Feature}
-use Rattle.records.specs.declared.record.Named.{Named}
-use Rattle.records.specs.declared.record.Named.TheVariants.{Known, Unknown}
 
 -- each record has its own type
-pub type_named : (kind : Record) → named (type_of kind) ≡ Known kind
+pub type_named : (kind : Record) → named (type_of kind) ≡ Some kind
 unfolding named
 type_named Header = refl
 type_named Sender = refl
@@ -32,23 +30,23 @@ type_long Parcel = refl
 type_long Product = refl
 type_long Feature = refl
 
-known : (kind other : Record) → Known kind ≡ Known other → kind ≡ other
+known : (kind other : Record) → Some kind ≡ Some other → kind ≡ other
 known kind other e = cc
 
 pub type_tells : (kind other : Record) → type_of kind ≡ type_of other → kind ≡ other
 type_tells kind other e = known kind other (sym (type_named kind) ∙ ap named e ∙ type_named other)
 
-one_name : (name : List ℕ) (tried kind : Record) (rest : Named) → (rest ≡ Known kind → name ≡ type_of kind) →
-    (if same name (type_of tried) then Known tried else rest) ≡ Known kind → name ≡ type_of kind
+one_name : (name : List ℕ) (tried kind : Record) (rest : Option Record) → (rest ≡ Some kind → name ≡ type_of kind) →
+    (if same name (type_of tried) then Some tried else rest) ≡ Some kind → name ≡ type_of kind
 one_name name tried kind rest on e = go (same name (type_of tried)) refl e
   where
-    go : (t : Bool) → same name (type_of tried) ≡ t → (if t then Known tried else rest) ≡ Known kind → name ≡ type_of kind
+    go : (t : Bool) → same name (type_of tried) ≡ t → (if t then Some tried else rest) ≡ Some kind → name ≡ type_of kind
     go true q e = same_eq name (type_of tried) q ∙ ap type_of (known tried kind e)
     go false q e = on e
 
-pub named_type : (name : List ℕ) (kind : Record) → named name ≡ Known kind → name ≡ type_of kind
+pub named_type : (name : List ℕ) (kind : Record) → named name ≡ Some kind → name ≡ type_of kind
 unfolding named
 named_type name kind e =
     one_name name Header kind _ (one_name name Sender kind _ (one_name name Shipment kind _
     (one_name name Parcel kind _ (one_name name Product kind _
-    (one_name name Feature kind Unknown (λ u. let z : ◌≡◌ {A = ℕ} 0 1 = cc in absurd (omega arith))))))) e
+    (one_name name Feature kind None (λ u. let z : ◌≡◌ {A = ℕ} 0 1 = cc in absurd (omega arith))))))) e

@@ -1,11 +1,9 @@
 -- Document 01, 'The file': the records, their order, and how many fields each has.
-use Rattle.std.specs.Prelude.{ℕ, Bool, true, false, ◌&&◌, ◌||◌, List, [], ◌∷◌, leb, eqb, if◌then◌else◌}
+use Rattle.std.specs.Prelude.{ℕ, Bool, true, false, ◌&&◌, ◌||◌, List, [], ◌∷◌, leb, eqb, if◌then◌else◌, Option, Some, None}
 use Rattle.text.specs.Quoted.{bytes}
 use Rattle.text.specs.Scan.{same}
 use Rattle.records.specs.declared.record.Record.{Record}
 use Rattle.records.specs.declared.record.Record.TheVariants.{Header, Sender, Shipment, Parcel, Product, Feature}
-use Rattle.records.specs.declared.record.Named.{Named}
-use Rattle.records.specs.declared.record.Named.TheVariants.{Known, Unknown}
 use Rattle.records.specs.declared.record.Due.{Due}
 use Rattle.records.specs.declared.record.Due.TheVariants.{Any, First, After}
 
@@ -35,15 +33,15 @@ abbrev pub type_of : Record → List ℕ
 type_of kind = (head_of kind).type
 
 -- the record that a type names
-unfoldable pub named : List ℕ → Named
+unfoldable pub named : List ℕ → Option Record
 named name =
-    if same name (type_of Header) then Known Header
-    else if same name (type_of Sender) then Known Sender
-    else if same name (type_of Shipment) then Known Shipment
-    else if same name (type_of Parcel) then Known Parcel
-    else if same name (type_of Product) then Known Product
-    else if same name (type_of Feature) then Known Feature
-    else Unknown
+    if same name (type_of Header) then Some Header
+    else if same name (type_of Sender) then Some Sender
+    else if same name (type_of Shipment) then Some Shipment
+    else if same name (type_of Parcel) then Some Parcel
+    else if same name (type_of Product) then Some Product
+    else if same name (type_of Feature) then Some Feature
+    else None
 
 abbrev pub count_fits : Record → ℕ → Bool
 count_fits kind n = leb (head_of kind).fewest n && leb n (head_of kind).most

@@ -4,5 +4,5 @@
 mod record;
 mod version;
 
-pub use record::{Due, Named, Record, count_fits, may_come, may_end, record_named, row};
-pub use version::{Version, VersionTold, is_version, version_numbered};
+pub use record::{Due, Record, count_fits, may_come, may_end, record_named, row};
+pub use version::{Version, is_version, version_numbered};

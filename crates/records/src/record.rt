@@ -18,13 +18,6 @@ pub enum Record {
     Feature,
 }
 
-// What a record type names.
-#[derive(Clone, Copy)]
-pub enum Named {
-    Known(Record),
-    Unknown,
-}
-
 // Which record is due: any, where a line is judged alone; at a file's start the header; else one that may follow.
 #[derive(Clone, Copy)]
 pub enum Due {
@@ -34,28 +27,28 @@ pub enum Due {
 }
 
 // The record that a type names.
-pub fn record_named(name: &[u8]) -> Named
+pub fn record_named(name: &[u8]) -> Option<Record>
     ensures { result ≡ named name.now }
 {
     if text::equal(name, b"010") {
-        return Named::Known(Record::Header);
+        return Some(Record::Header);
     }
     if text::equal(name, b"020") {
-        return Named::Known(Record::Sender);
+        return Some(Record::Sender);
     }
     if text::equal(name, b"030") {
-        return Named::Known(Record::Shipment);
+        return Some(Record::Shipment);
     }
     if text::equal(name, b"040") {
-        return Named::Known(Record::Parcel);
+        return Some(Record::Parcel);
     }
     if text::equal(name, b"050") {
-        return Named::Known(Record::Product);
+        return Some(Record::Product);
     }
     if text::equal(name, b"060") {
-        return Named::Known(Record::Feature);
+        return Some(Record::Feature);
     }
-    Named::Unknown
+    None
 }
 
 // Whether a record may have so many fields.

@@ -10,21 +10,14 @@ pub enum Version {
     Seven,
 }
 
-// What a number says of the version.
-#[derive(Clone, Copy)]
-pub enum VersionTold {
-    Either(Version),
-    Neither,
-}
-
 // The version that a number names.
-pub fn version_numbered(number: u32) -> VersionTold
+pub fn version_numbered(number: u32) -> Option<Version>
     ensures { result ≡ version_numbered number }
 {
     match number {
-        5 => VersionTold::Either(Version::Five),
-        7 => VersionTold::Either(Version::Seven),
-        _ => VersionTold::Neither,
+        5 => Some(Version::Five),
+        7 => Some(Version::Seven),
+        _ => None,
     }
 }
 

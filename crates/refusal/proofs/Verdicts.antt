@@ -33,7 +33,7 @@ abbrev pub refuses : Verdict → Bool
 refuses Verdict.passes = false
 refuses (Verdict.refused number place) = true
 
--- both tests compute where the cases of the answers are known: `no_pass line_verdict refl refl`
+-- both tests compute where the cases of the answers are known: `no_pass verdict_on refl refl`
 pub no_pass : {A : Type 0} (verdict : A → Verdict) {a b : A} → refuses (verdict a) ≡ true → refuses (verdict b) ≡ false → a ≡ b → ⊥
 no_pass verdict r p e =
     let t : true ≡ false = sym r ∙ ap (λ (x : _). refuses (verdict x)) e ∙ p in

@@ -1,5 +1,5 @@
 -- Document 01, 'Refusal numbers', and those that document 02 adds: the number of each refusal, and when it is given.
-use Rattle.std.specs.Prelude.{ℕ}
+use Rattle.std.specs.Prelude.{ℕ, Result, Ok, Err}
 use Rattle.refusal.specs.declared.Reason.{Reason}
 use Rattle.refusal.specs.declared.Refusal.{Refusal}
 use Rattle.refusal.specs.declared.Reason.TheVariants.{
@@ -81,6 +81,11 @@ pub data Verdict : Type 0 where
 
 abbrev pub verdict_of : Refusal → Verdict
 verdict_of refusal = Verdict.refused (number_of refusal.why) refusal.place
+
+-- the paper's number and place for an answer
+abbrev pub verdict_on : {T : Type 0} → Result T Refusal → Verdict
+verdict_on (Ok answer) = Verdict.passes
+verdict_on (Err refusal) = verdict_of refusal
 
 -- the number that a call tells: the refusal's, 0 for accepted
 abbrev pub number_told : Verdict → ℕ

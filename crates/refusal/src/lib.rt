@@ -2,64 +2,52 @@
 #![tactic(auto)]
 
 ghost use Rattle.std.specs.Prelude.{◌≡◌};
-ghost use Rattle.refusal.specs.Table.{number_of};
+ghost use Rattle.refusal.specs.Table.{because, number_of};
 
-#[derive(Clone, Copy)]
+// Each reason has its number in the paper's table.
+#[derive(Clone, Copy, Debug, PartialEq, Eq)]
 pub enum Reason {
-    FileTooLong,
-    NoLineEnd,
-    UnknownRecord,
-    OutOfOrder,
-    FieldCount,
-    FieldTooLong,
-    FieldEmpty,
-    FieldForm,
-    FeatureLacks,
-    IdentcodeRepeated,
-    ListFull,
-    FileEnds,
-    OutputTooShort,
-    FieldEnds,
-    NotThere,
-    WrongLength,
-    WrongSymbol,
-    WrongCheck,
-    ContactMissing,
-    CountriesOdd,
-    UnknownVersion,
+    FileTooLong = 1,
+    NoLineEnd = 2,
+    UnknownRecord = 3,
+    OutOfOrder = 4,
+    FieldCount = 5,
+    FieldTooLong = 6,
+    FieldEmpty = 7,
+    FieldForm = 8,
+    FeatureLacks = 9,
+    IdentcodeRepeated = 10,
+    ListFull = 11,
+    FileEnds = 12,
+    OutputTooShort = 13,
+    FieldEnds = 14,
+    NotThere = 15,
+    WrongLength = 16,
+    WrongSymbol = 17,
+    WrongCheck = 18,
+    ContactMissing = 19,
+    CountriesOdd = 20,
+    UnknownVersion = 22,
 }
 
-#[derive(Clone, Copy)]
+#[derive(Clone, Copy, Debug, PartialEq, Eq)]
 pub struct Refusal {
     pub why: Reason,
     pub place: usize,
+}
+
+impl Refusal {
+    // For this reason, at this place.
+    pub fn new(why: Reason, place: usize) -> Refusal
+        ensures { result ≡ because why place }
+    {
+        Refusal { why, place }
+    }
 }
 
 // The number of a reason in the paper's table.
 pub fn number(why: Reason) -> u32
     ensures { result ≡ number_of why }
 {
-    match why {
-        Reason::FileTooLong => 1,
-        Reason::NoLineEnd => 2,
-        Reason::UnknownRecord => 3,
-        Reason::OutOfOrder => 4,
-        Reason::FieldCount => 5,
-        Reason::FieldTooLong => 6,
-        Reason::FieldEmpty => 7,
-        Reason::FieldForm => 8,
-        Reason::FeatureLacks => 9,
-        Reason::IdentcodeRepeated => 10,
-        Reason::ListFull => 11,
-        Reason::FileEnds => 12,
-        Reason::OutputTooShort => 13,
-        Reason::FieldEnds => 14,
-        Reason::NotThere => 15,
-        Reason::WrongLength => 16,
-        Reason::WrongSymbol => 17,
-        Reason::WrongCheck => 18,
-        Reason::ContactMissing => 19,
-        Reason::CountriesOdd => 20,
-        Reason::UnknownVersion => 22,
-    }
+    why as u32
 }

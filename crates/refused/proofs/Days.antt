@@ -10,30 +10,27 @@ use lib.Dec.{eqb, ltb}
 use lib.ListN.{length, take, drop, get_or, length-append, length-drop, get_or-append}
 use lib.Seq.{ext_get_or, get_or-append-add, get_or-drop, length-take-le, drop-append-add}
 use borrow.Author.Tests.{ltb-true, ltb-false, eqb-true, eqb-false, not-true, not-false}
-use Rattle.refusal.specs.Table.{because, number_of, number_told}
+use Rattle.refusal.specs.Table.{because, number_of, number_told, verdict_on}
 use Rattle.refusal.specs.declared.Refusal.{Refusal}
 use Rattle.refusal.specs.declared.Reason.TheVariants.{OutputTooShort, WrongLength, WrongSymbol, WrongCheck}
 use Rattle.refusal.proofs.Verdicts.{no_pass}
 use Rattle.text.specs.Placed.{written}
 use Rattle.text.proofs.Choices.{choice, true_or_false}
-use Rattle.check_characters.specs.Number.{checked_number, number_verdict}
-use Rattle.check_characters.specs.Day.{number_at, how_many, day_answers, zeros, day_answer, answers_after, ChecksDay, day_verdict}
-use Rattle.check_characters.specs.declared.day.DayAnswer.{DayAnswer}
-use Rattle.check_characters.specs.declared.day.DayAnswer.TheVariants.{Answered, Refused}
+use Rattle.check_characters.specs.Number.{checked_number}
+use Rattle.check_characters.specs.Day.{number_at, how_many, day_answers, zeros, day_answer, answers_after, ChecksDay}
 use Rattle.check_characters.specs.declared.number.Kind.{Kind}
 use Rattle.check_characters.specs.declared.number.Kind.TheVariants.{Tracking, Label}
-use Rattle.check_characters.specs.declared.number.NumberAnswer.{NumberAnswer}
-use Rattle.check_characters.specs.declared.number.NumberAnswer.TheVariants.{Accepted, Refused as NotAccepted}
 use Rattle.check_characters.proofs.Days.{number_front, answers_long, answer_at, number_inside, front, day_length, day_short, day_answered}
 use Rattle.slips.specs.Exactly.{SoundNumber}
 use Rattle.slips.proofs.Numbers.{accepted_sound, sound_accepted}
 use Rattle.refused.specs.Number.{RefusedNumber}
 use Rattle.refused.specs.Day.{AnswerByte, AnsweredDay, RefusedDay}
 use Rattle.refused.proofs.Numbers.{number_refused_exactly}
+use Rattle.std.specs.Prelude.{Result, Ok, Err}
 
 -- the byte of a number's answer alone
 abbrev alone : List ℕ → ℕ
-alone number = number_told (number_verdict (checked_number number))
+alone number = number_told (verdict_on (checked_number number))
 
 module _ (s : List ℕ) (long : length s ≡ 15) where
   sound_byte : (kind : Kind) → SoundNumber kind s → AnswerByte s 0
@@ -51,20 +48,20 @@ module _ (s : List ℕ) (long : length s ≡ 15) where
   pub byte_means : AnswerByte s (alone s)
   byte_means = go (checked_number s) refl
     where
-      go : (a : NumberAnswer) → checked_number s ≡ a → AnswerByte s (number_told (number_verdict a))
-      go (Accepted kind) e = sound_byte kind (accepted_sound kind s e)
-      go (NotAccepted refusal) e = refused_byte refusal ((number_refused_exactly s refusal).0 e)
+      go : (a : Result Kind Refusal) → checked_number s ≡ a → AnswerByte s (number_told (verdict_on a))
+      go (Ok kind) e = sound_byte kind (accepted_sound kind s e)
+      go (Err refusal) e = refused_byte refusal ((number_refused_exactly s refusal).0 e)
 
-  by : (a : NumberAnswer) → checked_number s ≡ a → number_told (number_verdict a) ≡ alone s
-  by a e = sym (ap (λ (x : NumberAnswer). number_told (number_verdict x)) e)
+  by : (a : Result Kind Refusal) → checked_number s ≡ a → number_told (verdict_on a) ≡ alone s
+  by a e = sym (ap (λ (x : Result Kind Refusal). number_told (verdict_on x)) e)
 
   -- and no other byte does
   pub means_byte : (b : ℕ) → AnswerByte s b → b ≡ alone s
-  means_byte b (AnswerByte.sound g) = by (Accepted Tracking) (sound_accepted Tracking s g)
+  means_byte b (AnswerByte.sound g) = by (Ok Tracking) (sound_accepted Tracking s g)
   means_byte b (AnswerByte.wrong_symbol i g) =
-      by (NotAccepted (because WrongSymbol i)) ((number_refused_exactly s (because WrongSymbol i)).1 (RefusedNumber.wrong_symbol Tracking i long g))
+      by (Err (because WrongSymbol i)) ((number_refused_exactly s (because WrongSymbol i)).1 (RefusedNumber.wrong_symbol Tracking i long g))
   means_byte b (AnswerByte.wrong_check g p) =
-      by (NotAccepted (because WrongCheck (length s - 1)))
+      by (Err (because WrongCheck (length s - 1)))
       ((number_refused_exactly s (because WrongCheck (length s - 1))).1 (RefusedNumber.wrong_check Tracking long g p))
 
 -- what the bytes' number says of how many numbers there are
@@ -123,13 +120,13 @@ module _ (numbers answers after : List ℕ) where
           counted = p ∙ ap zeros (sym (front numbers answers after e));
         }
 
-    day_answers_lem : ChecksDay numbers answers (Answered passed) after → AnsweredDay numbers answers passed after
+    day_answers_lem : ChecksDay numbers answers (Ok passed) after → AnsweredDay numbers answers passed after
     unfolding day_answer answers_after
     day_answers_lem (p, q) =
-        choice (not (eqb (length numbers % 15) 0)) (Refused (because WrongLength 0)) _ (Answered passed)
-        (λ t e. absurd (no_pass day_verdict refl refl e))
-        (λ t. choice (ltb (length answers) (how_many numbers)) (Refused (because OutputTooShort 0)) (Answered (zeros (day_answers numbers)))
-        (Answered passed) (λ u e. absurd (no_pass day_verdict refl refl e))
+        choice (not (eqb (length numbers % 15) 0)) (Err (because WrongLength 0)) _ (Ok passed)
+        (λ t e. absurd (no_pass verdict_on refl refl e))
+        (λ t. choice (ltb (length answers) (how_many numbers)) (Err (because OutputTooShort 0)) (Ok (zeros (day_answers numbers)))
+        (Ok passed) (λ u e. absurd (no_pass verdict_on refl refl e))
         (λ u e. let same : passed ≡ zeros (day_answers numbers) = cc in
         answered (eqb-true (length numbers % 15) 0 (not-false (eqb (length numbers % 15) 0) t))
         (ltb-false (length answers) (how_many numbers) u) same q)) (sym p)
@@ -150,46 +147,46 @@ module _ (numbers answers after : List ℕ) where
           g.rest i (omega (arith, many_is)) ∙ sym (past_them numbers answers i h))
           (true_or_false (ltb i (how_many numbers))))
 
-      answers_day : ChecksDay numbers answers (Answered passed) after
+      answers_day : ChecksDay numbers answers (Ok passed) after
       unfolding answers_after
       answers_day =
           let same : passed ≡ zeros (day_answers numbers) =
           g.counted ∙ ap (λ (n : ℕ). zeros (take n after)) (sym many_is) ∙ ap zeros (front numbers answers after as_written) in
           (day_answered numbers (length answers) passed (no_rest numbers g.many g.whole) (omega (arith, many_is, g.room)) same, as_written)
 
-    pub day_exactly : ChecksDay numbers answers (Answered passed) after ↔ AnsweredDay numbers answers passed after
+    pub day_exactly : ChecksDay numbers answers (Ok passed) after ↔ AnsweredDay numbers answers passed after
     day_exactly = (day_answers_lem, answers_day)
 
-    pub each_alone : (i : ℕ) → i < how_many numbers → ChecksDay numbers answers (Answered passed) after →
-        get_or after i 0 ≡ number_told (number_verdict (checked_number (number_at numbers i)))
+    pub each_alone : (i : ℕ) → i < how_many numbers → ChecksDay numbers answers (Ok passed) after →
+        get_or after i 0 ≡ number_told (verdict_on (checked_number (number_at numbers i)))
     unfolding answers_after
     each_alone i h (p, q) = ap (λ (a : List ℕ). get_or a i 0) q ∙ at_front numbers answers i h
 
   module _ (refusal : Refusal) where
-    is : (other : Refusal) → RefusedDay numbers (length answers) other → Refused other ≡ Refused refusal →
+    is : (other : Refusal) → RefusedDay numbers (length answers) other → ◌≡◌ {A = Result ℕ Refusal} (Err other) (Err refusal) →
         RefusedDay numbers (length answers) refusal
     is other g e = let same : other ≡ refusal = cc in subst (RefusedDay numbers (length answers)) same g
 
-    pub day_refuses : Refused refusal ≡ day_answer numbers (length answers) → RefusedDay numbers (length answers) refusal
+    pub day_refuses : Err refusal ≡ day_answer numbers (length answers) → RefusedDay numbers (length answers) refusal
     unfolding day_answer
     day_refuses p =
-        choice (not (eqb (length numbers % 15) 0)) (Refused (because WrongLength 0)) _ (Refused refusal)
+        choice (not (eqb (length numbers % 15) 0)) (Err (because WrongLength 0)) _ (Err refusal)
         (λ t e. let n = eqb-false (length numbers % 15) 0 (not-true (eqb (length numbers % 15) 0) t) in
         is (because WrongLength 0) (RefusedDay.wrong_length (λ many whole. n (no_rest numbers many whole))) e)
         (λ t. let m = eqb-true (length numbers % 15) 0 (not-false (eqb (length numbers % 15) 0) t) in
-        choice (ltb (length answers) (how_many numbers)) (Refused (because OutputTooShort 0)) (Answered (zeros (day_answers numbers)))
-        (Refused refusal)
+        choice (ltb (length answers) (how_many numbers)) (Err (because OutputTooShort 0)) (Ok (zeros (day_answers numbers)))
+        (Err refusal)
         (λ u e. is (because OutputTooShort 0)
         (RefusedDay.too_short (how_many numbers) (multiple numbers m) (ltb-true (length answers) (how_many numbers) u)) e)
-        (λ u e. absurd (no_pass day_verdict refl refl (sym e)))) (sym p)
+        (λ u e. absurd (no_pass verdict_on refl refl (sym e)))) (sym p)
 
-  refuses_day : (refusal : Refusal) → RefusedDay numbers (length answers) refusal → Refused refusal ≡ day_answer numbers (length answers)
+  refuses_day : (refusal : Refusal) → RefusedDay numbers (length answers) refusal → Err refusal ≡ day_answer numbers (length answers)
   refuses_day refusal (RefusedDay.wrong_length n) = day_length numbers (length answers) (λ m. n (how_many numbers) (multiple numbers m))
   refuses_day refusal (RefusedDay.too_short many whole h) =
       day_short numbers (length answers) (no_rest numbers many whole) (omega (arith, so_many numbers many whole))
 
   pub day_refused_exactly : (refusal : Refusal) →
-      ChecksDay numbers answers (Refused refusal) after ↔ (RefusedDay numbers (length answers) refusal × (after ≡ answers))
+      ChecksDay numbers answers (Err refusal) after ↔ (RefusedDay numbers (length answers) refusal × (after ≡ answers))
   unfolding answers_after
   day_refused_exactly refusal = ((λ (p, q). (day_refuses refusal p, q)), (λ (g, e). (refuses_day refusal g, e)))
 
@@ -200,17 +197,17 @@ module _ (numbers answers : List ℕ) where
       ((refusal : Refusal) × RefusedDay numbers (length answers) refusal)
   day_always_one = go (day_answer numbers (length answers)) refl
     where
-      go : (a : DayAnswer) → a ≡ day_answer numbers (length answers) →
+      go : (a : Result ℕ Refusal) → a ≡ day_answer numbers (length answers) →
           ((passed : ℕ) × ((after : List ℕ) × AnsweredDay numbers answers passed after)) ⊎
           ((refusal : Refusal) × RefusedDay numbers (length answers) refusal)
-      go (Answered passed) e =
-          let after = answers_after (Answered passed) numbers answers in inl (passed, (after, (day_exactly numbers answers after passed).0 (e, refl)))
-      go (Refused refusal) e = inr (refusal, day_refuses numbers answers answers refusal e)
+      go (Ok passed) e =
+          let after = answers_after (Ok passed) numbers answers in inl (passed, (after, (day_exactly numbers answers after passed).0 (e, refl)))
+      go (Err refusal) e = inr (refusal, day_refuses numbers answers answers refusal e)
 
   pub day_never_both : (passed : ℕ) (after : List ℕ) (refusal : Refusal) →
       AnsweredDay numbers answers passed after → RefusedDay numbers (length answers) refusal → ⊥
   day_never_both passed after refusal g r =
-      no_pass day_verdict refl refl (refuses_day numbers answers after refusal r ∙ sym ((day_exactly numbers answers after passed).1 g).0)
+      no_pass verdict_on refl refl (refuses_day numbers answers after refusal r ∙ sym ((day_exactly numbers answers after passed).1 g).0)
 
 -- a day in two pieces
 module _ (first rest : List ℕ) (many : ℕ) (whole : length first ≡ 15 * many) where

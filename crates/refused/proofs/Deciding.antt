@@ -1,4 +1,5 @@
 -- The judge answers exactly what the file's own lines mean: every file is allowed or refused, never both, and refused in one way only.
+use Rattle.refusal.specs.Table.{verdict_on}
 use Prim.Native.Nat.{ℕ, ◌≤◌}
 use mathlib.Core.Path.{◌≡◌, refl, sym, ap, subst, ◌∙◌}
 use mathlib.Core.Bool.{true}
@@ -14,9 +15,7 @@ use Rattle.records.specs.declared.record.Due.{Due}
 use Rattle.records.specs.declared.record.Due.TheVariants.{First, After}
 use Rattle.file.specs.Lent.{Lent}
 use Rattle.file.specs.Version.{version_of}
-use Rattle.file.specs.File.{Judged, judged, list_of, Judges, file_verdict}
-use Rattle.file.specs.declared.whole.FileAnswer.{FileAnswer}
-use Rattle.file.specs.declared.whole.FileAnswer.TheVariants.{Accepted, Refused}
+use Rattle.file.specs.File.{Judged, judged, list_of, Judges}
 use Rattle.allowed.specs.Allowed.{FileLine, file_bytes, LinesOk, AllowedFile, InOrder, totals_of, line_starts}
 use Rattle.allowed.proofs.Files.{accepted_allowed, allowed_accepted}
 use Rattle.allowed.proofs.Versions.{version_on_lem, version_found}
@@ -24,22 +23,24 @@ use Rattle.refused.specs.File.{Come, due_behind, Begins, RefusedFile, Means}
 use Rattle.refused.proofs.Refusing.{judged_refused}
 use Rattle.refused.proofs.Reaching.{refused_judged}
 use Rattle.refused.proofs.Files.{refused_exactly}
+use Rattle.std.specs.Prelude.{Result, Ok, Err}
+use Rattle.file.specs.declared.whole.Totals.{Totals}
 
-said : FileAnswer → List ℕ → Judged
+said : Result Totals Refusal → List ℕ → Judged
 said answer starts = record { answer = answer; starts = starts }
 
 module _ (s : List ℕ) (lent : Lent) where
-  pub judge_exactly : (answer : FileAnswer) (list : List ℕ) → Judges s lent answer list ↔ Means s lent answer list
+  pub judge_exactly : (answer : Result Totals Refusal) (list : List ℕ) → Judges s lent answer list ↔ Means s lent answer list
   unfolding said
-  judge_exactly (Refused refusal) list = refused_exactly s lent refusal list
-  judge_exactly (Accepted totals) list = (forth, back)
+  judge_exactly (Err refusal) list = refused_exactly s lent refusal list
+  judge_exactly (Ok totals) list = (forth, back)
     where
-      forth : Judges s lent (Accepted totals) list → Means s lent (Accepted totals) list
+      forth : Judges s lent (Ok totals) list → Means s lent (Ok totals) list
       forth j =
-          let g = accepted_allowed s lent totals (judged s lent).starts (ap (λ (a : FileAnswer). said a (judged s lent).starts) (sym j.0)) in
+          let g = accepted_allowed s lent totals (judged s lent).starts (ap (λ (a : Result Totals Refusal). said a (judged s lent).starts) (sym j.0)) in
           record { lines = g.lines; allowed = g.allowed; room = g.room; counts = g.counts; starts = j.1 ∙ ap (list_of lent.words) g.list }
 
-      back : Means s lent (Accepted totals) list → Judges s lent (Accepted totals) list
+      back : Means s lent (Ok totals) list → Judges s lent (Ok totals) list
       back g =
           let e = allowed_accepted s lent totals (line_starts 0 g.lines)
           (record { lines = g.lines; allowed = g.allowed; room = g.room; counts = g.counts; list = refl }) in
@@ -48,22 +49,22 @@ module _ (s : List ℕ) (lent : Lent) where
   pub always_one : ((ls : List FileLine) × AllowedFile lent.countries s ls × (length ls ≤ lent.words)) ⊎ ((refusal : Refusal) × RefusedFile s lent refusal)
   always_one = go (judged s lent).answer refl
     where
-      go : (a : FileAnswer) → (judged s lent).answer ≡ a →
+      go : (a : Result Totals Refusal) → (judged s lent).answer ≡ a →
           ((ls : List FileLine) × AllowedFile lent.countries s ls × (length ls ≤ lent.words)) ⊎ ((refusal : Refusal) × RefusedFile s lent refusal)
-      go (Accepted totals) e =
-          let g = (judge_exactly (Accepted totals) (list_of lent.words (judged s lent).starts)).0 (sym e, refl) in
+      go (Ok totals) e =
+          let g = (judge_exactly (Ok totals) (list_of lent.words (judged s lent).starts)).0 (sym e, refl) in
           inl (g.lines, g.allowed, g.room)
-      go (Refused refusal) e = inr (refusal, judged_refused s lent refusal e)
+      go (Err refusal) e = inr (refusal, judged_refused s lent refusal e)
 
   pub never_both : (ls : List FileLine) (refusal : Refusal) → AllowedFile lent.countries s ls → length ls ≤ lent.words → RefusedFile s lent refusal → ⊥
   never_both ls refusal a room r =
-      let g = (judge_exactly (Accepted (totals_of ls)) (list_of lent.words (line_starts 0 ls))).1
+      let g = (judge_exactly (Ok (totals_of ls)) (list_of lent.words (line_starts 0 ls))).1
       (record { lines = ls; allowed = a; room = room; counts = refl; starts = refl }) in
-      no_pass file_verdict refl refl (sym (refused_judged s lent refusal r) ∙ sym g.0)
+      no_pass verdict_on refl refl (sym (refused_judged s lent refusal r) ∙ sym g.0)
 
   pub one_refusal : (refusal other : Refusal) → RefusedFile s lent refusal → RefusedFile s lent other → refusal ≡ other
   one_refusal refusal other r q =
-      let e : Refused refusal ≡ Refused other = sym (refused_judged s lent refusal r) ∙ refused_judged s lent other q in
+      let e : ◌≡◌ {A = Result Totals Refusal} (Err refusal) (Err other) = sym (refused_judged s lent refusal r) ∙ refused_judged s lent other q in
       cc
 
 -- an allowed file is one that begins with its lines, has nothing left behind them, and may end there

@@ -11,21 +11,21 @@ use Rattle.refusal.specs.declared.Reason.{Reason}
 use Rattle.refusal.specs.declared.Reason.TheVariants.{FieldTooLong, FieldEmpty, FieldForm}
 use Rattle.fields.specs.Profile.{Row, width_of, is_required, has_form}
 use Rattle.fields.specs.Field.{tested}
-use Rattle.fields.specs.declared.field.Tested.TheVariants.{Bad}
 use Rattle.fields.proofs.Tests as tests
 use Rattle.line.specs.Render.{joined}
 use Rattle.line.specs.Walk.{behind}
 use Rattle.refused.specs.Line.{RefusedField}
 use Rattle.line.proofs.Stopping.{place_behind}
+use Rattle.std.specs.Prelude.{Err, Result, ⊤}
 
-pub bad_same : {why other : Reason} → Bad why ≡ Bad other → why ≡ other
+pub bad_same : {why other : Reason} → ◌≡◌ {A = Result ⊤ Reason} (Err why) (Err other) → why ≡ other
 bad_same e = cc
 
 module _ (rows : List Row) (n : ℕ) (beside f : List ℕ) where
-  pub bad_refused : (why : Reason) → tested rows n beside f ≡ Bad why → RefusedField rows n beside f why
+  pub bad_refused : (why : Reason) → tested rows n beside f ≡ Err why → RefusedField rows n beside f why
   bad_refused why e = ⊎_elim fits long (le_or_lt (length f) (width_of rows n beside))
     where
-      told : (w : Reason) → Bad w ≡ tested rows n beside f → RefusedField rows n beside f w → RefusedField rows n beside f why
+      told : (w : Reason) → Err w ≡ tested rows n beside f → RefusedField rows n beside f w → RefusedField rows n beside f why
       told w b g = subst (RefusedField rows n beside f) (bad_same (b ∙ e)) g
 
       long : width_of rows n beside < length f → RefusedField rows n beside f why
@@ -49,7 +49,7 @@ module _ (rows : List Row) (n : ℕ) (beside f : List ℕ) where
       fits : length f ≤ width_of rows n beside → RefusedField rows n beside f why
       fits h = ⊎_elim none (some h) (eq_or_ne (length f) 0)
 
-  pub refused_bad : (why : Reason) → RefusedField rows n beside f why → tested rows n beside f ≡ Bad why
+  pub refused_bad : (why : Reason) → RefusedField rows n beside f why → tested rows n beside f ≡ Err why
   refused_bad why (RefusedField.too_long h) = sym (tests.too_long rows n beside f (width_of rows n beside) refl h)
   refused_bad why (RefusedField.empty z r) = sym (tests.empty_bad rows n beside f z (is_required rows n) refl r)
   refused_bad why (RefusedField.formless h z r) =

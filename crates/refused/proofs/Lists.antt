@@ -11,8 +11,6 @@ use Rattle.records.specs.declared.version.Version.{Version}
 use Rattle.file.specs.Lent.{Lent}
 use Rattle.file.specs.File.{Judges}
 use Rattle.file.specs.declared.whole.Totals.{Totals}
-use Rattle.file.specs.declared.whole.FileAnswer.{FileAnswer}
-use Rattle.file.specs.declared.whole.FileAnswer.TheVariants.{Accepted, Refused}
 use Rattle.allowed.specs.Allowed.{FileLine, line_bytes, file_bytes, LinesOk, HasContacts, ContactsKept, AllowedFile, Accepts}
 use Rattle.allowed.specs.Countries.{PartOf, AllReachable, SendersReachable}
 use Rattle.allowed.proofs.Versions.{version_found}
@@ -20,6 +18,7 @@ use Rattle.allowed.proofs.Countries.{part_paired, kept_part, kept_reachable}
 use Rattle.text.proofs.Choices.{clash}
 use Rattle.refused.specs.File.{Begins, NextLine, Unreachable, RefusedFile, Means}
 use Rattle.refused.proofs.Deciding.{judge_exactly}
+use Rattle.std.specs.Prelude.{Result, Ok, Err}
 
 abbrev lent_with : List ℕ → ℕ → Lent
 lent_with countries words = record { countries = countries; words = words }
@@ -52,10 +51,10 @@ accepts_with countries others file words totals list g paired kept =
 
 -- a part of a list
 pub part_accepts : (file countries part : List ℕ) (words : ℕ) (totals : Totals) (list : List ℕ) → PartOf part countries →
-    Judges file (lent_with countries words) (Accepted totals) list → Judges file (lent_with part words) (Accepted totals) list
+    Judges file (lent_with countries words) (Ok totals) list → Judges file (lent_with part words) (Ok totals) list
 part_accepts file countries part words totals list p j =
-    let g = (judge_exactly file (lent_with countries words) (Accepted totals) list).0 j in
-    (judge_exactly file (lent_with part words) (Accepted totals) list).1
+    let g = (judge_exactly file (lent_with countries words) (Ok totals) list).0 j in
+    (judge_exactly file (lent_with part words) (Ok totals) list).1
     (accepts_with countries part file words totals list g (part_paired part countries p)
     (kept_part part countries p g.lines g.allowed.contacts))
 
@@ -96,16 +95,16 @@ module _ (file countries others : List ℕ) (words : ℕ) (even : is_paired coun
   refused_with refusal (RefusedFile.list_full ls l left b full) = RefusedFile.list_full ls l left (begins_with (ls ++ (l ∷ [])) left b) full
   refused_with refusal (RefusedFile.file_ends ls b room e) = RefusedFile.file_ends ls (begins_with ls [] b) room e
 
-  means_with : (answer : FileAnswer) (list : List ℕ) → Means file (lent_with countries words) answer list →
+  means_with : (answer : Result Totals Refusal) (list : List ℕ) → Means file (lent_with countries words) answer list →
       Means file (lent_with others words) answer list
-  means_with (Accepted totals) list g =
+  means_with (Ok totals) list g =
       accepts_with countries others file words totals list g paired
       (kept_reachable others g.lines
       (reachable g.lines [] (g.allowed.bytes ∙ sym (append-nil (file_bytes g.lines)))
       (subst (λ (v : Version). LinesOk (profile v) g.lines) (sym (version_found g.allowed)) g.allowed.lines)))
-  means_with (Refused refusal) list g = (refused_with refusal g.0, g.1)
+  means_with (Err refusal) list g = (refused_with refusal g.0, g.1)
 
-  pub same_answer : (answer : FileAnswer) (list : List ℕ) → Judges file (lent_with countries words) answer list →
+  pub same_answer : (answer : Result Totals Refusal) (list : List ℕ) → Judges file (lent_with countries words) answer list →
       Judges file (lent_with others words) answer list
   same_answer answer list j =
       (judge_exactly file (lent_with others words) answer list).1

@@ -7,7 +7,6 @@ use lib.ListN.{length, drop, length-append}
 use Rattle.refusal.specs.Table.{because}
 use Rattle.refusal.specs.declared.Reason.TheVariants.{FieldForm}
 use Rattle.check_digits.specs.Identcode.{checked_identcode}
-use Rattle.check_characters.specs.declared.answer.CheckAnswer.TheVariants.{Accepted}
 use Rattle.records.specs.Record.{type_of}
 use Rattle.fields.specs.Form.{is_identcode}
 use Rattle.fields.specs.Profile.{profile, width_in_table, width_of, has_form}
@@ -23,7 +22,6 @@ use Rattle.line.specs.Parts.{field_no}
 use Rattle.line.specs.Render.{joined}
 use Rattle.line.specs.Told.{Told}
 use Rattle.line.specs.Line.{line_answer, file_limit}
-use Rattle.line.specs.declared.read.LineAnswer.TheVariants.{Refused}
 use Rattle.grammar.specs.Grammar.{Filled, LineOk}
 use Rattle.file.specs.Lent.{Lent}
 use Rattle.file.specs.Version.{version_of}
@@ -31,6 +29,7 @@ use Rattle.allowed.specs.Allowed.{FileLine, file_bytes}
 use Rattle.refused.specs.File.{due_behind, told_behind, Begins, RefusedFile}
 use Rattle.refused.specs.Line.{Counted, RefusedField, RefusedLine, RefusedAt}
 use Rattle.refused.proofs.Lines.{line_refused_exactly}
+use Rattle.std.specs.Prelude.{Ok, Err}
 
 -- the row of 040.1: its form is the check, it must be filled, and nothing beside it makes it narrower
 parcel_form : (version : Version) (beside f : List ℕ) → has_form (profile version Parcel) 1 beside f ≡ is_identcode f
@@ -42,7 +41,7 @@ unfolding profile width_of
 parcel_width Five beside = refl
 parcel_width Seven beside = refl
 
-pub parcel_passes : (version : Version) (fs : List (List ℕ)) → LineOk (profile version) Parcel fs → checked_identcode (field_no fs 1) ≡ Accepted
+pub parcel_passes : (version : Version) (fs : List (List ℕ)) → LineOk (profile version) Parcel fs → checked_identcode (field_no fs 1) ≡ Ok tt
 parcel_passes version [] g = let z : ◌≡◌ {A = ℕ} 0 1 = cc in absurd (omega arith)
 parcel_passes version (f ∷ fs) g =
     accepted_is (checked_identcode f)
@@ -54,7 +53,7 @@ module _ (version : Version) (due : Due) (at : ℕ) (left : List ℕ) (code : Li
   told = record { rules = profile version; due = due }
 
   module _ (counted : Counted told left Parcel (code ∷ more)) (filled : Filled code) (narrow : length code ≤ width_in_table (profile version Parcel) 1)
-      (fails : checked_identcode code ≡ Accepted → ⊥) where
+      (fails : checked_identcode code ≡ Ok tt → ⊥) where
     code_refused : RefusedLine told at left (because FieldForm (at + 4))
     code_refused =
         RefusedLine.bad_field Parcel [] code more FieldForm counted
@@ -71,8 +70,8 @@ module _ (version : Version) (due : Due) (at : ℕ) (left : List ℕ) (code : Li
 
 pub failing_code : (version : Version) (due : Due) (s : List ℕ) (at : ℕ) (code : List ℕ) (more : List (List ℕ)) → length s ≤ file_limit →
     at ≤ length s → Counted (told version due at (drop at s) code more) (drop at s) Parcel (code ∷ more) → Filled code →
-    length code ≤ width_in_table (profile version Parcel) 1 → (checked_identcode code ≡ Accepted → ⊥) →
-    line_answer (told version due at (drop at s) code more) s at ≡ Refused (because FieldForm (at + 4))
+    length code ≤ width_in_table (profile version Parcel) 1 → (checked_identcode code ≡ Ok tt → ⊥) →
+    line_answer (told version due at (drop at s) code more) s at ≡ Err (because FieldForm (at + 4))
 failing_code version due s at code more short inside counted filled narrow fails =
     (line_refused_exactly (told version due at (drop at s) code more) s at (because FieldForm (at + 4))).1
     (RefusedAt.line_refused (because FieldForm (at + 4)) short inside
@@ -80,7 +79,7 @@ failing_code version due s at code more short inside counted filled narrow fails
 
 pub failing_file : (s : List ℕ) (lent : Lent) (ls : List FileLine) (left code : List ℕ) (more : List (List ℕ)) →
     Begins lent.countries s ls left → length ls ≤ lent.words → Counted (told_behind s ls) left Parcel (code ∷ more) → Filled code →
-    length code ≤ width_in_table (profile (version_of s) Parcel) 1 → (checked_identcode code ≡ Accepted → ⊥) →
+    length code ≤ width_in_table (profile (version_of s) Parcel) 1 → (checked_identcode code ≡ Ok tt → ⊥) →
     RefusedFile s lent (because FieldForm (length (file_bytes ls) + 4))
 failing_file s lent ls left code more begins room counted filled narrow fails =
     let at = length (file_bytes ls) in

@@ -19,8 +19,6 @@ use Rattle.file.specs.Version.{version_of}
 use Rattle.file.specs.Step.{behind, on_line, told_by, step_answer}
 use Rattle.file.specs.File.{Judged, begin, file_from, judged}
 use Rattle.file.specs.declared.step.State.{State}
-use Rattle.file.specs.declared.step.Step.TheVariants.{Stopped}
-use Rattle.file.specs.declared.whole.FileAnswer.TheVariants.{Refused}
 use Rattle.allowed.specs.Allowed.{FileLine, line_bytes, file_bytes, identcodes}
 use Rattle.allowed.proofs.Files.{line_some}
 use Rattle.refused.specs.File.{Begins, RefusedFile}
@@ -29,6 +27,7 @@ use Rattle.refused.proofs.Beginning.{Next, next_at, left_long}
 use Rattle.refused.proofs.Standing.{Here, line_of, there, inside, here_line, before_end, behind_line}
 use Rattle.refused.proofs.Standing.{step_lacks, step_repeats, step_full, step_on, repeats_code}
 use Rattle.refused.proofs.Missing.{away_lacks, parcel_spared}
+use Rattle.std.specs.Prelude.{Err}
 
 module _ (s : List ℕ) (lent : Lent) where
   -- the judge reaches the end of the lines with which a file begins
@@ -98,23 +97,23 @@ module _ (s : List ℕ) (lent : Lent) where
 
   -- a step that stops there
   stops_there : (turns : ℕ) (starts : List ℕ) (state : State) (refusal : Refusal) → length s < turns + state.at → state.at < length s →
-      step_answer s lent starts state ≡ Stopped refusal → (file_from turns s lent starts state).answer ≡ Refused refusal
+      step_answer s lent starts state ≡ Err refusal → (file_from turns s lent starts state).answer ≡ Err refusal
   stops_there zero starts state refusal enough some e = absurd (omega arith)
   stops_there (suc turns) starts state refusal enough some e = rw (lt-ltb state.at (length s) some, e)
 
   ends_there : (turns : ℕ) (starts : List ℕ) (state : State) → length s ≤ state.at → may_end state.due ≡ false →
-      (file_from turns s lent starts state).answer ≡ Refused (because FileEnds (length s))
+      (file_from turns s lent starts state).answer ≡ Err (because FileEnds (length s))
   ends_there zero starts state h e = rw e
   ends_there (suc turns) starts state h e = rw (le-ltb state.at (length s) h, e)
 
   -- the answer at the place reached
   answer_there : (ls : List FileLine) (r : Reached ls) → length s ≤ file_limit → is_paired lent.countries ≡ true → (refusal : Refusal) →
       r.state.at < length s →
-      step_answer s lent r.starts r.state ≡ Stopped refusal → (judged s lent).answer ≡ Refused refusal
+      step_answer s lent r.starts r.state ≡ Err refusal → (judged s lent).answer ≡ Err refusal
   answer_there ls r in_limit paired refusal some e =
       ap (λ (j : Judged). j.answer) (from_begin in_limit paired ∙ r.same) ∙ stops_there r.turns r.starts r.state refusal r.enough some e
 
-  pub refused_judged : (refusal : Refusal) → RefusedFile s lent refusal → (judged s lent).answer ≡ Refused refusal
+  pub refused_judged : (refusal : Refusal) → RefusedFile s lent refusal → (judged s lent).answer ≡ Err refusal
   unfolding judged step_answer on_line
   refused_judged refusal (RefusedFile.file_too_long h) = rw (lt-ltb file_limit (length s) h)
   refused_judged refusal (RefusedFile.countries_odd h odd) = rw (le-ltb file_limit (length s) h, odd)
@@ -134,7 +133,7 @@ module _ (s : List ℕ) (lent : Lent) where
       answer_there ls r f.begins.in_limit f.begins.paired (because ContactMissing r.state.at)
       (before_end s ls r.starts r.state h lent l left f)
       (step_lacks s ls r.starts r.state h lent l left f (away_lacks lent.countries ls l k listed away))
-      ∙ ap (λ (x : ℕ). Refused (because ContactMissing x)) h.place
+      ∙ ap (λ (x : ℕ). Err (because ContactMissing x)) h.place
   refused_judged refusal (RefusedFile.identcode_repeated ls l left f room k e) =
       let r = reached ls (line_bytes l ++ left) f.begins room in
       let h = r.here in
@@ -144,7 +143,7 @@ module _ (s : List ℕ) (lent : Lent) where
       answer_there ls r f.begins.in_limit f.begins.paired (because IdentcodeRepeated (r.state.at + 4))
       (before_end s ls r.starts r.state h lent l left f)
       (step_repeats s ls r.starts r.state h lent l left f (parcel_spared lent.countries ls l k) t)
-      ∙ ap (λ (x : ℕ). Refused (because IdentcodeRepeated x)) p
+      ∙ ap (λ (x : ℕ). Err (because IdentcodeRepeated x)) p
   refused_judged refusal (RefusedFile.list_full ls l left b full) =
       let n = next_at lent.countries s ls l [] left b in
       let r = reached ls (line_bytes l ++ left) n.follows.begins (omega arith) in
@@ -152,7 +151,7 @@ module _ (s : List ℕ) (lent : Lent) where
       answer_there ls r b.in_limit b.paired (because ListFull r.state.at)
       (before_end s ls r.starts r.state h lent l left n.follows)
       (step_full s ls r.starts r.state h lent l left n.follows n.reached n.fresh (omega (arith, h.count)))
-      ∙ ap (λ (x : ℕ). Refused (because ListFull x)) h.place
+      ∙ ap (λ (x : ℕ). Err (because ListFull x)) h.place
   refused_judged refusal (RefusedFile.file_ends ls b room e) =
       let r = reached ls [] b room in
       let h = r.here in

@@ -7,10 +7,10 @@ use native.Mathlib.Omega.{arith}
 use lib.Dec.{ltb}
 use lib.ListN.{length, drop, length-append}
 use borrow.Author.Tests.{ltb-true, ltb-false}
-use Rattle.std.specs.Prelude.{if◌then◌else◌}
+use Rattle.std.specs.Prelude.{if◌then◌else◌, Result, Ok, Err}
 use Rattle.text.specs.Quoted.{bytes}
 use Rattle.text.proofs.Scans.{no_bytes}
-use Rattle.refusal.specs.Table.{because}
+use Rattle.refusal.specs.Table.{because, verdict_on}
 use Rattle.refusal.specs.declared.Refusal.{Refusal}
 use Rattle.refusal.specs.declared.Reason.TheVariants.{FileTooLong, IdentcodeRepeated, ListFull, FileEnds, ContactMissing, CountriesOdd}
 use Rattle.refusal.proofs.Verdicts.{no_pass}
@@ -20,8 +20,6 @@ use Rattle.line.specs.Parts.{split, fields_of}
 use Rattle.line.specs.Told.{Told}
 use Rattle.line.specs.Line.{text_at, line_answer, file_limit}
 use Rattle.line.specs.declared.read.Line.{Line}
-use Rattle.line.specs.declared.read.LineAnswer.{LineAnswer}
-use Rattle.line.specs.declared.read.LineAnswer.TheVariants.{Accepted as AcceptedLine, Refused as RefusedAnswer}
 use Rattle.grammar.specs.Grammar.{LineOk, Reads}
 use Rattle.grammar.proofs.Lines.{accepted_reads}
 use Rattle.countries.specs.List.{is_paired}
@@ -33,10 +31,8 @@ use Rattle.file.specs.Version.{version_of}
 use Rattle.file.specs.Contact.{lacks_contact}
 use Rattle.file.specs.Identcode.{repeats}
 use Rattle.file.specs.Step.{behind, has_word, listing, on_line, told_by, step_answer}
-use Rattle.file.specs.File.{Judged, begin, passed, ended, on_step, file_from, judged, file_verdict}
+use Rattle.file.specs.File.{Judged, begin, passed, ended, on_step, file_from, judged}
 use Rattle.file.specs.declared.step.State.{State}
-use Rattle.file.specs.declared.step.Step.TheVariants.{Next as On, Stopped}
-use Rattle.file.specs.declared.whole.FileAnswer.TheVariants.{Refused}
 use Rattle.file.proofs.Lists.{word_left, word_none}
 use Rattle.allowed.specs.Allowed.{FileLine, file_bytes, identcodes}
 use Rattle.allowed.proofs.Files.{line_some}
@@ -49,6 +45,7 @@ use Rattle.refused.proofs.Beginning.{Next, begins_more, left_long}
 use Rattle.refused.proofs.Standing.{Here, line_of, there, inside, line_here, behind_line}
 use Rattle.refused.proofs.Standing.{asks, repeats_parcel, repeats_code}
 use Rattle.refused.proofs.Missing.{lacks_told}
+use Rattle.file.specs.declared.whole.Totals.{Totals}
 
 -- a refusal at an offset in a file that is not too long is one of the line there
 in_line_lem : (told : Told) (s : List ℕ) (at : ℕ) → length s ≤ file_limit → at ≤ length s → (refusal : Refusal) → RefusedAt told s at refusal →
@@ -60,13 +57,13 @@ in_line_lem told s at small l refusal (RefusedAt.line_refused other h k g) = g
 module _ (s : List ℕ) (lent : Lent) where
   -- what is refused, from the lines so far on
   module _ (refusal : Refusal) where
-    is : (other : Refusal) → Refused other ≡ Refused refusal → RefusedFile s lent other → RefusedFile s lent refusal
+    is : (other : Refusal) → ◌≡◌ {A = Result Totals Refusal} (Err other) (Err refusal) → RefusedFile s lent other → RefusedFile s lent refusal
     is other e g = let same : other ≡ refusal = cc in subst (RefusedFile s lent) same g
 
     abbrev Refuses : ℕ → Type 0
     Refuses turns =
         (ls : List FileLine) (left : List ℕ) (starts : List ℕ) (state : State) → length s < turns + state.at → Begins lent.countries s ls left →
-        length ls ≤ lent.words → Here s ls starts state → (file_from turns s lent starts state).answer ≡ Refused refusal → RefusedFile s lent refusal
+        length ls ≤ lent.words → Here s ls starts state → (file_from turns s lent starts state).answer ≡ Err refusal → RefusedFile s lent refusal
 
     -- one step
     module _ (turns : ℕ) (more : Refuses turns) (ls : List FileLine) (left : List ℕ) (starts : List ℕ) (state : State)
@@ -76,7 +73,7 @@ module _ (s : List ℕ) (lent : Lent) where
       on next = file_from turns s lent (starts ++ (state.at ∷ [])) next
 
       -- the line there is accepted
-      module _ (line : Line) (ea : line_answer (told_by state) s state.at ≡ AcceptedLine line) where
+      module _ (line : Line) (ea : line_answer (told_by state) s state.at ≡ Ok line) where
         g : Reads (told_by state) s state.at line (fields_of (text_at s state.at))
         g = accepted_reads (told_by state) s state.at line ea
 
@@ -94,7 +91,7 @@ module _ (s : List ℕ) (lent : Lent) where
         abbrev lacks : Bool
         lacks = lacks_contact line.kind (parts_of l) lent.countries (contacts_after true ls)
 
-        missing : lacks ≡ true → Refused (because ContactMissing state.at) ≡ Refused refusal → RefusedFile s lent refusal
+        missing : lacks ≡ true → ◌≡◌ {A = Result Totals Refusal} (Err (because ContactMissing state.at)) (Err refusal) → RefusedFile s lent refusal
         missing m e =
             let away = lacks_told lent.countries ls l m in
             is (because ContactMissing state.at) e
@@ -102,7 +99,7 @@ module _ (s : List ℕ) (lent : Lent) where
             (RefusedFile.contact_missing ls l g.rest follows room away.0 away.1 away.2))
 
         repeated : repeats line.kind s starts state.at ≡ true →
-            Refused (because IdentcodeRepeated (state.at + 4)) ≡ Refused refusal →
+            ◌≡◌ {A = Result Totals Refusal} (Err (because IdentcodeRepeated (state.at + 4))) (Err refusal) →
             RefusedFile s lent refusal
         repeated r e =
             let k = repeats_parcel line.kind s starts state.at r in
@@ -124,17 +121,17 @@ module _ (s : List ℕ) (lent : Lent) where
                     g.stands g.allowed fresh;
               }
 
-          full : lent.words ≤ state.lines → Refused (because ListFull state.at) ≡ Refused refusal → RefusedFile s lent refusal
+          full : lent.words ≤ state.lines → ◌≡◌ {A = Result Totals Refusal} (Err (because ListFull state.at)) (Err refusal) → RefusedFile s lent refusal
           full f e =
               is (because ListFull state.at) e
               (subst (λ (x : ℕ). RefusedFile s lent (because ListFull x)) (sym h.place)
               (RefusedFile.list_full ls l g.rest (begins_more lent.countries s ls l g.rest next) (omega (arith, h.count))))
 
-          goes_on : state.lines < lent.words → (on (behind s state line)).answer ≡ Refused refusal → RefusedFile s lent refusal
+          goes_on : state.lines < lent.words → (on (behind s state line)).answer ≡ Err refusal → RefusedFile s lent refusal
           unfolding line_of
           goes_on f e =
               let same : line_of state.at l ≡ line = same_line (sym g.count) (sym g.next) in
-              let e' : (on (behind s state (line_of state.at l))).answer ≡ Refused refusal =
+              let e' : (on (behind s state (line_of state.at l))).answer ≡ Err refusal =
               ap (λ (x : Line). (on (behind s state x)).answer) same ∙ e in
               more (ls ++ (l ∷ [])) g.rest (starts ++ (state.at ∷ [])) (behind s state (line_of state.at l))
               (omega (arith, line_some l)) (begins_more lent.countries s ls l g.rest next) (omega (arith, h.count, length-append ls (l ∷ [])))
@@ -144,24 +141,24 @@ module _ (s : List ℕ) (lent : Lent) where
                   ◌≡◌ {A = Line} (record { kind = line.kind; count = count; next = next }) (record { kind = line.kind; count = count'; next = next' })
               same_line c n = rw (c, n)
 
-      step_refused : (a : LineAnswer) → line_answer (told_by state) s state.at ≡ a →
-          (on_step (on_line a s lent starts state) on).answer ≡ Refused refusal →
+      step_refused : (a : Result Line Refusal) → line_answer (told_by state) s state.at ≡ a →
+          (on_step (on_line a s lent starts state) on).answer ≡ Err refusal →
           RefusedFile s lent refusal
       unfolding on_line listing
-      step_refused (RefusedAnswer other) ea e =
+      step_refused (Err other) ea e =
           let r = in_line_lem (told_by state) s state.at b.in_limit (inside s ls starts state h left b) other
           (answer_refused (told_by state) s state.at other ea) in
           is other e (RefusedFile.line_refused ls left other b room (λ z. omega (arith, h.place, left_long s ls left b, ap length z))
           (line_here s ls starts state h left b other r))
-      step_refused (AcceptedLine line) ea e =
+      step_refused (Ok line) ea e =
           go (lacks_contact line.kind (split (text_at s state.at)) lent.countries state.contacts)
           (repeats line.kind s starts state.at) (has_word lent.words state.lines)
           (sym (asks s ls starts state h lent.countries line (fields_of (text_at s state.at)) (g line ea))) refl refl e
         where
           go : (v t u : Bool) → lacks line ea ≡ v → repeats line.kind s starts state.at ≡ t → has_word lent.words state.lines ≡ u →
-              (on_step (if v then Stopped (because ContactMissing state.at)
-              else (if t then Stopped (because IdentcodeRepeated (state.at + 4))
-              else (if not u then Stopped (because ListFull state.at) else On (behind s state line)))) on).answer ≡ Refused refusal →
+              (on_step (if v then Err (because ContactMissing state.at)
+              else (if t then Err (because IdentcodeRepeated (state.at + 4))
+              else (if not u then Err (because ListFull state.at) else Ok (behind s state line)))) on).answer ≡ Err refusal →
               RefusedFile s lent refusal
           go true t u v r f q = missing line ea v q
           go false true u v r f q = repeated line ea r q
@@ -170,13 +167,13 @@ module _ (s : List ℕ) (lent : Lent) where
 
     at_end : (ls : List FileLine) (left : List ℕ) (starts : List ℕ) (state : State) → Begins lent.countries s ls left → length ls ≤ lent.words →
         Here s ls starts state →
-        length s ≤ state.at → (ended s starts state).answer ≡ Refused refusal → RefusedFile s lent refusal
+        length s ≤ state.at → (ended s starts state).answer ≡ Err refusal → RefusedFile s lent refusal
     at_end ls left starts state b room h e q = go (may_end state.due) refl q
       where
         go : (t : Bool) → may_end state.due ≡ t →
-            (if t then passed starts state else record { answer = Refused (because FileEnds (length s)); starts = [] }).answer ≡ Refused refusal →
+            (if t then passed starts state else record { answer = Err (because FileEnds (length s)); starts = [] }).answer ≡ Err refusal →
             RefusedFile s lent refusal
-        go true m q = absurd (no_pass file_verdict refl refl (sym q))
+        go true m q = absurd (no_pass verdict_on refl refl (sym q))
         go false m q =
             is (because FileEnds (length s)) q
             (RefusedFile.file_ends ls (subst (Begins lent.countries s ls) (no_bytes left (omega (arith, h.place, left_long s ls left b))) b) room
@@ -190,20 +187,20 @@ module _ (s : List ℕ) (lent : Lent) where
       where
         go : (t : Bool) → ltb state.at (length s) ≡ t → Refuses turns →
             (if t then on_step (step_answer s lent starts state) (λ next. file_from turns s lent (starts ++ (state.at ∷ [])) next)
-            else ended s starts state).answer ≡ Refused refusal → RefusedFile s lent refusal
+            else ended s starts state).answer ≡ Err refusal → RefusedFile s lent refusal
         go true t more q =
             step_refused turns more ls left starts state enough b room h (ltb-true state.at (length s) t)
             (line_answer (told_by state) s state.at) refl q
         go false t more q = at_end ls left starts state b room h (ltb-false state.at (length s) t) q
 
-    pub judged_refused : (judged s lent).answer ≡ Refused refusal → RefusedFile s lent refusal
+    pub judged_refused : (judged s lent).answer ≡ Err refusal → RefusedFile s lent refusal
     unfolding judged
     judged_refused e = go (ltb file_limit (length s)) (is_paired lent.countries) refl refl e
       where
         go : (t p : Bool) → ltb file_limit (length s) ≡ t → is_paired lent.countries ≡ p →
-            (if t then record { answer = Refused (because FileTooLong file_limit); starts = [] }
-            else (if not p then record { answer = Refused (because CountriesOdd 0); starts = [] }
-            else file_from (length s + 1) s lent [] (begin (version_of s)))).answer ≡ Refused refusal → RefusedFile s lent refusal
+            (if t then record { answer = Err (because FileTooLong file_limit); starts = [] }
+            else (if not p then record { answer = Err (because CountriesOdd 0); starts = [] }
+            else file_from (length s + 1) s lent [] (begin (version_of s)))).answer ≡ Err refusal → RefusedFile s lent refusal
         go true p t ep q = is (because FileTooLong file_limit) q (RefusedFile.file_too_long (ltb-true file_limit (length s) t))
         go false false t ep q = is (because CountriesOdd 0) q (RefusedFile.countries_odd (ltb-false file_limit (length s) t) ep)
         go false true t ep q =

@@ -29,7 +29,6 @@ use Rattle.file.specs.Lent.{Lent}
 use Rattle.file.specs.Contact.{contacts_behind, lacks_contact}
 use Rattle.file.specs.Step.{behind, listing, on_line, told_by, step_answer}
 use Rattle.file.specs.declared.step.State.{State}
-use Rattle.file.specs.declared.step.Step.TheVariants.{Next as On, Stopped}
 use Rattle.file.proofs.Lists.{left_word, no_word}
 use Rattle.allowed.specs.Allowed.{FileLine, line_bytes, file_bytes, codes_on, identcodes, one_of_codes}
 use Rattle.allowed.proofs.Files.{line_some}
@@ -38,6 +37,7 @@ use Rattle.allowed.proofs.Codes.{Seen, seen_more, Fresh, not_fresh, code_here}
 use Rattle.refused.specs.Line.{RefusedLine}
 use Rattle.refused.specs.File.{due_behind, told_behind, Begins, NextLine}
 use Rattle.refused.proofs.Beginning.{bytes_more, codes_more, due_more, left_there, left_long}
+use Rattle.std.specs.Prelude.{Ok, Err}
 
 -- the judge behind these lines
 pub record Here (s : List ℕ) (ls : List FileLine) (starts : List ℕ) (state : State) : Type 0 where
@@ -142,13 +142,13 @@ module _ (s : List ℕ) (ls : List FileLine) (starts : List ℕ) (state : State)
     asked = asks lent.countries (line_of state.at l) l.fields reads
 
     -- its step, by cases
-    pub step_lacks : lacks ≡ true → step_answer s lent starts state ≡ Stopped (because ContactMissing state.at)
+    pub step_lacks : lacks ≡ true → step_answer s lent starts state ≡ Err (because ContactMissing state.at)
     unfolding step_answer on_line line_of
     step_lacks e = rw (reads_accepted reads, asked, e)
 
     module _ (reached : lacks ≡ false) where
       pub step_repeats : repeats l.kind s starts state.at ≡ true →
-          step_answer s lent starts state ≡ Stopped (because IdentcodeRepeated (state.at + 4))
+          step_answer s lent starts state ≡ Err (because IdentcodeRepeated (state.at + 4))
       unfolding step_answer on_line listing line_of
       step_repeats r = rw (reads_accepted reads, asked, reached, r)
 
@@ -156,11 +156,11 @@ module _ (s : List ℕ) (ls : List FileLine) (starts : List ℕ) (state : State)
         new : repeats l.kind s starts state.at ≡ false
         new = not_fresh s starts (identcodes ls) state.at l.fields left h.seen (sound (version_of s)) l.kind stands f.ok fresh
 
-        pub step_full : lent.words ≤ state.lines → step_answer s lent starts state ≡ Stopped (because ListFull state.at)
+        pub step_full : lent.words ≤ state.lines → step_answer s lent starts state ≡ Err (because ListFull state.at)
         unfolding step_answer on_line listing line_of
         step_full full = rw (reads_accepted reads, asked, reached, new, no_word lent.words state.lines full)
 
-        pub step_on : state.lines < lent.words → step_answer s lent starts state ≡ On (behind s state (line_of state.at l))
+        pub step_on : state.lines < lent.words → step_answer s lent starts state ≡ Ok (behind s state (line_of state.at l))
         unfolding step_answer on_line listing line_of
         step_on r = rw (reads_accepted reads, asked, reached, new, left_word lent.words state.lines r)
 

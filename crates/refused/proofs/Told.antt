@@ -8,15 +8,14 @@ use Rattle.refusal.specs.declared.Refusal.{Refusal}
 use Rattle.refusal.specs.declared.Reason.TheVariants.{UnknownVersion}
 use Rattle.records.specs.Version.{version_numbered, under_version, UnderVersion}
 use Rattle.records.specs.declared.version.Version.{Version}
-use Rattle.records.specs.declared.version.VersionTold.{VersionTold}
-use Rattle.records.specs.declared.version.VersionTold.TheVariants.{Either, Neither}
 use Rattle.records.proofs.Versions.{under_is, under_passes}
 use Rattle.refused.specs.Line.{RefusedTold}
+use Rattle.std.specs.Prelude.{Option, Some, None}
 
-pub same_version : {v w : Version} → Either v ≡ Either w → v ≡ w
+pub same_version : {v w : Version} → Some v ≡ Some w → v ≡ w
 same_version e = cc
 
-pub no_version : {v : Version} → Neither ≡ Either v → ⊥
+pub no_version : {v : Version} → ◌≡◌ {A = Option Version} None (Some v) → ⊥
 no_version e = let z : ◌≡◌ {A = ℕ} 0 1 = cc in omega arith
 
 -- a call passes exactly where it does under the version that it is told
@@ -31,11 +30,11 @@ told_exactly told refused answer a never holds exactly = (
 module _ (told : ℕ) (under : Version → Refusal → Type 0) where
   module _ {A : Type 0} (refused : Refusal → A) (answer : Version → A) (inject : (a b : Refusal) → refused a ≡ refused b → a ≡ b)
       (exactly : (version : Version) (refusal : Refusal) → (answer version ≡ refused refusal) ↔ under version refusal) where
-    answered : (refusal : Refusal) (t : VersionTold) → version_numbered told ≡ t → under_version t refused answer ≡ refused refusal →
+    answered : (refusal : Refusal) (t : Option Version) → version_numbered told ≡ t → under_version t refused answer ≡ refused refusal →
         RefusedTold told under refusal
-    answered refusal Neither et e =
+    answered refusal None et e =
         subst (RefusedTold told under) (inject (because UnknownVersion 0) refusal e) (RefusedTold.unknown_version et)
-    answered refusal (Either version) et e = RefusedTold.told_under_version version refusal et ((exactly version refusal).0 e)
+    answered refusal (Some version) et e = RefusedTold.told_under_version version refusal et ((exactly version refusal).0 e)
 
     given : (refusal : Refusal) → RefusedTold told under refusal → under_version (version_numbered told) refused answer ≡ refused refusal
     given refusal (RefusedTold.unknown_version et) = rw et
@@ -50,14 +49,14 @@ module _ (told : ℕ) (under : Version → Refusal → Type 0) where
         UnderVersion told passes ⊎ ((refusal : Refusal) × RefusedTold told under refusal)
     told_always_one either = go (version_numbered told) refl
       where
-        one : (version : Version) → version_numbered told ≡ Either version → passes version ⊎ ((refusal : Refusal) × under version refusal) →
+        one : (version : Version) → version_numbered told ≡ Some version → passes version ⊎ ((refusal : Refusal) × under version refusal) →
             UnderVersion told passes ⊎ ((refusal : Refusal) × RefusedTold told under refusal)
         one version et (inl p) = inl (version, (et, p))
         one version et (inr r) = inr (r.0, RefusedTold.told_under_version version r.0 et r.1)
 
-        go : (t : VersionTold) → version_numbered told ≡ t → UnderVersion told passes ⊎ ((refusal : Refusal) × RefusedTold told under refusal)
-        go Neither et = inr (because UnknownVersion 0, RefusedTold.unknown_version et)
-        go (Either version) et = one version et (either version)
+        go : (t : Option Version) → version_numbered told ≡ t → UnderVersion told passes ⊎ ((refusal : Refusal) × RefusedTold told under refusal)
+        go None et = inr (because UnknownVersion 0, RefusedTold.unknown_version et)
+        go (Some version) et = one version et (either version)
 
     pub told_never_both : ((version : Version) (refusal : Refusal) → passes version → under version refusal → ⊥) → (refusal : Refusal) →
         UnderVersion told passes → RefusedTold told under refusal → ⊥

@@ -1,6 +1,6 @@
 -- Document 01, 'Refusal numbers', and document 02, request 1: when a file is refused, by which number and at which place, said of the
 -- file's own lines.
-use Rattle.std.specs.Prelude.{ℕ, ◌≤◌, ◌<◌, ◌≡◌, true, false, List, [], ◌∷◌, ◌++◌, length, replicate}
+use Rattle.std.specs.Prelude.{ℕ, ◌≤◌, ◌<◌, ◌≡◌, true, false, List, [], ◌∷◌, ◌++◌, length, replicate, Result, Ok, Err}
 use Rattle.text.specs.Quoted.{bytes}
 use Rattle.refusal.specs.Table.{because}
 use Rattle.refusal.specs.declared.Refusal.{Refusal}
@@ -16,12 +16,11 @@ use Rattle.line.specs.Line.{file_limit}
 use Rattle.countries.specs.List.{is_paired, is_listed}
 use Rattle.file.specs.Lent.{Lent}
 use Rattle.file.specs.Version.{version_of}
-use Rattle.file.specs.declared.whole.FileAnswer.{FileAnswer}
-use Rattle.file.specs.declared.whole.FileAnswer.TheVariants.{Accepted, Refused}
 use Rattle.grammar.specs.Grammar.{LineOk}
 use Rattle.allowed.specs.Allowed.{FileLine, line_bytes, file_bytes, LinesOk, identcodes, one_of_codes, NoneTwice}
 use Rattle.allowed.specs.Allowed.{HasContacts, ContactsKept, Accepts}
 use Rattle.refused.specs.Line.{RefusedLine}
+use Rattle.file.specs.declared.whole.Totals.{Totals}
 
 -- "Record order": each of these records may come where it comes
 abbrev pub Come : Due → List FileLine → Type 0
@@ -101,7 +100,7 @@ pub data RefusedFile (file : List ℕ) (lent : Lent) : Refusal → Type 0 where
       RefusedFile file lent (because FileEnds (length file))
 
 -- what the judge's answer and the list behind it mean, for every file
-abbrev pub Means : List ℕ → Lent → FileAnswer → List ℕ → Type 0
-Means file lent (Accepted totals) list = Accepts file lent totals list
+abbrev pub Means : List ℕ → Lent → Result Totals Refusal → List ℕ → Type 0
+Means file lent (Ok totals) list = Accepts file lent totals list
 -- "On a refusal all words are 0."
-Means file lent (Refused refusal) list = RefusedFile file lent refusal × (list ≡ replicate lent.words 0)
+Means file lent (Err refusal) list = RefusedFile file lent refusal × (list ≡ replicate lent.words 0)

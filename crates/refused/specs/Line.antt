@@ -1,5 +1,5 @@
 -- Document 01, 'Refusal numbers': when a line is refused, by which number and at which place, said of the line's own bytes and fields.
-use Rattle.std.specs.Prelude.{ℕ, ◌+◌, ◌≤◌, ◌<◌, ◌≡◌, true, false, List, [], ◌∷◌, ◌++◌, length, take, drop}
+use Rattle.std.specs.Prelude.{ℕ, ◌+◌, ◌≤◌, ◌<◌, ◌≡◌, true, false, List, [], ◌∷◌, ◌++◌, length, take, drop, Some, None}
 use Rattle.text.specs.Byte.{text_byte}
 use Rattle.text.specs.Quoted.{bytes}
 use Rattle.text.specs.Scan.{all}
@@ -23,7 +23,6 @@ use Rattle.records.specs.Record.{type_of, count_fits, may_come}
 use Rattle.fields.specs.Profile.{Row, Rules, width_of, is_required, has_form}
 use Rattle.records.specs.Version.{version_numbered}
 use Rattle.records.specs.declared.version.Version.{Version}
-use Rattle.records.specs.declared.version.VersionTold.TheVariants.{Either, Neither}
 use Rattle.records.specs.declared.record.Record.{Record}
 use Rattle.records.specs.declared.record.Record.TheVariants.{Feature}
 use Rattle.line.specs.Parts.{part_before}
@@ -106,9 +105,9 @@ pub data RefusedAt (told : Told) (file : List ℕ) (offset : ℕ) : Refusal → 
 -- what a line call refuses that is told a version: what it refuses under it, or first of all
 pub data RefusedTold (told : ℕ) (under : Version → Refusal → Type 0) : Refusal → Type 0 where
   -- 22: "a line call told neither 5 nor 7, place 0, before all others"
-  unknown_version : version_numbered told ≡ Neither → RefusedTold told under (because UnknownVersion 0)
+  unknown_version : version_numbered told ≡ None → RefusedTold told under (because UnknownVersion 0)
   told_under_version :
-      (version : Version) (refusal : Refusal) → version_numbered told ≡ Either version → under version refusal → RefusedTold told under refusal
+      (version : Version) (refusal : Refusal) → version_numbered told ≡ Some version → under version refusal → RefusedTold told under refusal
 
 -- "One field adds a field number, then 15 for 0 or above the count"
 pub data RefusedFind (rules : Rules) (file : List ℕ) (offset n : ℕ) : Refusal → Type 0 where

@@ -1,6 +1,6 @@
 -- Document 01, 'Writer': when a line is not written. "Order: 3, 14, 5, fields (6, 7, 8), 9, 13." "Place is the field number for 6 to 8,
 -- else 0."
-use Rattle.std.specs.Prelude.{ℕ, ◌+◌, ◌≤◌, ◌<◌, ◌≡◌, true, false, List, ◌∷◌, ◌++◌, length}
+use Rattle.std.specs.Prelude.{ℕ, ◌+◌, ◌≤◌, ◌<◌, ◌≡◌, true, false, List, ◌∷◌, ◌++◌, length, Some, None}
 use Rattle.text.specs.Scan.{all}
 use Rattle.refusal.specs.Table.{because}
 use Rattle.refusal.specs.declared.Refusal.{Refusal}
@@ -10,7 +10,6 @@ use Rattle.records.specs.Record.{type_of, count_fits}
 use Rattle.fields.specs.Profile.{Row, Rules, width_of}
 use Rattle.records.specs.declared.record.Record.{Record}
 use Rattle.records.specs.declared.record.Record.TheVariants.{Feature}
-use Rattle.records.specs.declared.record.Named.TheVariants.{Known, Unknown}
 use Rattle.line.specs.Parts.{part_before}
 use Rattle.line.specs.Render.{render, plain}
 use Rattle.grammar.specs.Grammar.{FieldsOk, Served, LineOk}
@@ -25,7 +24,7 @@ pub data RefusedToWrite (rows : List Row) (n : ℕ) (beside f : List ℕ) : Reas
 
 -- what is handed over are these fields of a known record, as many as it should have, and their ends hold
 pub record Handed (number : ℕ) (text ends : List ℕ) (kind : Record) (fs : List (List ℕ)) : Type 0 where
-  pub known : record_numbered number ≡ Known kind
+  pub known : record_numbered number ≡ Some kind
   pub held : ends_hold ends (length text) ≡ true
   pub counted : count_fits kind (length ends) ≡ true
   pub fields : between text ends ≡ fs
@@ -33,14 +32,14 @@ pub record Handed (number : ℕ) (text ends : List ℕ) (kind : Record) (fs : Li
 -- a line is not written into an output of this size behind its fill, with this number and place
 pub data RefusedWrite (rules : Rules) (number : ℕ) (text ends : List ℕ) (size fill : ℕ) : Refusal → Type 0 where
   -- 3: "unknown record type"
-  unknown_record : record_numbered number ≡ Unknown → RefusedWrite rules number text ends size fill (because UnknownRecord 0)
+  unknown_record : record_numbered number ≡ None → RefusedWrite rules number text ends size fill (because UnknownRecord 0)
   -- 14: "field ends fall, or the last is not the text's length, or no ends with text"
   field_ends :
-      (kind : Record) → record_numbered number ≡ Known kind → ends_hold ends (length text) ≡ false →
+      (kind : Record) → record_numbered number ≡ Some kind → ends_hold ends (length text) ≡ false →
       RefusedWrite rules number text ends size fill (because FieldEnds 0)
   -- 5: "wrong number of fields"
   field_count :
-      (kind : Record) → record_numbered number ≡ Known kind → ends_hold ends (length text) ≡ true → count_fits kind (length ends) ≡ false →
+      (kind : Record) → record_numbered number ≡ Some kind → ends_hold ends (length text) ≡ true → count_fits kind (length ends) ≡ false →
       RefusedWrite rules number text ends size fill (because FieldCount 0)
   -- 6, 7, 8, at "the field number": those in front are fine, and this one is refused
   bad_field :

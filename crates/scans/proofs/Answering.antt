@@ -5,20 +5,20 @@ use lib.ListN.{get_or-append}
 use Rattle.text.specs.Placed.{written}
 use Rattle.text.specs.Tabled.{tabled}
 use Rattle.text.proofs.Tables.{tabled_at, tabled_long}
-use Rattle.refusal.specs.Table.{number_told}
-use Rattle.check_characters.specs.declared.day.DayAnswer.{DayAnswer}
-use Rattle.check_characters.specs.declared.day.DayAnswer.TheVariants.{Answered}
-use Rattle.check_characters.specs.Number.{number_verdict, checked_number}
+use Rattle.refusal.specs.Table.{number_told, verdict_on}
+use Rattle.check_characters.specs.Number.{checked_number}
 use Rattle.check_characters.proofs.Days.{number_front}
 use Rattle.check_characters.specs.Day.{number_at, how_many, zeros, day_answers, day_answer, answers_after, ChecksDay}
 use Rattle.scans.specs.declared.Answered as told_of
 use Rattle.scans.specs.Scans.{whole_lines, line_answer, AnswersLines}
 use Rattle.scans.specs.Laying.{ruled, answer_at, overruled, Lays}
 use Rattle.scans.proofs.Tabling.{tabled_alike, written_again}
+use Rattle.std.specs.Prelude.{Result, Ok}
+use Rattle.refusal.specs.declared.Refusal.{Refusal}
 
 -- what the number in the place i is told
 abbrev told : List ℕ → ℕ → ℕ
-told numbers i = number_told (number_verdict (checked_number (number_at numbers i)))
+told numbers i = number_told (verdict_on (checked_number (number_at numbers i)))
 
 -- n whole numbers, with a byte each, are never refused
 module _ (numbers answers : List ℕ) (n : ℕ) (long : length numbers ≡ 15 * n) (room : n ≤ length answers) where
@@ -29,17 +29,17 @@ module _ (numbers answers : List ℕ) (n : ℕ) (long : length numbers ≡ 15 * 
   unfolding day_answers
   day_answers_lem = rw many
 
-  pub day_written : (day : DayAnswer) (after : List ℕ) → ChecksDay numbers answers day after →
+  pub day_written : (day : Result ℕ Refusal) (after : List ℕ) → ChecksDay numbers answers day after →
       after ≡ written answers 0 (day_answers numbers)
   unfolding day_answer answers_after
   day_written day after e =
       let m : length numbers % 15 ≡ 0 = rw long (omega arith) in
-      let q : day ≡ Answered (zeros (day_answers numbers)) =
+      let q : day ≡ Ok (zeros (day_answers numbers)) =
       e.0 ∙ rw (eq-eqb (length numbers % 15) 0 m, le-ltb (length answers) (how_many numbers) (omega (arith, many))) in
       e.1 ∙ rw q
 
 -- each premise is a callee's promise
-module _ (text answers : List ℕ) (room : ℕ) (answered : told_of.Answered) (numbers : List ℕ) (marks : List Bool) (day : DayAnswer) (checked : List ℕ)
+module _ (text answers : List ℕ) (room : ℕ) (answered : told_of.Answered) (numbers : List ℕ) (marks : List Bool) (day : Result ℕ Refusal) (checked : List ℕ)
     (er : room ≡ min (length answers) 1024) (lays : Lays text room answered numbers marks)
     (wide : 15 * room ≤ length numbers) (marked : room ≤ length marks)
     (checks : ChecksDay (take (15 * answered.lines) numbers) answers day checked) where
@@ -84,7 +84,7 @@ module _ (text answers : List ℕ) (room : ℕ) (answered : told_of.Answered) (n
       ap (λ s. get_or s k 0) checked_is
       ∙ get_or-append table (drop (0 + length table) answers) 0 k (omega (arith, tl))
       ∙ tabled_at (told (take (15 * answered.lines) numbers)) answered.lines k 0 h
-      ∙ ap (λ s. number_told (number_verdict (checked_number s))) (same_number k h)
+      ∙ ap (λ s. number_told (verdict_on (checked_number s))) (same_number k h)
       in
       rw (get_or-take answered.lines marks k false h, c)
 

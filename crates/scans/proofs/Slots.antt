@@ -5,8 +5,8 @@ use Rattle.std.proofs.Common.{eqb-true}
 use Rattle.std.specs.Prelude.{if◌then◌else◌}
 use Rattle.text.specs.Placed.{written, placed}
 use Rattle.text.proofs.Placing.{placed_there, placed_long}
-use Rattle.refusal.specs.Table.{number_told}
-use Rattle.check_characters.specs.Number.{number_verdict, checked_number}
+use Rattle.refusal.specs.Table.{number_told, verdict_on}
+use Rattle.check_characters.specs.Number.{checked_number}
 use Rattle.check_characters.specs.Day.{number_at}
 use Rattle.check_characters.proofs.Days.{number_front}
 use Rattle.scans.specs.Scans.{number_on, line_answer}
@@ -60,11 +60,11 @@ module _ (numbers : List ℕ) (marks : List Bool) (line : List ℕ) (i : ℕ) (m
     where
       go : (t : Bool) → eqb (length (number_on line)) 15 ≡ t →
           ruled t
-          (number_told (number_verdict (checked_number (number_at (if t then placed numbers (15 * i) (number_on line) else numbers) i))))
-          ≡ (if t then number_told (number_verdict (checked_number (number_on line))) else 16)
+          (number_told (verdict_on (checked_number (number_at (if t then placed numbers (15 * i) (number_on line) else numbers) i))))
+          ≡ (if t then number_told (verdict_on (checked_number (number_on line))) else 16)
       go true e =
           let n : length (number_on line) ≡ 15 = eqb-true (length (number_on line)) 15 e in
-          ap (λ s. number_told (number_verdict (checked_number s)))
+          ap (λ s. number_told (verdict_on (checked_number s)))
           (ap (λ s. number_at s i) (placed_there numbers (15 * i) (number_on line) (omega arith))
           ∙ number_there numbers (number_on line) i (omega arith) n)
       go false e = refl

@@ -3,8 +3,8 @@
 use Rattle.std.specs.Prelude.{◌≡◌, ℕ, ◌≤◌, Bool, false, List, map, length, take, ◌==◌, slice_index, slice_index_or, if◌then◌else◌}
 use Rattle.text.specs.Placed.{written, placed}
 use Rattle.text.specs.Tabled.{tabled}
-use Rattle.refusal.specs.Table.{number_told}
-use Rattle.check_characters.specs.Number.{number_verdict, checked_number}
+use Rattle.refusal.specs.Table.{number_told, verdict_on}
+use Rattle.check_characters.specs.Number.{checked_number}
 use Rattle.check_characters.specs.Day.{number_at}
 use Rattle.scans.specs.declared.Answered.{Answered}
 use Rattle.scans.specs.Scans.{whole_lines, number_on, line_answer, answered_of}
@@ -23,7 +23,7 @@ ruled mark answer = if mark then answer else 16
 
 -- what the number and the mark in the place i make the answer
 unfoldable pub answer_at : List ℕ → List Bool → ℕ → ℕ
-answer_at numbers marks i = ruled (slice_index_or marks i false) (number_told (number_verdict (checked_number (number_at numbers i))))
+answer_at numbers marks i = ruled (slice_index_or marks i false) (number_told (verdict_on (checked_number (number_at numbers i))))
 
 -- the first lines of a text are laid out, as many as there is room for
 abbrev pub Lays : List ℕ → ℕ → Answered → List ℕ → List Bool → Type 0

@@ -7,8 +7,8 @@ use Rattle.std.specs.Prelude.{◌≡◌, ℕ, suc, ◌+◌, ◌-◌, ◌/◌, �
 use Rattle.std.specs.Prelude.{slice_index, slice_range, if◌then◌else◌}
 use Rattle.text.specs.Placed.{written, placed}
 use Rattle.text.specs.Quoted.{byte}
-use Rattle.refusal.specs.Table.{number_told}
-use Rattle.check_characters.specs.Number.{number_verdict, checked_number}
+use Rattle.refusal.specs.Table.{number_told, verdict_on}
+use Rattle.check_characters.specs.Number.{checked_number}
 use Rattle.scans.specs.declared.Answered.{Answered}
 
 -- the whole lines of a text that stands behind the start of a line, each without its line feed
@@ -26,7 +26,7 @@ number_on line = if slice_index line (length line - 1) == 13 then take (length l
 -- "as each number would get alone"; 16 where it has not the length of a tracking number
 unfoldable pub line_answer : List ℕ → ℕ
 line_answer line =
-    if length (number_on line) == 15 then number_told (number_verdict (checked_number (number_on line))) else 16
+    if length (number_on line) == 15 then number_told (verdict_on (checked_number (number_on line))) else 16
 
 -- so many lines are answered by one call, where there are so many answer bytes
 abbrev pub at_once : ℕ → ℕ

@@ -30,7 +30,7 @@ pub fn answer_lines(text: &[u8], answers: &mut [u8]) -> Answered
     let answered = lay_out(text, room, &mut numbers, &mut marks);
     let n = answered.lines;
     // Never refused: these are n numbers, and there are at least n answer bytes.
-    check_characters::check_numbers(&numbers[..15 * n], answers);
+    let _ = check_characters::check_numbers(&numbers[..15 * n], answers);
     overrule(&marks[..n], answers);
     answered
 }

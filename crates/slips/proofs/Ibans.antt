@@ -12,18 +12,16 @@ use lib.ListN.{length, get_or, take, drop, length-append}
 use lib.Seq.{split_at}
 use borrow.Author.Tests.{eqb-true, eq-eqb, ltb-false, leb-true, le-leb, le-ltb, lt-leb, not-true, not-false}
 use Rattle.refusal.specs.declared.Reason.TheVariants.{WrongLength, WrongSymbol, WrongCheck}
-use Rattle.refusal.specs.Table.{because}
+use Rattle.refusal.specs.Table.{because, verdict_on}
 use Rattle.refusal.proofs.Verdicts.{no_pass}
-use Rattle.std.specs.Prelude.{if◌then◌else◌}
+use Rattle.std.specs.Prelude.{if◌then◌else◌, Ok, Err}
 use Rattle.text.specs.Byte.{digit, capital}
 use Rattle.text.proofs.Choices.{and_left, and_right, or_cases, came_then, came_else, clash}
 use Rattle.text.proofs.Bytes.{digit_range, capital_range, capital_low}
 use Rattle.text.proofs.Finite.{every_at, tells, told_apart}
 use Rattle.check_characters.specs.Symbol.{value_of}
 use Rattle.check_characters.specs.Iban.{allowed_in_iban, wrong_in_iban, digits_of, spread, decimal_from, moved, iban_number}
-use Rattle.check_characters.specs.Answer.{check_verdict}
 use Rattle.check_characters.specs.Iban.{check_digits, barred, sound_of, checked_iban}
-use Rattle.check_characters.specs.declared.answer.CheckAnswer.TheVariants.{Accepted, Refused}
 use Rattle.check_characters.proofs.Symbols.{value_le, value_digit, value_capital}
 use Rattle.check_characters.proofs.Digits.{decimal_append, spread_append, weight, weighed, mod_scale}
 use Rattle.slips.specs.Slips.{AgreeBut, OneClass, swapped}
@@ -33,16 +31,16 @@ use Rattle.slips.proofs.Places.{in_pieces, agree_there, pair_at, swap_alike}
 use Rattle.slips.proofs.Remainders.{after, remainder_from, remainder_spread, remainder_append, weight_tells}
 use Rattle.slips.proofs.Remainders.{cancel, tell_remainders, tell_order, tell_value}
 
-pub accepted_sound : (s : List ℕ) → checked_iban s ≡ Accepted → SoundIban s
+pub accepted_sound : (s : List ℕ) → checked_iban s ≡ Ok tt → SoundIban s
 unfolding checked_iban sound_of
 accepted_sound s e =
     let inside = leb 15 (length s) && leb (length s) 34 in
     let wrong = ltb (wrong_in_iban s) (length s) in
-    let tail = if sound_of s then Accepted else Refused (because WrongCheck 2) in
-    let a = came_else (not inside) (Refused (because WrongLength 0)) (if wrong then Refused (because WrongSymbol (wrong_in_iban s)) else tail)
-    Accepted (no_pass check_verdict refl refl) e in
-    let b = came_else wrong (Refused (because WrongSymbol (wrong_in_iban s))) tail Accepted (no_pass check_verdict refl refl) a.1 in
-    let c = came_then (sound_of s) Accepted (Refused (because WrongCheck 2)) Accepted (no_pass check_verdict refl refl) b.1 in
+    let tail = if sound_of s then Ok tt else Err (because WrongCheck 2) in
+    let a = came_else (not inside) (Err (because WrongLength 0)) (if wrong then Err (because WrongSymbol (wrong_in_iban s)) else tail)
+    (Ok tt) (no_pass verdict_on refl refl) e in
+    let b = came_else wrong (Err (because WrongSymbol (wrong_in_iban s))) tail (Ok tt) (no_pass verdict_on refl refl) a.1 in
+    let c = came_then (sound_of s) (Ok tt) (Err (because WrongCheck 2)) (Ok tt) (no_pass verdict_on refl refl) b.1 in
     let long = not-false inside a.0 in
     record {
       long = leb-true 15 (length s) (and_left (leb 15 (length s)) (leb (length s) 34) long);
@@ -52,7 +50,7 @@ accepted_sound s e =
       one = eqb-true (iban_number s % 97) 1 (and_right (not (barred (check_digits s))) (eqb (iban_number s % 97) 1) c.0);
     }
 
-pub sound_accepted : (s : List ℕ) → SoundIban s → checked_iban s ≡ Accepted
+pub sound_accepted : (s : List ℕ) → SoundIban s → checked_iban s ≡ Ok tt
 unfolding checked_iban sound_of
 sound_accepted s g =
     simp (

@@ -22,15 +22,15 @@ use Rattle.text.proofs.Scans.{all_at, all_of}
 use Rattle.check_characters.specs.Symbol.{value_of}
 use Rattle.check_digits.specs.Identcode.{allowed_in_identcode, wrong_in_identcode, weight_at, weighed_from, weighed, check_digit_of}
 use Rattle.check_digits.specs.Identcode.{passes, checked_identcode}
-use Rattle.check_characters.specs.declared.answer.CheckAnswer.TheVariants.{Accepted}
 use Rattle.check_characters.proofs.Symbols.{value_digit}
 use Rattle.check_digits.proofs.Identcodes.{weight_three, weight_one, weighed_append, passes_leaves, leaves_passes, accepted_whole}
 use Rattle.slips.specs.Slips.{AgreeBut, swapped, FiveApart}
 use Rattle.slips.specs.Exactly.{SoundIdentcode, Shaped, body_of}
 use Rattle.slips.proofs.Shaping.{shaped_all, all_shaped}
 use Rattle.slips.proofs.Places.{in_pieces, agree_there, pair_at}
+use Rattle.std.specs.Prelude.{Ok}
 
-pub accepted_sound : (s : List ℕ) → checked_identcode s ≡ Accepted → SoundIdentcode s
+pub accepted_sound : (s : List ℕ) → checked_identcode s ≡ Ok tt → SoundIdentcode s
 unfolding passes
 accepted_sound s e =
     let w = accepted_whole s e in
@@ -65,7 +65,7 @@ module _ (s : List ℕ) (long : length s ≡ 22) (shaped : Shaped allowed_in_ide
   closed_leaves e =
       ⊎_elim (λ z. z) (λ n. clash (closed_passes e) (leaves_passes s long fine n)) (eq_or_ne (weighed s % 10) 0)
 
-pub sound_accepted : (s : List ℕ) → SoundIdentcode s → checked_identcode s ≡ Accepted
+pub sound_accepted : (s : List ℕ) → SoundIdentcode s → checked_identcode s ≡ Ok tt
 unfolding checked_identcode
 sound_accepted s g =
     simp (

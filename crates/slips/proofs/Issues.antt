@@ -10,7 +10,7 @@ use lib.ListN.{length, get_or, take, drop, length-append, length-take, get_or-ap
 use lib.Seq.{get_or_at}
 use borrow.Author.Tests.{eqb-true, ltb-false}
 use Rattle.refusal.specs.declared.Reason.TheVariants.{WrongLength, WrongSymbol}
-use Rattle.refusal.specs.Table.{because}
+use Rattle.refusal.specs.Table.{because, verdict_on}
 use Rattle.refusal.proofs.Verdicts.{no_pass}
 use Rattle.text.specs.Byte.{symbol}
 use Rattle.text.proofs.Choices.{came_then, came_else, true_or_false}
@@ -18,12 +18,10 @@ use Rattle.text.proofs.Numbers.{le_or_lt}
 use Rattle.text.proofs.Finite.{every_at}
 use Rattle.check_characters.specs.Symbol.{value_of, symbol_of}
 use Rattle.check_characters.specs.Mod37.{carry, check_of}
-use Rattle.check_characters.specs.Answer.{room_for, issue_verdict}
+use Rattle.check_characters.specs.Answer.{room_for}
 use Rattle.check_characters.specs.Number.{length_of, allowed_in_number, wrong_in_number, issue_as, issue_answer, Issues}
 use Rattle.check_characters.specs.declared.number.Kind.{Kind}
 use Rattle.check_characters.specs.declared.number.Kind.TheVariants.{Tracking, Label}
-use Rattle.check_characters.specs.declared.answer.IssueAnswer.{IssueAnswer}
-use Rattle.check_characters.specs.declared.answer.IssueAnswer.TheVariants.{Issued, Refused}
 use Rattle.check_characters.proofs.Carries.{carry_of, carry_append, two_of_one, two_passes, check_value_lem}
 use Rattle.check_characters.proofs.Shapes.{has_last, tracking_check, label_check}
 use Rattle.check_characters.proofs.Issuing.{room_there, room_whole, issue_right, issue_tracking, issue_label}
@@ -31,6 +29,8 @@ use Rattle.slips.specs.Exactly.{Shaped, SoundNumber, body_of}
 use Rattle.slips.proofs.Shaping.{shaped_all, all_shaped}
 use Rattle.slips.proofs.Written.{written_start, front_shaped, all_and_last, written_again}
 use Rattle.slips.proofs.Numbers.{one_symbol}
+use Rattle.std.specs.Prelude.{Result, Ok, Err}
+use Rattle.refusal.specs.declared.Refusal.{Refusal}
 
 -- what an issued answer tells of the body
 pub record Body (k : Kind) (body : List ℕ) (n : ℕ) : Type 0 where
@@ -38,18 +38,18 @@ pub record Body (k : Kind) (body : List ℕ) (n : ℕ) : Type 0 where
   pub shaped : Shaped (allowed_in_number k) body
   pub whole : n ≡ length_of k
 
-body_as : (k : Kind) (body : List ℕ) (room n : ℕ) → length body + 1 ≡ length_of k → issue_as k body room ≡ Issued n → Body k body n
+body_as : (k : Kind) (body : List ℕ) (room n : ℕ) → length body + 1 ≡ length_of k → issue_as k body room ≡ Ok n → Body k body n
 unfolding issue_as
 body_as k body room n long e =
-    let w = came_else (ltb (wrong_in_number k body) (length body)) (Refused (because WrongSymbol (wrong_in_number k body)))
-    (room_for (length_of k) room) (Issued n) (no_pass issue_verdict refl refl) e in
+    let w = came_else (ltb (wrong_in_number k body) (length body)) (Err (because WrongSymbol (wrong_in_number k body)))
+    (room_for (length_of k) room) (Ok n) (no_pass verdict_on refl refl) e in
     record {
       long = long;
       shaped = shaped_all (allowed_in_number k) body (ltb-false (wrong_in_number k body) (length body) w.0);
       whole = room_whole (length_of k) room n w.1;
     }
 
-body_of_lem : (body : List ℕ) (room n : ℕ) → issue_answer body room ≡ Issued n → (k : Kind) × Body k body n
+body_of_lem : (body : List ℕ) (room n : ℕ) → issue_answer body room ≡ Ok n → (k : Kind) × Body k body n
 unfolding issue_answer
 body_of_lem body room n e =
     ⊎_elim (λ (t : eqb (length body) 14 ≡ true). (
@@ -58,7 +58,7 @@ body_of_lem body room n e =
           (simp t at e),
     ))
     (λ (f : eqb (length body) 14 ≡ false).
-    let w = came_then (eqb (length body) 27) (issue_as Label body room) (Refused (because WrongLength 0)) (Issued n) (no_pass issue_verdict refl refl)
+    let w = came_then (eqb (length body) 27) (issue_as Label body room) (Err (because WrongLength 0)) (Ok n) (no_pass verdict_on refl refl)
     (simp f at e) in
     (Label, body_as Label body room n (omega (arith, eqb-true (length body) 27 w.0)) w.1))
     (true_or_false (eqb (length body) 14))
@@ -106,7 +106,7 @@ with_check k body long shaped =
     at_end i e = rw (get_or_at body (check_of body) [] 0 i (sym e)) (check_stands k i (check_of body) (rw e long) (check_symbol body))
 
 -- what is issued is sound
-pub issued_sound : (body out after : List ℕ) (n : ℕ) → Issues body out (Issued n) after → (k : Kind) × SoundNumber k (take n after)
+pub issued_sound : (body out after : List ℕ) (n : ℕ) → Issues body out (Ok n) after → (k : Kind) × SoundNumber k (take n after)
 issued_sound body out after n h =
     let b = body_of_lem body (length out) n (sym h.0) in
     let w = with_check b.0 body b.1.long b.1.shaped in
@@ -117,9 +117,9 @@ pub issues_as : (k : Kind) (body : List ℕ) (room : ℕ) → length body + 1 �
 issues_as Tracking body room e = issue_tracking body room (omega arith)
 issues_as Label body room e = issue_label body room (λ q. omega arith) (omega arith)
 
-pub sound_issued : (k : Kind) (s out after : List ℕ) (answer : IssueAnswer) → SoundNumber k s → length s ≤ length out →
+pub sound_issued : (k : Kind) (s out after : List ℕ) (answer : Result ℕ Refusal) → SoundNumber k s → length s ≤ length out →
     Issues (body_of s) out answer after
-    → (answer ≡ Issued (length s)) × (after ≡ s ++ drop (length s) out)
+    → (answer ≡ Ok (length s)) × (after ≡ s ++ drop (length s) out)
 sound_issued k s out after answer g room h = (answered, rw answered at h.1 ∙ written_again s some out (check_of (body_of s)) last)
   where
     some : 1 ≤ length s
@@ -131,14 +131,14 @@ sound_issued k s out after answer g room h = (answered, rw answered at h.1 ∙ w
     shaped : Shaped (allowed_in_number k) (body_of s)
     shaped = front_shaped (allowed_in_number k) s (length s - 1) g.shaped
 
-    answered : answer ≡ Issued (length s)
+    answered : answer ≡ Ok (length s)
     answered =
         h.0
         ∙ issues_as k (body_of s) (length out) (whole ∙ g.long)
-        ∙ sym (issue_right k (body_of s) (length out) (wrong_in_number k (body_of s)) refl (Issued (length (body_of s) + 1))
+        ∙ sym (issue_right k (body_of s) (length out) (wrong_in_number k (body_of s)) refl (Ok (length (body_of s) + 1))
         (all_shaped (allowed_in_number k) (body_of s) shaped) (whole ∙ g.long)
         (room_there (length (body_of s)) (length out) (omega (arith, whole))))
-        ∙ ap Issued whole
+        ∙ ap Ok whole
 
     last : check_of (body_of s) ≡ get_or s (length s - 1) 0
     last =

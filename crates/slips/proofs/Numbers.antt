@@ -10,19 +10,18 @@ use lib.ListN.{length, get_or, take, drop, length-append}
 use lib.Seq.{split_at, get_or_at}
 use borrow.Author.Tests.{eqb-true, ltb-false, le-ltb}
 use Rattle.refusal.specs.declared.Reason.TheVariants.{WrongLength, WrongSymbol, WrongCheck}
-use Rattle.refusal.specs.Table.{because}
+use Rattle.refusal.specs.Table.{because, verdict_on}
 use Rattle.refusal.proofs.Verdicts.{no_pass}
 use Rattle.text.specs.Byte.{digit, capital, symbol}
-use Rattle.std.specs.Prelude.{if◌then◌else◌}
+use Rattle.std.specs.Prelude.{if◌then◌else◌, Ok, Err}
 use Rattle.text.proofs.Choices.{came_then, came_else, or_cases, clash, true_or_false}
 use Rattle.text.proofs.Numbers.{le_or_lt}
 use Rattle.text.proofs.Bytes.{digit_range, capital_range}
 use Rattle.check_characters.specs.Symbol.{value_of}
 use Rattle.check_characters.specs.Mod37.{step, carry_from, carry, passes}
-use Rattle.check_characters.specs.Number.{length_of, allowed_in_number, wrong_in_number, checked_as, checked_number, number_verdict}
+use Rattle.check_characters.specs.Number.{length_of, allowed_in_number, wrong_in_number, checked_as, checked_number}
 use Rattle.check_characters.specs.declared.number.Kind.{Kind}
 use Rattle.check_characters.specs.declared.number.Kind.TheVariants.{Tracking, Label}
-use Rattle.check_characters.specs.declared.number.NumberAnswer.TheVariants.{Accepted, Refused}
 use Rattle.check_characters.proofs.Symbols.{value_le, value_digit, value_capital}
 use Rattle.check_characters.proofs.Carries.{Carry, step_carry, carry_of, carry_append, passes_two, two_passes}
 use Rattle.check_characters.proofs.Shapes.{has_last, tracking_digit, tracking_check, label_symbol, label_digit, label_check}
@@ -33,26 +32,26 @@ use Rattle.slips.proofs.Shaping.{shaped_all, all_shaped}
 use Rattle.slips.proofs.Places.{in_pieces, agree_there, pair_at}
 use Rattle.slips.proofs.Steps.{step_value, step_back, swap_follows, follows_swap}
 
-sound_as : (j k : Kind) (s : List ℕ) → length s ≡ length_of j → checked_as j s ≡ Accepted k → SoundNumber k s
+sound_as : (j k : Kind) (s : List ℕ) → length s ≡ length_of j → checked_as j s ≡ Ok k → SoundNumber k s
 unfolding checked_as
 sound_as j k s n e =
-    let w = came_else (ltb (wrong_in_number j s) (length s)) (Refused (because WrongSymbol (wrong_in_number j s)))
-    (if passes s then Accepted j else Refused (because WrongCheck (length s - 1))) (Accepted k) (no_pass number_verdict refl refl) e in
-    let p = came_then (passes s) (Accepted j) (Refused (because WrongCheck (length s - 1))) (Accepted k) (no_pass number_verdict refl refl) w.1 in
+    let w = came_else (ltb (wrong_in_number j s) (length s)) (Err (because WrongSymbol (wrong_in_number j s)))
+    (if passes s then Ok j else Err (because WrongCheck (length s - 1))) (Ok k) (no_pass verdict_on refl refl) e in
+    let p = came_then (passes s) (Ok j) (Err (because WrongCheck (length s - 1))) (Ok k) (no_pass verdict_on refl refl) w.1 in
     let q : j ≡ k = cc in
     let g : SoundNumber j s = record { long = n; shaped = shaped_all (allowed_in_number j) s (ltb-false (wrong_in_number j s) (length s) w.0); closed = p.0 } in
     rw q at g
 
-pub accepted_sound : (k : Kind) (s : List ℕ) → checked_number s ≡ Accepted k → SoundNumber k s
+pub accepted_sound : (k : Kind) (s : List ℕ) → checked_number s ≡ Ok k → SoundNumber k s
 unfolding checked_number
 accepted_sound k s e =
     ⊎_elim (λ (t : eqb (length s) 15 ≡ true). sound_as Tracking k s (eqb-true (length s) 15 t) (simp t at e))
     (λ (n : eqb (length s) 15 ≡ false).
-    let w = came_then (eqb (length s) 28) (checked_as Label s) (Refused (because WrongLength 0)) (Accepted k) (no_pass number_verdict refl refl) (simp n at e) in
+    let w = came_then (eqb (length s) 28) (checked_as Label s) (Err (because WrongLength 0)) (Ok k) (no_pass verdict_on refl refl) (simp n at e) in
     sound_as Label k s (eqb-true (length s) 28 w.0) w.1)
     (true_or_false (eqb (length s) 15))
 
-accepted_as : (k : Kind) (s : List ℕ) → SoundNumber k s → checked_as k s ≡ Accepted k
+accepted_as : (k : Kind) (s : List ℕ) → SoundNumber k s → checked_as k s ≡ Ok k
 unfolding checked_as
 accepted_as k s g = simp (le-ltb (wrong_in_number k s) (length s) (all_shaped (allowed_in_number k) s g.shaped), g.closed)
 
@@ -60,7 +59,7 @@ pub checked_kind : (k : Kind) (s : List ℕ) → length s ≡ length_of k → ch
 checked_kind Tracking s n = checked_tracking s n
 checked_kind Label s n = checked_label s (λ e. omega arith) n
 
-pub sound_accepted : (k : Kind) (s : List ℕ) → SoundNumber k s → checked_number s ≡ Accepted k
+pub sound_accepted : (k : Kind) (s : List ℕ) → SoundNumber k s → checked_number s ≡ Ok k
 sound_accepted k s g = checked_kind k s g.long ∙ accepted_as k s g
 
 carry_back : (c d : ℕ) (s : List ℕ) → Carry c → Carry d → carry_from c s ≡ carry_from d s → c ≡ d

@@ -1,4 +1,5 @@
 -- The parts of an identcode: read exactly from a sound code, laid one behind the other with the manual's widths, and joined the code again.
+use Rattle.refusal.specs.Table.{verdict_on}
 use Prim.Native.Nat.{ℕ, ◌+◌, ◌-◌}
 use mathlib.Core.Path.{◌≡◌, refl, sym, ap, ◌∙◌}
 use mathlib.Core.List.{List, [], ◌∷◌}
@@ -7,14 +8,13 @@ use native.Mathlib.Omega.{arith}
 use lib.ListN.{length, take, drop}
 use lib.Seq.{take_all, take-add, drop-drop}
 use Rattle.refusal.proofs.Verdicts.{no_pass}
-use Rattle.check_digits.specs.Identcode.{parts, checked_identcode, parts_where, parts_answer, parts_verdict}
-use Rattle.check_characters.specs.declared.answer.CheckAnswer.{CheckAnswer}
-use Rattle.check_characters.specs.declared.answer.CheckAnswer.TheVariants.{Accepted, Refused}
+use Rattle.check_digits.specs.Identcode.{parts, checked_identcode, parts_where, parts_answer}
 use Rattle.check_digits.specs.declared.identcode.Part.{Part}
 use Rattle.check_digits.specs.declared.identcode.Parts.{Parts}
-use Rattle.check_digits.specs.declared.identcode.PartsAnswer.TheVariants as read
 use Rattle.slips.specs.Exactly.{SoundIdentcode, in_order, without_check, Laid, Divides, digits_joined, body_of}
 use Rattle.slips.proofs.Identcodes.{accepted_sound, sound_accepted}
+use Rattle.std.specs.Prelude.{⊤, Result, Ok, Err}
+use Rattle.refusal.specs.declared.Refusal.{Refusal}
 
 -- the digits of parts that have these widths
 abbrev total : List ℕ → ℕ
@@ -48,15 +48,15 @@ parts_are p (a, a', (b, b', (c, c', (d, d', (e, e', (f, f', t)))))) =
     )
     in q
 
-parts_from : (a : CheckAnswer) (p : Parts) → parts_where a ≡ read.Read p → (a ≡ Accepted) × (parts ≡ p)
-parts_from Accepted p e = (refl, cc)
-parts_from (Refused refusal) p e = absurd (no_pass parts_verdict refl refl e)
+parts_from : (a : Result ⊤ Refusal) (p : Parts) → parts_where a ≡ Ok p → (a ≡ Ok tt) × (parts ≡ p)
+parts_from (Ok _) p e = (refl, cc)
+parts_from (Err refusal) p e = absurd (no_pass verdict_on refl refl e)
 
-pub parts_exactly : (code : List ℕ) (p : Parts) → (parts_answer code ≡ read.Read p) ↔ (SoundIdentcode code × Divides p)
+pub parts_exactly : (code : List ℕ) (p : Parts) → (parts_answer code ≡ Ok p) ↔ (SoundIdentcode code × Divides p)
 unfolding parts_answer
 parts_exactly code p = (
   λ e. let r = parts_from (checked_identcode code) p e in (accepted_sound code r.0, rw (← r.1) parts_divide),
-  λ g. ap parts_where (sound_accepted code g.0) ∙ ap read.Read (sym (parts_are p g.1)),
+  λ g. ap parts_where (sound_accepted code g.0) ∙ ap Ok (sym (parts_are p g.1)),
 )
 
 -- parts that are laid one behind the other, joined, are what lies from the first on
@@ -68,7 +68,7 @@ laid_joined code at (p ∷ ps) (w ∷ ws) (e, f, l) =
     rw (e, f, laid_joined code (at + w) ps ws l, ← drop-drop w at code, ← take-add w (total ws) (drop at code))
 
 -- without the check they are the body
-pub parts_body : (code : List ℕ) (p : Parts) → parts_answer code ≡ read.Read p → digits_joined code (without_check p) ≡ body_of code
+pub parts_body : (code : List ℕ) (p : Parts) → parts_answer code ≡ Ok p → digits_joined code (without_check p) ≡ body_of code
 parts_body code p e = go ((parts_exactly code p).0 e)
   where
     go : SoundIdentcode code × Divides p → digits_joined code (without_check p) ≡ body_of code
@@ -79,7 +79,7 @@ parts_body code p e = go ((parts_exactly code p).0 e)
         short : 21 ≡ length code - 1
         short = omega (arith, g.long)
 
-pub parts_joined : (code : List ℕ) (p : Parts) → parts_answer code ≡ read.Read p → digits_joined code (in_order p) ≡ code
+pub parts_joined : (code : List ℕ) (p : Parts) → parts_answer code ≡ Ok p → digits_joined code (in_order p) ≡ code
 parts_joined code p e =
     let g = (parts_exactly code p).0 e in
     laid_joined code 0 (in_order p) (2 ∷ 5 ∷ 8 ∷ 2 ∷ 4 ∷ 1 ∷ []) g.1 ∙ take_all 22 code (omega (arith, g.0.long))

@@ -7,11 +7,11 @@ use native.Mathlib.Omega.{arith}
 use lib.ListN.{length, get_or, take, drop, length-append, length-take}
 use lib.Seq.{take_at, take_all, take-suc, get_or-take, append_snoc}
 use Rattle.check_characters.specs.Answer.{issued_to}
-use Rattle.check_characters.specs.declared.answer.IssueAnswer.TheVariants.{Issued}
 use Rattle.slips.specs.Exactly.{Shaped, body_of}
+use Rattle.std.specs.Prelude.{Ok}
 
 -- the output begins with body and check
-pub written_start : (body out after : List ℕ) (check n : ℕ) → length body + 1 ≡ n → after ≡ issued_to (Issued n) body check out →
+pub written_start : (body out after : List ℕ) (check n : ℕ) → length body + 1 ≡ n → after ≡ issued_to (Ok n) body check out →
     take n after ≡ body ++ (check ∷ [])
 unfolding issued_to
 written_start body out after check n long e =
@@ -30,7 +30,7 @@ module _ (s : List ℕ) (some : 1 ≤ length s) where
 
   -- a number's body with its own last symbol is the number
   pub written_again : (out : List ℕ) (check : ℕ) → check ≡ get_or s (length s - 1) 0 →
-      issued_to (Issued (length s)) (body_of s) check out ≡ s ++ drop (length s) out
+      issued_to (Ok (length s)) (body_of s) check out ≡ s ++ drop (length s) out
   unfolding issued_to
   written_again out check last =
       ap (λ (x : ℕ). body_of s ++ x ∷ drop (length s) out) last

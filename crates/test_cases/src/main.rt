@@ -6,7 +6,7 @@
 ghost use Rattle.std.specs.Prelude.{◌<◌, ◌≤◌};
 ghost use Rattle.streams.specs.Counts.{IsPrefixLen};
 
-use file::{FileAnswer, Totals};
+use file::Totals;
 use refusal::Refusal;
 use std::env::{Env, FillError};
 use std::io::{Eprint, Error, ErrorKind, Print, Read};
@@ -103,8 +103,8 @@ fn judge<R: Print + Eprint>(rt: &R, name: &[u8], s: &[u8], countries: &[u8], lis
     streams::say(rt, countries);
     let answer = file::judge(s, lent(countries), list);
     match answer {
-        FileAnswer::Accepted(totals) => say_ok(rt, totals),
-        FileAnswer::Refused(refusal) => say_no(rt, refusal),
+        Ok(totals) => say_ok(rt, totals),
+        Err(refusal) => say_no(rt, refusal),
     }
     streams::say(rt, b" list ");
     streams::say_decimal(rt, sum(list));

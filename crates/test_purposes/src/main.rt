@@ -5,7 +5,6 @@
 
 ghost use Rattle.std.specs.Prelude.{◌≤◌, length};
 
-use purpose::PurposeAnswer;
 use refusal::Refusal;
 use std::io::{Eprint, Print};
 use streams::Input;
@@ -73,13 +72,13 @@ fn run_case<R: Print + Eprint>(rt: &R, case: &[u8]) {
     streams::say(rt, b"\n");
 }
 
-fn say<R: Print + Eprint>(rt: &R, answer: PurposeAnswer) {
+fn say<R: Print + Eprint>(rt: &R, answer: Result<usize, Refusal>) {
     match answer {
-        PurposeAnswer::Written(n) => {
+        Ok(n) => {
             streams::say(rt, b"ok ");
             streams::say_decimal(rt, n as u64);
         }
-        PurposeAnswer::Refused(refusal) => say_no(rt, refusal),
+        Err(refusal) => say_no(rt, refusal),
     }
 }
 

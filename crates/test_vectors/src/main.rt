@@ -5,8 +5,8 @@
 // checked, where the text is how many answer bytes are lent, a space and the numbers; each answer byte is given too.
 #![tactic(auto)]
 
-use check_characters::{CarryAnswer, CheckAnswer, DayAnswer, IssueAnswer, Kind, NumberAnswer};
-use check_digits::{Part, Parts, PartsAnswer};
+use check_characters::Kind;
+use check_digits::{Part, Parts};
 use refusal::Refusal;
 use std::io::{Eprint, Print};
 use streams::Input;
@@ -75,8 +75,8 @@ fn say_refused<R: Print + Eprint>(rt: &R, refusal: Refusal) {
 fn say_number<R: Print + Eprint>(rt: &R, s: &[u8]) {
     let answer = check_characters::check_number(s);
     match answer {
-        NumberAnswer::Accepted(kind) => say_kind(rt, kind),
-        NumberAnswer::Refused(refusal) => say_no(rt, refusal),
+        Ok(kind) => say_kind(rt, kind),
+        Err(refusal) => say_no(rt, refusal),
     }
 }
 
@@ -103,14 +103,14 @@ fn say_issued_identcode<R: Print + Eprint>(rt: &R, body: &[u8]) {
     say_output(rt, answer, &out);
 }
 
-fn say_output<R: Print + Eprint>(rt: &R, answer: IssueAnswer, out: &[u8]) {
+fn say_output<R: Print + Eprint>(rt: &R, answer: Result<usize, Refusal>, out: &[u8]) {
     match answer {
-        IssueAnswer::Issued(_) => {
+        Ok(_) => {
             streams::say(rt, b" ");
             streams::say(rt, out);
             streams::say(rt, b"\n");
         }
-        IssueAnswer::Refused(refusal) => say_no(rt, refusal),
+        Err(refusal) => say_no(rt, refusal),
     }
 }
 
@@ -129,20 +129,20 @@ fn say_identcode<R: Print + Eprint>(rt: &R, s: &[u8]) {
     say_checked(rt, check_digits::check_identcode(s), b" identcode\n");
 }
 
-fn say_checked<R: Print + Eprint>(rt: &R, answer: CheckAnswer, name: &[u8]) {
+fn say_checked<R: Print + Eprint>(rt: &R, answer: Result<(), Refusal>, name: &[u8]) {
     match answer {
-        CheckAnswer::Accepted => {
+        Ok(()) => {
             streams::say(rt, name);
         }
-        CheckAnswer::Refused(refusal) => say_no(rt, refusal),
+        Err(refusal) => say_no(rt, refusal),
     }
 }
 
 fn say_parts<R: Print + Eprint>(rt: &R, s: &[u8]) {
     let answer = check_digits::read_identcode(s);
     match answer {
-        PartsAnswer::Read(parts) => say_each(rt, s, parts),
-        PartsAnswer::Refused(refusal) => say_no(rt, refusal),
+        Ok(parts) => say_each(rt, s, parts),
+        Err(refusal) => say_no(rt, refusal),
     }
 }
 
@@ -183,14 +183,14 @@ fn say_typed<R: Print + Eprint>(rt: &R, keys: &[u8]) {
 }
 
 // Says a carry and answers it, or says the refusal and answers 0, which is no carry.
-fn say_carry<R: Print + Eprint>(rt: &R, answer: CarryAnswer) -> u32 {
+fn say_carry<R: Print + Eprint>(rt: &R, answer: Result<u32, Refusal>) -> u32 {
     match answer {
-        CarryAnswer::Next(carry) => {
+        Ok(carry) => {
             streams::say(rt, b" ");
             streams::say_decimal(rt, carry as u64);
             carry
         }
-        CarryAnswer::Refused(refusal) => {
+        Err(refusal) => {
             say_refused(rt, refusal);
             0
         }
@@ -213,8 +213,8 @@ fn say_day<R: Print + Eprint>(rt: &R, s: &[u8]) {
 fn say_answers<R: Print + Eprint>(rt: &R, numbers: &[u8], answers: &mut [u8]) {
     let answer = check_characters::check_numbers(numbers, answers);
     match answer {
-        DayAnswer::Answered(passed) => say_passed(rt, passed),
-        DayAnswer::Refused(refusal) => say_refused(rt, refusal),
+        Ok(passed) => say_passed(rt, passed),
+        Err(refusal) => say_refused(rt, refusal),
     }
     say_bytes(rt, answers);
     streams::say(rt, b"\n");

@@ -7,7 +7,6 @@ ghost use Rattle.std.specs.Prelude.{◌≤◌, length};
 use refusal::Refusal;
 use std::io::{Eprint, Print};
 use streams::Input;
-use writer::WriteAnswer;
 
 fn main(rt: HostRuntime) {
     let mut buffer = [0u8; 65536];
@@ -96,8 +95,8 @@ fn read_ends(line: &[u8], start: usize, ends: &mut [usize], many: usize) -> usiz
 fn write<R: Print + Eprint>(rt: &R, call: Call, text: &[u8], ends: &[usize], out: &mut [u8]) {
     let answer = writer::write_line(call.version, call.number, text, ends, out, call.fill);
     match answer {
-        WriteAnswer::Written(n) => say_written(rt, n),
-        WriteAnswer::Refused(refusal) => say_no(rt, refusal),
+        Ok(n) => say_written(rt, n),
+        Err(refusal) => say_no(rt, refusal),
     }
     streams::say(rt, out);
     streams::say(rt, b"\n");

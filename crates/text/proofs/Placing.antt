@@ -4,36 +4,18 @@ use mathlib.Core.Path.{◌≡◌, refl, sym, ap, ◌∙◌}
 use mathlib.Core.Bool.{Bool, true, false}
 use mathlib.Core.List.{List, [], ◌++◌, append_assoc, append-nil}
 use native.Mathlib.Nat.{add-zero}
-use native.Mathlib.Numerals.{add-one}
 use native.Mathlib.Omega.{arith}
 use lib.Dec.{leb}
-use lib.ListN.{length, set, take, drop, get_or, length-append, length-drop, take-append-drop, drop_of_length-le}
-use lib.Seq.{paste, paste-suc, take_all, take-nil, take_at, drop_at, drop-drop, length-take-le}
-use borrow.Author.Tests.{le-leb, lt-leb, leb-true}
+use lib.ListN.{length, take, drop, length-append, length-drop, take-append-drop, drop_of_length-le}
+use lib.Seq.{paste, take_all, take-nil, take_at, drop_at, drop-drop, length-take-le}
+use borrow.Author.Tests.{le-leb, leb-true}
 use Rattle.std.specs.Prelude.{if◌then◌else◌}
 use Rattle.text.specs.Placed.{written, placed}
 
 -- the first i bytes of src are in: each premise is a fact that the loop has
 module _ (out₀ : List ℕ) (at : ℕ) (src out : List ℕ) (i : ℕ) where
-  pub copy_again : at + length src ≤ length out₀ → i < length src → out ≡ paste out₀ at src i →
-      set out (at + i) (get_or src i 0) ≡ paste out₀ at src (i + 1)
-  copy_again r l e = rw (add-one, e) (paste-suc out₀ at src i 0 (omega arith) l)
-
   pub copy_done : i ≤ length src → length src ≤ i → out ≡ paste out₀ at src i → out ≡ written out₀ at src
   copy_done h l e = let n : i ≡ length src = omega arith in e ∙ rw (take_all i src l, n)
-
-module _ (out : List ℕ) (at : ℕ) (src : List ℕ) where
-  pub no_place : length out < at → out ≡ placed out at src
-  unfolding placed
-  no_place h = simp (lt-leb (at + length src) (length out) (omega arith))
-
-  pub no_room : at ≤ length out → length out - at < length src → out ≡ placed out at src
-  unfolding placed
-  no_room l h = simp (lt-leb (at + length src) (length out) (omega arith))
-
-  pub room : at ≤ length out → length src ≤ length out - at → (o : List ℕ) → o ≡ written out at src → o ≡ placed out at src
-  unfolding placed
-  room l h o e = simp (le-leb (at + length src) (length out) (omega arith)) e
 
 -- what was placed, where it fits
 module _ (out : List ℕ) (at : ℕ) (a : List ℕ) where
@@ -84,10 +66,6 @@ placed_on out at a b h =
 module _ (s : List ℕ) (at n : ℕ) where
   pub clip_none : length s < at → [] ≡ take n (drop at s)
   clip_none h = sym (ap (take n) (drop_of_length-le s {i = at} (omega arith)) ∙ take-nil n)
-
-  pub clip_less : at ≤ length s → length s - at < n → take (length s - at) (drop at s) ≡ take n (drop at s)
-  clip_less l h = take_all (length s - at) (drop at s) (simp length-drop (omega arith))
-      ∙ sym (take_all n (drop at s) (simp length-drop (omega arith)))
 
   pub clip_whole : take (at + n - at) (drop at s) ≡ take n (drop at s)
   clip_whole = let e : at + n - at ≡ n = omega arith in rw e

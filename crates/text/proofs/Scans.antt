@@ -11,8 +11,9 @@ use lib.ListN.{length, drop, get_or, drop_of_length-le}
 use lib.Seq.{drop-cons}
 use lib.Dec.{eqb}
 use borrow.Author.Tests.{not-true, not-false, eq-eqb, ne_eqb, eqb-true}
-use Rattle.std.specs.Prelude.{if◌then◌else◌}
-use Rattle.text.specs.Scan.{first_failing, in_line, line_feed, all, count, among, paired, same}
+use Rattle.std.specs.Prelude.{cond, count_by, if◌then◌else◌}
+use Rattle.std.proofs.lemmas.List.Sums.{sum_by-cons}
+use Rattle.text.specs.Scan.{first_failing, all, count, among, paired, same}
 use Rattle.text.proofs.Choices.{and_left, and_right, and_both, true_or_false}
 
 -- a loop at the place i that has walked over what lies in front of it: each premise is a fact that the loop has
@@ -26,22 +27,6 @@ module _ (ok : ℕ → ℕ → Bool) (s : List ℕ) (i z : ℕ) where
 
   pub walk_ends : length s ≤ i → first_failing ok i (drop i s) ≡ z → i ≡ z
   walk_ends h f = sym (rw (drop_of_length-le s)) ∙ f
-
--- a loop from start on that is at the place i, and looks for a line feed
-module _ (s : List ℕ) (start i : ℕ) where
-  pub feed_here :
-      (t : Bool) → i < length s → t ≡ in_line (get_or s i 0) → not t ≡ true →
-      first_failing (λ _ b. in_line b) i (drop i s) ≡ first_failing (λ _ b. in_line b) start (drop start s) → i ≡ line_feed s start
-  feed_here t h e q f =
-      let w = walk_stops (λ _ b. in_line b) s i (first_failing (λ _ b. in_line b) start (drop start s)) t h e q f in
-      omega (arith, w)
-
-  pub feed_nowhere :
-      length s ≤ i → first_failing (λ _ b. in_line b) i (drop i s) ≡ first_failing (λ _ b. in_line b) start (drop start s) →
-      length s ≡ line_feed s start
-  feed_nowhere h f =
-      let w = walk_ends (λ _ b. in_line b) s i (first_failing (λ _ b. in_line b) start (drop start s)) h f in
-      omega (arith, w)
 
 -- where the walk passes over every byte, each passes the test, and the other way round
 module _ (ok : ℕ → ℕ → Bool) where
@@ -85,16 +70,10 @@ module _ (ok : ℕ → Bool) where
   all_of [] p = refl
   all_of (b ∷ s) p = and_both (ok b) (all ok s) (p 0 (omega arith)) (all_of s (λ j l. p (suc j) (omega arith)))
 
--- how many pass: n of those in front, and d of the byte here
-module _ (ok : ℕ → Bool) (s : List ℕ) (i n z : ℕ) where
-  pub count_on :
-      (d : ℕ) → i < length s → d ≡ (if ok (get_or s i 0) then 1 else 0) → n + count ok (drop i s) ≡ z → n + d + count ok (drop (i + 1) s) ≡ z
-  count_on d h e f =
-      let g : count ok (drop i s) ≡ d + count ok (drop (i + 1) s) = rw (add-one, e, drop-cons s i 0) in
-      omega (arith, f, g)
-
-  pub count_ends : length s ≤ i → n + count ok (drop i s) ≡ z → n ≡ z
-  count_ends h f = sym (rw (drop_of_length-le s h, add-zero)) ∙ f
+-- how many pass, as the library counts them
+pub count_as : (ok : ℕ → Bool) (s : List ℕ) → count_by ok s ≡ count ok s
+count_as ok [] = refl
+count_as ok (b ∷ s) = sum_by-cons (λ x. cond (ok x) 1 0) b s ∙ ap (λ n. cond (ok b) 1 0 + n) (count_as ok s)
 
 -- whether one of them is a
 module _ (a : ℕ) (s : List ℕ) (i : ℕ) (z : Bool) where
@@ -133,15 +112,6 @@ pair_lengths ok (x ∷ a) (y ∷ b) e = ap suc (pair_lengths ok a b (and_right (
 
 pub pair_unlike : (ok : ℕ → ℕ → Bool) (a b : List ℕ) → (length a ≡ length b → ⊥) → false ≡ paired ok a b
 pair_unlike ok a b n = ⊎_elim (λ e. absurd (n (pair_lengths ok a b e))) (λ e. sym e) (true_or_false (paired ok a b))
-
--- the test of equality, as a loop meets it
-module _ (a b : List ℕ) (l : length a ≡ length b) (i : ℕ) (z : Bool) where
-  pub same_on :
-      i < length a → get_or a i 0 ≡ get_or b i 0 → same (drop i a) (drop i b) ≡ z → same (drop (i + 1) a) (drop (i + 1) b) ≡ z
-  same_on h e f = pair_on eqb a b l i z true h (sym (eq-eqb (get_or a i 0) (get_or b i 0) e)) refl f
-
-  pub same_stops : i < length a → (get_or a i 0 ≡ get_or b i 0 → ⊥) → same (drop i a) (drop i b) ≡ z → false ≡ z
-  same_stops h n f = pair_stops eqb a b l i z false h (sym (ne_eqb (get_or a i 0) (get_or b i 0) n)) refl f
 
 pub same_eq : (a b : List ℕ) → same a b ≡ true → a ≡ b
 same_eq [] [] e = refl

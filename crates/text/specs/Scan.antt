@@ -1,5 +1,6 @@
 -- Tests of a run's bytes: the first that fails one, whether all pass, how many do, where a line ends, and two runs byte for byte.
-use Rattle.std.specs.Prelude.{ℕ, suc, ◌+◌, min, Bool, true, false, not, ◌&&◌, ◌||◌, List, [], ◌∷◌, eqb, length, drop, if◌then◌else◌}
+use Rattle.std.specs.Prelude.{ℕ, suc, ◌+◌, min, Bool, true, false, not, ◌&&◌, List, [], ◌∷◌, eqb, length, drop, if◌then◌else◌}
+use Rattle.std.specs.List.{list_all, list_any}
 
 -- the place of the first byte that fails a test of its place and itself, where the first of these bytes stands at the place i;
 -- the place past the last where none fails
@@ -17,8 +18,7 @@ line_feed s start = min (length s) (first_failing (λ _ b. in_line b) start (dro
 
 -- every byte passes the test
 abbrev pub all : (ℕ → Bool) → List ℕ → Bool
-all ok [] = true
-all ok (b ∷ s) = ok b && all ok s
+all = list_all
 
 -- how many bytes pass the test
 abbrev pub count : (ℕ → Bool) → List ℕ → ℕ
@@ -27,8 +27,7 @@ count ok (b ∷ s) = (if ok b then 1 else 0) + count ok s
 
 -- a is one of these
 abbrev pub among : ℕ → List ℕ → Bool
-among a [] = false
-among a (b ∷ s) = eqb a b || among a s
+among a = list_any (eqb a)
 
 -- two runs of one length, whose bytes at each place pass the test together
 abbrev pub paired : (ℕ → ℕ → Bool) → List ℕ → List ℕ → Bool

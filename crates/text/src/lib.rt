@@ -8,7 +8,7 @@ ghost use Rattle.text.specs.Scan.{all, count, among, same, in_line, line_feed};
 ghost use Rattle.text.specs.Placed.{placed, written};
 
 // The classes that a form asks of every byte.
-#[derive(Clone, Copy)]
+#[derive(Clone, Copy, Debug, PartialEq, Eq)]
 pub enum Class {
     Digit,
     Capital,
@@ -22,14 +22,7 @@ pub enum Class {
 pub fn all_in(class: Class, s: &[u8]) -> bool
     ensures { result ≡ all (in_class class) s.now }
 {
-    let mut i: usize = 0;
-    while i < s.len() {
-        if !is_in(class, s[i]) {
-            return false;
-        }
-        i += 1;
-    }
-    true
+    s.iter().all(|&b| is_in(class, b))
 }
 
 // Whether a byte is of a class.
@@ -48,143 +41,72 @@ fn is_in(class: Class, b: u8) -> bool
 pub fn is_digit(b: u8) -> bool
     ensures { result ≡ digit b }
 {
-    if b < b'0' {
-        return false;
-    }
-    b <= b'9'
+    matches!(b, b'0'..=b'9')
 }
 
 // Whether a byte is one of A to Z.
 pub fn is_capital(b: u8) -> bool
     ensures { result ≡ capital b }
 {
-    if b < b'A' {
-        return false;
-    }
-    b <= b'Z'
+    matches!(b, b'A'..=b'Z')
 }
 
 // Whether a byte is a capital or a digit.
 pub fn is_symbol(b: u8) -> bool
     ensures { result ≡ symbol b }
 {
-    if is_digit(b) {
-        return true;
-    }
-    is_capital(b)
+    is_digit(b) || is_capital(b)
 }
 
 // Whether a byte may stand in a file's text: 32 to 126 (space to `~`), and 160 to 255.
 pub fn is_text_byte(b: u8) -> bool
     ensures { result ≡ text_byte b }
 {
-    if b < b' ' {
-        return false;
-    }
-    if b <= b'~' {
-        return true;
-    }
-    160 <= b
+    matches!(b, b' '..=b'~' | 160..)
 }
 
 // Whether a byte may stand in a payment purpose.
 fn is_purpose_byte(b: u8) -> bool
     ensures { result ≡ purpose_byte b }
 {
-    if is_small(b) {
-        return true;
-    }
-    if is_symbol(b) {
-        return true;
-    }
-    is_among(b, b".,:'+-/()? ")
+    is_small(b) || is_symbol(b) || b".,:'+-/()? ".contains(&b)
 }
 
 // Whether a byte is one of a to z.
 fn is_small(b: u8) -> bool
     ensures { result ≡ small b }
 {
-    if b < b'a' {
-        return false;
-    }
-    b <= b'z'
-}
-
-// Whether b is one of these bytes.
-fn is_among(b: u8, s: &[u8]) -> bool
-    ensures { result ≡ among b s.now }
-{
-    let mut i: usize = 0;
-    while i < s.len() {
-        if b == s[i] {
-            return true;
-        }
-        i += 1;
-    }
-    false
+    matches!(b, b'a'..=b'z')
 }
 
 // How many of the bytes are this one.
 pub fn count_of(mark: u8, s: &[u8]) -> usize
     ensures { result ≡ count (λ b. eqb b mark) s.now }
 {
-    let mut n: usize = 0;
-    let mut i: usize = 0;
-    while i < s.len() {
-        n += one_for(mark, s[i]);
-        i += 1;
-    }
-    n
-}
-
-// 1 for this byte, 0 for any other.
-fn one_for(mark: u8, b: u8) -> usize
-    ensures { (result ≡ (if eqb b mark then 1 else 0)) × (result ≤ 1) }
-{
-    if b == mark {
-        return 1;
-    }
-    0
+    s.iter().filter(|&&b| b == mark).count()
 }
 
 // The next line feed from a place on, or the end of the run.
 pub fn line_feed(s: &[u8], start: usize) -> usize
     ensures { (result ≡ line_feed s.now start) × (result ≤ length s.now) }
 {
-    let mut i = start;
-    while i < s.len() {
-        if !is_in_line(s[i]) {
+    for i in start..s.len() {
+        if s[i] == b'\n' {
             return i;
         }
-        i += 1;
     }
     s.len()
-}
-
-fn is_in_line(b: u8) -> bool
-    ensures { result ≡ in_line b }
-{
-    b != b'\n'
 }
 
 // Whether two runs are equal, byte for byte.
 pub fn equal(a: &[u8], b: &[u8]) -> bool
     ensures { result ≡ same a.now b.now }
 {
-    if a.len() != b.len() {
-        return false;
-    }
-    let mut i: usize = 0;
-    while i < a.len() {
-        if a[i] != b[i] {
-            return false;
-        }
-        i += 1;
-    }
-    true
+    a == b
 }
 
 // Writes src into out from the place at on, where it fits there; otherwise out stays as it was.
+#[tactic(auto, unfolding(crate::specs::Placed::placed))]
 pub fn place(out: &mut [u8], at: usize, src: &[u8])
     ensures { out.new ≡ placed out.old at src.now }
 {
@@ -194,30 +116,13 @@ pub fn place(out: &mut [u8], at: usize, src: &[u8])
     if out.len() - at < src.len() {
         return;
     }
-    copy(out, at, src);
-}
-
-// The same where src is known to fit.
-fn copy(out: &mut [u8], at: usize, src: &[u8])
-    requires { at + length src.now ≤ length out.old }
-    ensures { out.new ≡ written out.old at src.now }
-{
-    let mut i: usize = 0;
-    while i < src.len() {
-        out[at + i] = src[i];
-        i += 1;
-    }
+    out[at..at + src.len()].copy_from_slice(src);
 }
 
 // The n bytes from the place at on, or as many of them as there are.
 pub fn clip(s: &[u8], at: usize, n: usize) -> &[u8]
     ensures { result.now ≡ take n (drop at s.now) }
 {
-    if s.len() < at {
-        return &s[0..0];
-    }
-    if s.len() - at < n {
-        return &s[at..];
-    }
-    &s[at..at + n]
+    let rest = s.get(at..).unwrap_or(&[]);
+    rest.get(..n).unwrap_or(rest)
 }

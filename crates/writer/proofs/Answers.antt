@@ -17,35 +17,30 @@ use Rattle.fields.specs.Profile.{Row, Rules, profile}
 use Rattle.records.specs.declared.version.Version.{Version}
 use Rattle.records.specs.Record.{type_of, count_fits}
 use Rattle.records.specs.declared.record.Record.{Record}
-use Rattle.records.specs.declared.record.Named.{Named}
-use Rattle.records.specs.declared.record.Named.TheVariants.{Known, Unknown}
 use Rattle.line.specs.Parts.{split}
 use Rattle.line.specs.Need.{lacks}
-use Rattle.line.specs.declared.walk.Walk.{Walk}
-use Rattle.line.specs.declared.walk.Walk.TheVariants.{Fine, Stopped}
 use Rattle.fields.proofs.Rules.{within, count_le, sound}
 use Rattle.line.specs.Render.{text_of, render, plain, all_in}
 use Rattle.line.proofs.Plain.{render_long, plain_split}
 use Rattle.line.proofs.Passing.{Each, fine_each}
 use Rattle.writer.specs.Write.{record_numbered, ends_hold, between, tested_to_write, next_number, walked, of_fields, after_walk}
 use Rattle.writer.specs.Write.{of_record, answer_under, line_to, written_to}
-use Rattle.writer.specs.declared.write.WriteAnswer.{WriteAnswer}
-use Rattle.writer.specs.declared.write.WriteAnswer.TheVariants.{Written, Refused}
 use Rattle.writer.proofs.Ends.{between_count}
 use Rattle.writer.proofs.Walks.{walked_plain, walked_le}
 use Rattle.writer.proofs.Puts.{together_long}
+use Rattle.std.specs.Prelude.{⊤, Option, Some, None, Result, Ok, Err}
 
 -- the record's number, by the arm that names it
-pub number_is : (n case : ℕ) (nd : Named) → n ≡ case → nd ≡ record_numbered case → nd ≡ record_numbered n
+pub number_is : (n case : ℕ) (nd : Option Record) → n ≡ case → nd ≡ record_numbered case → nd ≡ record_numbered n
 number_is n case nd e f = rw e f
 
 pub number_none : (n : ℕ) → (n ≡ 10 → ⊥) → (n ≡ 20 → ⊥) → (n ≡ 30 → ⊥) → (n ≡ 40 → ⊥) → (n ≡ 50 → ⊥) → (n ≡ 60 → ⊥) →
-    Unknown ≡ record_numbered n
+    None ≡ record_numbered n
 unfolding record_numbered
 number_none n h1 h2 h3 h4 h5 h6 = simp (ne_eqb n 10 h1, ne_eqb n 20 h2, ne_eqb n 30 h3, ne_eqb n 40 h4, ne_eqb n 50 h5, ne_eqb n 60 h6)
 
 -- each field of a fine walk passes
-each : (rows : List Row) (kind : Record) (text ends : List ℕ) → walked rows 1 (type_of kind) (between text ends) ≡ Fine →
+each : (rows : List Row) (kind : Record) (text ends : List ℕ) → walked rows 1 (type_of kind) (between text ends) ≡ Ok tt →
     Each (tested_to_write rows) 1 (type_of kind) (between text ends)
 each rows kind text ends e = fine_each (tested_to_write rows) next_number 1 1 (type_of kind) (between text ends) e
 
@@ -73,20 +68,20 @@ module _ (kind : Record) (text ends room line : List ℕ) (long : ℕ) (fits : l
     asked = et ∙ ap (λ (l : List ℕ). lacks kind (split l)) text_taken
         ∙ ap (lacks kind) (plain_split kind (between text ends) clean)
 
-    pub fields_lack : t ≡ true → Refused (because FeatureLacks 0) ≡ of_fields kind (between text ends) size fill
+    pub fields_lack : t ≡ true → Err (because FeatureLacks 0) ≡ of_fields kind (between text ends) size fill
     unfolding of_fields
     fields_lack e = rw (← asked, e)
 
     module _ (has : t ≡ false) where
-      pub fill_past : size < fill → Refused (because OutputTooShort 0) ≡ of_fields kind (between text ends) size fill
+      pub fill_past : size < fill → Err (because OutputTooShort 0) ≡ of_fields kind (between text ends) size fill
       unfolding of_fields
       fill_past h = rw (← asked, has, ← en, lt-leb (fill + long) size (omega arith))
 
-      pub too_short : fill ≤ size → size - fill < long → Refused (because OutputTooShort 0) ≡ of_fields kind (between text ends) size fill
+      pub too_short : fill ≤ size → size - fill < long → Err (because OutputTooShort 0) ≡ of_fields kind (between text ends) size fill
       unfolding of_fields
       too_short l h = rw (← asked, has, ← en, lt-leb (fill + long) size (omega arith))
 
-      pub has_room : fill ≤ size → long ≤ size - fill → Written long ≡ of_fields kind (between text ends) size fill
+      pub has_room : fill ≤ size → long ≤ size - fill → Ok long ≡ of_fields kind (between text ends) size fill
       unfolding of_fields
       has_room l h = rw (← asked, has, ← en, le-leb (fill + long) size (omega arith))
 
@@ -96,19 +91,19 @@ module _ (kind : Record) (text ends room line : List ℕ) (long : ℕ) (fits : l
       ∙ placed_there out fill (render kind (between text ends)) (omega (arith, en))
 
 -- the record
-module _ (rules : Rules) (number : ℕ) (text ends : List ℕ) (size fill : ℕ) (nd : Named) (ed : nd ≡ record_numbered number) where
-  pub number_unknown : nd ≡ Unknown → Refused (because UnknownRecord 0) ≡ answer_under rules number text ends size fill
+module _ (rules : Rules) (number : ℕ) (text ends : List ℕ) (size fill : ℕ) (nd : Option Record) (ed : nd ≡ record_numbered number) where
+  pub number_unknown : nd ≡ None → Err (because UnknownRecord 0) ≡ answer_under rules number text ends size fill
   unfolding answer_under of_record
   number_unknown e = rw (← ed, e)
 
-  pub number_known : (kind : Record) → nd ≡ Known kind → (a : WriteAnswer) → a ≡ of_record rules (Known kind) text ends size fill →
+  pub number_known : (kind : Record) → nd ≡ Some kind → (a : Result ℕ Refusal) → a ≡ of_record rules (Some kind) text ends size fill →
       a ≡ answer_under rules number text ends size fill
   unfolding answer_under
   number_known kind e a ea = rw (← ed, e) ea
 
 -- the ends, then the count
 module _ (kind : Record) (text ends : List ℕ) (size fill : ℕ) (t : Bool) (et : t ≡ ends_hold ends (length text)) where
-  pub ends_wrong : (rules : Rules) → not t ≡ true → Refused (because FieldEnds 0) ≡ of_record rules (Known kind) text ends size fill
+  pub ends_wrong : (rules : Rules) → not t ≡ true → Err (because FieldEnds 0) ≡ of_record rules (Some kind) text ends size fill
   unfolding of_record
   ends_wrong rules e = rw (← et, e)
 
@@ -117,7 +112,7 @@ module _ (kind : Record) (text ends : List ℕ) (size fill : ℕ) (t : Bool) (et
     ends_held = sym et ∙ not-false t hold
 
     module _ (u : Bool) (eu : u ≡ count_fits kind (length ends)) where
-      pub count_wrong : (rules : Rules) → not u ≡ true → Refused (because FieldCount 0) ≡ of_record rules (Known kind) text ends size fill
+      pub count_wrong : (rules : Rules) → not u ≡ true → Err (because FieldCount 0) ≡ of_record rules (Some kind) text ends size fill
       unfolding of_record
       count_wrong rules e = rw (← et, hold, ← eu, e)
 
@@ -125,26 +120,26 @@ module _ (kind : Record) (text ends : List ℕ) (size fill : ℕ) (t : Bool) (et
         pub count_right : count_fits kind (length ends) ≡ true
         count_right = sym eu ∙ not-false u right
 
-        pub counted : (rules : Rules) (a : WriteAnswer) →
+        pub counted : (rules : Rules) (a : Result ℕ Refusal) →
             a ≡ after_walk (walked (rules kind) 1 (type_of kind) (between text ends)) kind (between text ends) size fill →
-            a ≡ of_record rules (Known kind) text ends size fill
+            a ≡ of_record rules (Some kind) text ends size fill
         unfolding of_record
         counted rules a ea = rw (← et, hold, ← eu, right) ea
 
 -- the fields
-module _ (rows : List Row) (kind : Record) (text ends : List ℕ) (w : Walk) (ew : w ≡ walked rows 1 (type_of kind) (between text ends)) where
-  pub field_wrong : (size fill : ℕ) (refusal : Refusal) → w ≡ Stopped refusal →
-      Refused refusal ≡ after_walk (walked rows 1 (type_of kind) (between text ends)) kind (between text ends) size fill
+module _ (rows : List Row) (kind : Record) (text ends : List ℕ) (w : Result ⊤ Refusal) (ew : w ≡ walked rows 1 (type_of kind) (between text ends)) where
+  pub field_wrong : (size fill : ℕ) (refusal : Refusal) → w ≡ Err refusal →
+      Err refusal ≡ after_walk (walked rows 1 (type_of kind) (between text ends)) kind (between text ends) size fill
   field_wrong size fill refusal e = rw (← ew, e)
 
-  module _ (fine : w ≡ Fine) where
+  module _ (fine : w ≡ Ok tt) where
     passing : Each (tested_to_write rows) 1 (type_of kind) (between text ends)
     passing = each rows kind text ends (sym ew ∙ fine)
 
     pub fields_plain : all_in plain (between text ends) ≡ true
     fields_plain = walked_plain rows 1 (type_of kind) (between text ends) passing
 
-    pub fields_good : (size fill : ℕ) (a : WriteAnswer) → a ≡ of_fields kind (between text ends) size fill →
+    pub fields_good : (size fill : ℕ) (a : Result ℕ Refusal) → a ≡ of_fields kind (between text ends) size fill →
         a ≡ after_walk (walked rows 1 (type_of kind) (between text ends)) kind (between text ends) size fill
     fields_good size fill a ea = rw (← ew, fine) ea
 
@@ -155,8 +150,8 @@ module _ (rows : List Row) (kind : Record) (text ends : List ℕ) (w : Walk) (ew
         let f = walked_le rows narrow 1 (type_of kind) (between text ends) passing in
         omega (arith, c, f, between_count text ends, together_long kind text ends hold)
 
-pub line_small : (version : Version) (kind : Record) (text ends : List ℕ) (w : Walk) →
-    w ≡ walked (profile version kind) 1 (type_of kind) (between text ends) → w ≡ Fine → ends_hold ends (length text) ≡ true →
+pub line_small : (version : Version) (kind : Record) (text ends : List ℕ) (w : Result ⊤ Refusal) →
+    w ≡ walked (profile version kind) 1 (type_of kind) (between text ends) → w ≡ Ok tt → ends_hold ends (length text) ≡ true →
     count_fits kind (length ends) ≡ true → length text + length ends + 5 ≤ 4096
 line_small version kind text ends w ew fine = fields_small (profile version kind) kind text ends w ew fine ((sound version).narrows kind)
 
@@ -170,14 +165,14 @@ module _ (text ends room line : List ℕ) (long : ℕ) (fits : length text + len
   text_long = omega (arith, length-take (long - 2) line)
 
 -- the output
-pub output_stays : (refusal : Refusal) (nd : Named) (fs : List (List ℕ)) (out : List ℕ) (fill : ℕ) →
-    out ≡ written_to (Refused refusal) nd fs out fill
+pub output_stays : (refusal : Refusal) (nd : Option Record) (fs : List (List ℕ)) (out : List ℕ) (fill : ℕ) →
+    out ≡ written_to (Err refusal) nd fs out fill
 unfolding written_to
-output_stays refusal Unknown fs out fill = refl
-output_stays refusal (Known kind) fs out fill = refl
+output_stays refusal None fs out fill = refl
+output_stays refusal (Some kind) fs out fill = refl
 
-pub output_after_lem : (number : ℕ) (nd : Named) (kind : Record) (fs : List (List ℕ)) (out after : List ℕ) (fill : ℕ) (a : WriteAnswer) →
-    nd ≡ record_numbered number → nd ≡ Known kind → after ≡ line_to a kind fs out fill →
+pub output_after_lem : (number : ℕ) (nd : Option Record) (kind : Record) (fs : List (List ℕ)) (out after : List ℕ) (fill : ℕ) (a : Result ℕ Refusal) →
+    nd ≡ record_numbered number → nd ≡ Some kind → after ≡ line_to a kind fs out fill →
     after ≡ written_to a (record_numbered number) fs out fill
 unfolding written_to
 output_after_lem number nd kind fs out after fill a ed known e = rw (← ed, known) e

@@ -17,28 +17,26 @@ use Rattle.fields.specs.Profile.{profile, Row}
 use Rattle.fields.specs.Field.{tested}
 use Rattle.records.specs.declared.record.Record.{Record}
 use Rattle.records.specs.declared.version.Version.{Version}
-use Rattle.fields.specs.declared.field.Tested.{Tested}
-use Rattle.fields.specs.declared.field.Tested.TheVariants.{Good, Bad}
 use Rattle.fields.proofs.Tests.{bad, good_passed}
 use Rattle.fields.proofs.Rules.{within, width_le, sound}
 use Rattle.line.specs.Render.{joined, plain, all_in}
 use Rattle.line.specs.Walk.{on_test}
-use Rattle.line.specs.declared.walk.Walk.TheVariants.{Fine, Stopped}
 use Rattle.line.proofs.Passing.{Each, each_le}
 use Rattle.writer.specs.Write.{rises_to, ends_hold, fields_from, between, if_plain, tested_to_write, walked}
 use Rattle.writer.proofs.Ends.{end_rises, rest_rises, end_inside}
+use Rattle.std.specs.Prelude.{⊤, Result, Ok, Err}
 
-module _ (rows : List Row) (n : ℕ) (beside f : List ℕ) (t : Tested) (et : t ≡ tested rows n beside f) where
-  pub test_bad : (why : Reason) → t ≡ Bad why → Bad why ≡ tested_to_write rows n beside f
+module _ (rows : List Row) (n : ℕ) (beside f : List ℕ) (t : Result ⊤ Reason) (et : t ≡ tested rows n beside f) where
+  pub test_bad : (why : Reason) → t ≡ Err why → Err why ≡ tested_to_write rows n beside f
   unfolding tested_to_write
   test_bad why e = rw (← et, e)
 
-  module _ (good : t ≡ Good) (p : Bool) (ep : p ≡ all plain f) where
-    pub test_good : p ≡ true → Good ≡ tested_to_write rows n beside f
+  module _ (good : t ≡ Ok tt) (p : Bool) (ep : p ≡ all plain f) where
+    pub test_good : p ≡ true → Ok tt ≡ tested_to_write rows n beside f
     unfolding tested_to_write
     test_good e = rw (← et, good, ← ep, e)
 
-    pub test_other : p ≡ false → Bad FieldForm ≡ tested_to_write rows n beside f
+    pub test_other : p ≡ false → Err FieldForm ≡ tested_to_write rows n beside f
     unfolding tested_to_write
     test_other e = rw (← et, good, ← ep, e)
 
@@ -47,7 +45,7 @@ besides_alike : (rows : List Row) → ((b c f : List ℕ) → tested rows 1 b f 
     walked rows 1 b fs ≡ walked rows 1 c fs
 unfolding tested_to_write
 besides_alike rows lone b c [] = refl
-besides_alike rows lone b c (f ∷ fs) = ap (λ (t : Tested). on_test (if_plain t f) 1 (walked rows 2 f fs)) (lone b c f)
+besides_alike rows lone b c (f ∷ fs) = ap (λ (t : Result ⊤ Reason). on_test (if_plain t f) 1 (walked rows 2 f fs)) (lone b c f)
 
 -- the loop at the field behind i others, which starts at start; beside it stands the one that starts at beside
 pub record Walking (rows : List Row) (kind : Record) (text ends : List ℕ) (beside start i : ℕ) : Type 0 where
@@ -72,7 +70,7 @@ walking_none version kind text ends e =
     }
 
 module _ (rows : List Row) (kind : Record) (text ends : List ℕ) (beside start i : ℕ) (g : Walking rows kind text ends beside start i) where
-  pub walking_done : length ends ≤ i → Fine ≡ walked rows 1 (type_of kind) (between text ends)
+  pub walking_done : length ends ≤ i → Ok tt ≡ walked rows 1 (type_of kind) (between text ends)
   walking_done h = sym (rw (drop_of_length-le ends)) ∙ g.left
 
   module _ (h : i < length ends) where
@@ -82,7 +80,7 @@ module _ (rows : List Row) (kind : Record) (text ends : List ℕ) (beside start 
     pub next_inside : get_or ends i 0 ≤ length text
     next_inside = end_inside (length text) ends i start g.rises h
 
-    module _ (t : Tested) (et : t ≡ tested_to_write rows (i + 1) (take (start - beside) (drop beside text))
+    module _ (t : Result ⊤ Reason) (et : t ≡ tested_to_write rows (i + 1) (take (start - beside) (drop beside text))
         (take (get_or ends i 0 - start) (drop start text))) where
       abbrev field : List ℕ
       field = take (get_or ends i 0 - start) (drop start text)
@@ -94,11 +92,11 @@ module _ (rows : List Row) (kind : Record) (text ends : List ℕ) (beside start 
           (sym (ap (λ (l : List ℕ). walked rows (i + 1) (take (start - beside) (drop beside text)) (fields_from start text l))
           (drop-cons ends i 0 h)) ∙ g.left)
 
-      pub walking_stops : (why : Reason) → t ≡ Bad why →
-          Stopped (because why (i + 1)) ≡ walked rows 1 (type_of kind) (between text ends)
+      pub walking_stops : (why : Reason) → t ≡ Err why →
+          Err (because why (i + 1)) ≡ walked rows 1 (type_of kind) (between text ends)
       walking_stops why e = rw e at turn
 
-      pub walking_on : t ≡ Good → Walking rows kind text ends start (get_or ends i 0) (i + 1)
+      pub walking_on : t ≡ Ok tt → Walking rows kind text ends start (get_or ends i 0) (i + 1)
       walking_on e =
           let on : walked rows (suc (i + 1)) field (fields_from (get_or ends i 0) text (drop (suc i) ends)) ≡ walked
           rows 1 (type_of kind) (between text ends) = rw e at turn in
@@ -114,17 +112,17 @@ module _ (rows : List Row) (kind : Record) (text ends : List ℕ) (beside start 
           }
 
 -- a field that is written passes the reader's test and is plain
-pub test_passes : (rows : List Row) (n : ℕ) (beside f : List ℕ) → tested_to_write rows n beside f ≡ Good →
-    (tested rows n beside f ≡ Good) × (all plain f ≡ true)
+pub test_passes : (rows : List Row) (n : ℕ) (beside f : List ℕ) → tested_to_write rows n beside f ≡ Ok tt →
+    (tested rows n beside f ≡ Ok tt) × (all plain f ≡ true)
 unfolding tested_to_write
 test_passes rows n beside f e = go (tested rows n beside f) e
   where
-    go : (t : Tested) → if_plain t f ≡ Good → (t ≡ Good) × (all plain f ≡ true)
-    go (Bad why) e = absurd (bad e)
-    go Good e = (refl, (came_then (all plain f) Good (Bad FieldForm) Good bad e).0)
+    go : (t : Result ⊤ Reason) → if_plain t f ≡ Ok tt → (t ≡ Ok tt) × (all plain f ≡ true)
+    go (Err why) e = absurd (bad e)
+    go (Ok _) e = (refl, (came_then (all plain f) (Ok tt) (Err FieldForm) (Ok tt) bad e).0)
 
-pub passes_test : (rows : List Row) (n : ℕ) (beside f : List ℕ) → tested rows n beside f ≡ Good → all plain f ≡ true →
-    tested_to_write rows n beside f ≡ Good
+pub passes_test : (rows : List Row) (n : ℕ) (beside f : List ℕ) → tested rows n beside f ≡ Ok tt → all plain f ≡ true →
+    tested_to_write rows n beside f ≡ Ok tt
 unfolding tested_to_write
 passes_test rows n beside f e p = rw (e, p)
 

@@ -5,4 +5,4 @@ mod put;
 mod test;
 mod write;
 
-pub use write::{WriteAnswer, write_line};
+pub use write::write_line;

@@ -6,8 +6,6 @@ ghost use Rattle.fields.specs.Profile.{profile};
 ghost use Rattle.line.specs.Render.{plain};
 ghost use Rattle.writer.specs.Write.{ends_hold, between, tested_to_write, walked};
 
-use fields::Tested;
-use line::Walk;
 use records::{Record, Version};
 use refusal::{Reason, Refusal};
 
@@ -28,7 +26,12 @@ pub fn ends_hold(ends: &[usize], long: usize) -> bool
 }
 
 // Tests the fields. Beside a field stands the one in front of it; no rule of a first field looks beside it.
-pub fn walk_fields(version: Version, kind: Record, text: &[u8], ends: &[usize]) -> Walk
+pub fn walk_fields(
+    version: Version,
+    kind: Record,
+    text: &[u8],
+    ends: &[usize],
+) -> Result<(), Refusal>
     requires { ends_hold ends.now (length text.now) ≡ true }
     ensures { result ≡ walked (profile version kind) 1 (type_of kind) (between text.now ends.now) }
 {
@@ -44,14 +47,14 @@ pub fn walk_fields(version: Version, kind: Record, text: &[u8], ends: &[usize]) 
             &text[beside..start],
             &text[start..end],
         );
-        if let Tested::Bad(why) = tested {
-            return Walk::Stopped(Refusal { why, place: i + 1 });
+        if let Err(why) = tested {
+            return Err(Refusal { why, place: i + 1 });
         }
         beside = start;
         start = end;
         i += 1;
     }
-    Walk::Fine
+    Ok(())
 }
 
 // The reader's test of a field, and then that it can stand in a line.
@@ -61,17 +64,17 @@ fn test_to_write(
     number: usize,
     beside: &[u8],
     field: &[u8],
-) -> Tested
+) -> Result<(), Reason>
     ensures { result ≡ tested_to_write (profile version kind) number beside.now field.now }
 {
     let tested = fields::test_field(version, kind, number, beside, field);
-    if let Tested::Bad(why) = tested {
-        return Tested::Bad(why);
+    if let Err(why) = tested {
+        return Err(why);
     }
     if all_plain(field) {
-        return Tested::Good;
+        return Ok(());
     }
-    Tested::Bad(Reason::FieldForm)
+    Err(Reason::FieldForm)
 }
 
 // Whether every byte may stand in a field.

@@ -13,7 +13,7 @@ returns c = (search (contact_stops), (search (stopped_sown), search (stopped_lis
 returns_2 : tie.Need-returns-else-lacks_contact
 returns_2 c = (search (line_listed), (search rules, search rules))
 
-returns_3 : tie.Need-returns-in-Refused
+returns_3 : tie.Need-returns-in-Err
 returns_3 c = (search (line_stops), (search (stopped_sown), search (stopped_listed)))
 
 -- what `list_line` asks, clause by clause

@@ -1,16 +1,16 @@
 -- `lines::peliranopi_read_line` meets its contract.
-use Rattle.line.specs.Line.{line_verdict}
+use Rattle.refusal.specs.Table.{verdict_on}
 use Rattle.peliranopi.specs.Told.{record_told, count_told, next_told}
 use Rattle.peliranopi.proofs.Telling.{told_number, told_place, told}
 use borrow.Author.Rules.{rules}
 use Rattle.peliranopi.proofs.lines.peliranopi_read_line.Statement.{statement}
 use Rattle.peliranopi.proofs.lines.peliranopi_read_line.Tie as tie
 
-returns : tie.Need-returns-in-Accepted
-returns c = search (rules, told_number line_verdict, told_place line_verdict, told record_told, told count_told, told next_told)
+returns : tie.Need-returns-in-Ok
+returns c = search (rules, told_number verdict_on, told_place verdict_on, told record_told, told count_told, told next_told)
 
-returns_2 : tie.Need-returns-in-Refused
-returns_2 c = search (rules, told_number line_verdict, told_place line_verdict, told record_told, told count_told, told next_told)
+returns_2 : tie.Need-returns-in-Err
+returns_2 c = search (rules, told_number verdict_on, told_place verdict_on, told record_told, told count_told, told next_told)
 
 pub peliranopi_read_line_spec : {M : Type 1} → statement M
 peliranopi_read_line_spec =

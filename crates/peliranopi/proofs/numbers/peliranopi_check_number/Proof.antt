@@ -1,16 +1,16 @@
 -- `numbers::peliranopi_check_number` meets its contract.
-use Rattle.check_characters.specs.Number.{number_verdict}
+use Rattle.refusal.specs.Table.{verdict_on}
 use Rattle.peliranopi.specs.Told.{kind_told}
 use Rattle.peliranopi.proofs.Telling.{told_number, told_place, told}
 use borrow.Author.Rules.{rules}
 use Rattle.peliranopi.proofs.numbers.peliranopi_check_number.Statement.{statement}
 use Rattle.peliranopi.proofs.numbers.peliranopi_check_number.Tie as tie
 
-returns : tie.Need-returns-in-Accepted
-returns c = search (rules, told_number number_verdict, told_place number_verdict, told kind_told)
+returns : tie.Need-returns-in-Ok
+returns c = search (rules, told_number verdict_on, told_place verdict_on, told kind_told)
 
-returns_2 : tie.Need-returns-in-Refused
-returns_2 c = search (rules, told_number number_verdict, told_place number_verdict, told kind_told)
+returns_2 : tie.Need-returns-in-Err
+returns_2 c = search (rules, told_number verdict_on, told_place verdict_on, told kind_told)
 
 pub peliranopi_check_number_spec : {M : Type 1} → statement M
 peliranopi_check_number_spec =

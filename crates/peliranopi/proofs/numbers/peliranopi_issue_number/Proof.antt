@@ -1,5 +1,5 @@
 -- `numbers::peliranopi_issue_number` meets its contract.
-use Rattle.check_characters.specs.Answer.{issue_verdict}
+use Rattle.refusal.specs.Table.{verdict_on}
 use Rattle.peliranopi.specs.Told.{issued_told}
 use Rattle.peliranopi.proofs.Telling.{told_number, told_place, told, number_left}
 use borrow.Author.Rules.{rules}
@@ -7,7 +7,7 @@ use Rattle.peliranopi.proofs.numbers.peliranopi_issue_number.Statement.{statemen
 use Rattle.peliranopi.proofs.numbers.peliranopi_issue_number.Tie as tie
 
 returns : tie.Need-returns
-returns c = search (rules, told_number issue_verdict, told_place issue_verdict, told issued_told, number_left)
+returns c = search (rules, told_number verdict_on, told_place verdict_on, told issued_told, number_left)
 
 pub peliranopi_issue_number_spec : {M : Type 1} → statement M
 peliranopi_issue_number_spec = tie.close (tie.spec (λ c κs. search rules) (λ c κs. search rules) (λ c. search rules) returns)

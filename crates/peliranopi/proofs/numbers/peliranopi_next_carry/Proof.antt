@@ -1,16 +1,16 @@
 -- `numbers::peliranopi_next_carry` meets its contract.
-use Rattle.check_characters.specs.Wedge.{carry_verdict}
+use Rattle.refusal.specs.Table.{verdict_on}
 use Rattle.peliranopi.specs.Told.{carry_told}
 use Rattle.peliranopi.proofs.Telling.{told_number, told_place, told}
 use borrow.Author.Rules.{rules}
 use Rattle.peliranopi.proofs.numbers.peliranopi_next_carry.Statement.{statement}
 use Rattle.peliranopi.proofs.numbers.peliranopi_next_carry.Tie as tie
 
-returns : tie.Need-returns-in-Next
-returns c = search (rules, told_number carry_verdict, told_place carry_verdict, told carry_told)
+returns : tie.Need-returns-in-Ok
+returns c = search (rules, told_number verdict_on, told_place verdict_on, told carry_told)
 
-returns_2 : tie.Need-returns-in-Refused
-returns_2 c = search (rules, told_number carry_verdict, told_place carry_verdict, told carry_told)
+returns_2 : tie.Need-returns-in-Err
+returns_2 c = search (rules, told_number verdict_on, told_place verdict_on, told carry_told)
 
 pub peliranopi_next_carry_spec : {M : Type 1} → statement M
 peliranopi_next_carry_spec =

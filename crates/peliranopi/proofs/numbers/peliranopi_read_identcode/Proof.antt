@@ -1,16 +1,16 @@
 -- `numbers::peliranopi_read_identcode` meets its contract.
-use Rattle.check_digits.specs.Identcode.{parts_verdict}
+use Rattle.refusal.specs.Table.{verdict_on}
 use Rattle.peliranopi.specs.Told.{parts_told}
 use Rattle.peliranopi.proofs.Telling.{told_number, told_place, told}
 use borrow.Author.Rules.{rules}
 use Rattle.peliranopi.proofs.numbers.peliranopi_read_identcode.Statement.{statement}
 use Rattle.peliranopi.proofs.numbers.peliranopi_read_identcode.Tie as tie
 
-returns : tie.Need-returns-in-Read
-returns c = search (rules, told_number parts_verdict, told_place parts_verdict, told parts_told)
+returns : tie.Need-returns-in-Ok
+returns c = search (rules, told_number verdict_on, told_place verdict_on, told parts_told)
 
-returns_2 : tie.Need-returns-in-Refused
-returns_2 c = search (rules, told_number parts_verdict, told_place parts_verdict, told parts_told)
+returns_2 : tie.Need-returns-in-Err
+returns_2 c = search (rules, told_number verdict_on, told_place verdict_on, told parts_told)
 
 pub peliranopi_read_identcode_spec : {M : Type 1} → statement M
 peliranopi_read_identcode_spec =
