@@ -43,8 +43,7 @@ fn answer(s: &[u8], line: &mut [u8; 72]) -> usize
     ensures told { take result line.new ≡ answer_to s.now }
 {
     let mut list = [0u32; 4096];
-    let answer = file::judge(s, b"", &mut list);
-    match answer {
+    match file::judge(s, b"", &mut list) {
         Ok(totals) => say_ok(totals, line),
         Err(refusal) => say_no(refusal, line),
     }
@@ -54,25 +53,16 @@ fn say_ok(totals: Totals, line: &mut [u8; 72]) -> usize
     ensures fits { IsPrefixLen result line.new }
     ensures told { take result line.new ≡ ok_line totals }
 {
-    let ok = streams::add(line, 0, b"ok ");
-    let lines = streams::add_decimal(line, ok, totals.lines as u64);
-    let space = streams::add(line, lines, b" ");
-    let parcels = streams::add_decimal(line, space, totals.parcels as u64);
-    let second = streams::add(line, parcels, b" ");
-    let cents = streams::add_decimal(line, second, totals.cents);
-    streams::add(line, cents, b"\n")
+    let counts = [totals.lines as u64, totals.parcels as u64, totals.cents];
+    streams::put_numbers(line, b"ok", &counts)
 }
 
 fn say_no(refusal: Refusal, line: &mut [u8; 72]) -> usize
     ensures fits { IsPrefixLen result line.new }
     ensures told { take result line.new ≡ no_line refusal }
 {
-    let why = refusal.why;
-    let no = streams::add(line, 0, b"no ");
-    let number = streams::add_decimal(line, no, refusal::number(why) as u64);
-    let space = streams::add(line, number, b" ");
-    let place = streams::add_decimal(line, space, refusal.place as u64);
-    streams::add(line, place, b"\n")
+    let number = u64::from(refusal::number(refusal.why));
+    streams::put_numbers(line, b"no", &[number, refusal.place as u64])
 }
 
 #[cfg(test)]

@@ -3,10 +3,8 @@
 // stops.
 #![tactic(auto)]
 
-ghost use Rattle.std.specs.Prelude.{◌≡◌, ◌+◌, ◌<◌, ◌≤◌, ◌∷◌, ◌++◌, length, map, take, IfOk, IfSome, OnOk};
-ghost use Rattle.std.specs.Fmt.{decimal};
+ghost use Rattle.std.specs.Prelude.{◌<◌, ◌≤◌, length, map, take, IfOk, IfSome, OnOk};
 ghost use Rattle.std.specs.Io.KnownBytes.{Appends};
-ghost use Rattle.streams.specs.Counts.{IsPrefixLen};
 ghost use Rattle.scans.specs.Scans.{whole_lines, line_answer, printed};
 ghost use Rattle.returns.specs.Output.{counts_line, ending, printed_of};
 ghost use Rattle.returns.specs.Turns.{Tells, Says, Leaves, Turned, waiting_answers};
@@ -164,32 +162,15 @@ fn say_counts<R: Eprint, W: Write>(rt: &R, output: &mut W, counts: Tally) -> io:
     ensures { OnOk result (Appends (W.contents output.old) (W.contents output.new) (counts_line counts)) }
 {
     let mut line = [0u8; 128];
-    let fill = put_counts(&mut line, counts);
+    let numbers = [
+        counts.lines,
+        counts.passed,
+        counts.length,
+        counts.symbol,
+        counts.check,
+    ];
+    let fill = streams::put_numbers(&mut line, b"counts", &numbers);
     streams::write_out(rt, output, &line[..fill])
-}
-
-// Puts the counts at the line's front; answers how long they are.
-fn put_counts(line: &mut [u8; 128], counts: Tally) -> usize
-    ensures fits { IsPrefixLen result line.new }
-    ensures told { take result line.new ≡ counts_line counts }
-{
-    let mut fill = streams::add(line, 0, b"counts");
-    fill = add_count(line, fill, counts.lines);
-    fill = add_count(line, fill, counts.passed);
-    fill = add_count(line, fill, counts.length);
-    fill = add_count(line, fill, counts.symbol);
-    fill = add_count(line, fill, counts.check);
-    streams::add(line, fill, b"\n")
-}
-
-fn add_count(line: &mut [u8], fill: usize, count: u64) -> usize
-    ensures fits { IsPrefixLen result line.new }
-    ensures long { fill + 21 ≤ length line.old → result ≡ fill + 1 + length (decimal count) }
-    ensures told { fill + 21 ≤ length line.old → take result line.new ≡ take fill line.old ++ 32 ∷ decimal count }
-    ensures short { length (decimal count) ≤ 20 }
-{
-    let space = streams::add(line, fill, b" ");
-    streams::add_decimal(line, space, count)
 }
 
 #[cfg(test)]

@@ -1,11 +1,11 @@
 // What the programs read and write. A read that fails is no end of the input, and one that a signal interrupted is made again.
 #![tactic(auto)]
 
-ghost use Rattle.std.specs.Prelude.{◌≤◌, length, OnOk};
+ghost use Rattle.std.specs.Prelude.{◌≡◌, ◌+◌, ◌*◌, ◌<◌, ◌≤◌, ◌++◌, length, take, OnOk};
 ghost use Rattle.std.specs.Fmt.{decimal};
 ghost use Rattle.std.specs.Io.KnownBytes.{Appends};
 ghost use Rattle.streams.specs.Counts.{IsPrefixLen};
-ghost use Rattle.streams.specs.Lines.{Adds};
+ghost use Rattle.streams.specs.Lines.{Adds, numbers};
 ghost use Rattle.streams.specs.Reads.{Held, HeldPiece, Took, TookPiece};
 
 use itoa::Buffer;
@@ -95,6 +95,22 @@ pub fn add_decimal(line: &mut [u8], fill: usize, n: u64) -> usize
 {
     let mut digits = Buffer::new();
     add(line, fill, digits.format(n).as_bytes())
+}
+
+// Puts a word and numbers, each behind a space, and a line feed at the line's front; answers how long they are. The line has room for
+// them where it has 21 bytes for each number.
+#[tactic(auto, using(crate::proofs::Listing::listing_none))]
+pub fn put_numbers(line: &mut [u8], word: &[u8], values: &[u64]) -> usize
+    ensures fits { IsPrefixLen result line.new }
+    ensures told { length word.now + 21 * length values.now < length line.old →
+        take result line.new ≡ word.now ++ numbers values.now }
+{
+    let mut fill = add(line, 0, word);
+    for value in values {
+        fill = add(line, fill, b" ");
+        fill = add_decimal(line, fill, *value);
+    }
+    add(line, fill, b"\n")
 }
 
 #[cfg(test)]
