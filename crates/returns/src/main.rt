@@ -135,6 +135,7 @@ fn answer_whole<R: Eprint, W: Write>(
     let mut answers = [0u8; 1024];
     let mut counts = before;
     let mut at: usize = 0;
+    // Kept: a turn passes over as many bytes as its lines have, and the place behind the last of them is the answer.
     while at < text.len() {
         let answered = scans::answer_lines(&text[at..], &mut answers);
         let n = answered.lines;

@@ -24,6 +24,7 @@ pub struct Answered {
 pub fn answer_lines(text: &[u8], answers: &mut [u8]) -> Answered
     ensures { AnswersLines text.now answers.old result answers.new }
 {
+    // Kept: `check_numbers` takes the numbers one behind the other, and so the marks stand apart from them.
     let mut numbers = [0u8; 15360];
     let mut marks = [false; 1024];
     let room = answers.len().min(1024);
@@ -133,6 +134,7 @@ fn print_each(answers: &[u8], output: &mut [u8]) -> usize
 }
 
 // Prints one answer behind the fill, and answers the fill behind it.
+// Kept: `printed_one` gives an answer of 100 and more two digits too, and a byte's Display gives it three.
 fn print_one(answer: u8, output: &mut [u8], fill: usize) -> usize
     requires { fill + 3 ≤ length output.old }
     ensures { (result ≡ fill + length (printed_one answer)) × (result ≤ fill + 3)

@@ -28,6 +28,7 @@ pub fn count_answers(before: Tally, answers: &[u8]) -> Tally
 }
 
 // The counts with one answer more.
+// Kept: an answer is the byte that `check_numbers` writes for C, and not an enum.
 #[tactic(auto, unfolding(crate::specs::Tallying::with_answer))]
 fn with_answer(counts: Tally, answer: u8) -> Tally
     ensures { result ≡ with_answer counts answer }

@@ -71,6 +71,7 @@ pub fn say_decimal<R: Print + Eprint>(rt: &R, n: u64) {
 }
 
 // Puts a run behind the bytes that a line has, where there is room; answers how many it then has. So a line can be written at once.
+// Kept: no heap, and a `write!` to the output makes several writes; `Adds` also speaks of a fill behind the line's end.
 #[tactic(auto, using(crate::proofs::Adding::adds_whole, crate::proofs::Adding::adds_none))]
 pub fn add(line: &mut [u8], fill: usize, run: &[u8]) -> usize
     ensures fits { IsPrefixLen result line.new }
