@@ -1,8 +1,11 @@
 -- What was read of a file is enough to judge it: all of it, or more than a file may have.
 use Rattle.std.proofs.Common.{◌≡◌, ℕ, ◌<◌, ◌≤◌, List, [], ◌++◌, length, take, sym, ap, ◌∙◌, subst, ⊎_elim, arith, append-nil}
 use Rattle.std.proofs.Common.{length-append, length-take-le}
-use Rattle.std.specs.Prelude.{Option, None, Some, IfSome, Err}
+use Rattle.std.specs.Prelude.{Option, None, Some, IfSome, Result, Ok, Err, OnOk}
 use Rattle.std.specs.Io.KnownBytes.{Appends, Consumes, IsAtEnd}
+use Rattle.std.proofs.lemmas.Result.{on_ok_weaker}
+use Rattle.std.specs.declared.io.Error.{Error}
+use Rattle.streams.specs.Reads.{Held, Took}
 use borrow.Author.Tests.{lt-ltb}
 use Rattle.text.proofs.Numbers.{le_or_lt}
 use Rattle.refusal.specs.Table.{because}
@@ -31,14 +34,24 @@ module _ (read rest : List ℕ) where
       within : m < 65536 → answer_to (read ++ rest) ≡ answer_to read
       within h = ap (λ r. answer_to (read ++ r)) (end h) ∙ ap answer_to (append-nil read)
 
-pub judged_all : (before after output output' : Option (List ℕ)) (n : ℕ) (buffer : List ℕ) → length buffer ≡ 65536 → n ≤ length buffer
+judged_read : (before after output output' : Option (List ℕ)) (n : ℕ) (buffer : List ℕ) → length buffer ≡ 65536 → n ≤ length buffer
     → Consumes before after (take n buffer) → (n < length buffer → IsAtEnd after) → Appends output output' (answer_to (take n buffer))
     → IfSome before (λ file. Appends output output' (answer_to file))
-judged_all None after output output' n buffer long fits lost end told = tt
-judged_all (Some file) None output output' n buffer long fits lost end told = absurd lost
-judged_all (Some file) (Some rest) output output' n buffer long fits lost end told =
+judged_read None after output output' n buffer long fits lost end told = tt
+judged_read (Some file) None output output' n buffer long fits lost end told = absurd lost
+judged_read (Some file) (Some rest) output output' n buffer long fits lost end told =
     let read = take n buffer in
     let many : n ≡ length read = sym (length-take-le n buffer fits) in
     let all : answer_to file ≡ answer_to read =
     ap answer_to lost ∙ enough read rest n many (λ h. end (omega (arith, long, h))) in
     subst (Appends output output') (sym all) told
+
+pub judged_all : (before after output output' : Option (List ℕ)) (n : ℕ) (buffer line : List ℕ) (read : Result ℕ Error)
+    (written : Result (Unit {0}) Error) → read ≡ Ok n → length buffer ≡ 65536 → Held read buffer → Took before after read buffer
+    → line ≡ answer_to (take n buffer) → OnOk written (Appends output output' line)
+    → OnOk written (IfSome before (λ file. Appends output output' (answer_to file)))
+judged_all before after output output' n buffer line read written is long held took answer told =
+    let fits = (subst (λ r. Held r buffer) is held).0 in
+    let lost = subst (λ r. Took before after r buffer) is took in
+    on_ok_weaker written
+    (λ grown. judged_read before after output output' n buffer long fits lost.0 lost.1 (subst (Appends output output') answer grown)) told

@@ -3,40 +3,37 @@
 // of countries that it lends is empty: no sender needs contacts.
 #![tactic(auto)]
 
-ghost use Rattle.std.specs.Prelude.{◌≡◌, take, IsTrue, IfSome};
+ghost use Rattle.std.specs.Prelude.{◌≡◌, take, IfSome, OnOk};
 ghost use Rattle.std.specs.Io.KnownBytes.{Appends};
 ghost use Rattle.streams.specs.Counts.{IsPrefixLen};
 ghost use Rattle.dispatch.specs.Answer.{answer_to, ok_line, no_line};
 
 use file::Totals;
 use refusal::Refusal;
+use std::io;
 use std::io::{Eprint, Read, Write};
-use streams::Input;
 
 fn main(rt: HostRuntime) {
-    judge_input(&rt, &mut rt.stdin(), &mut rt.stdout());
+    let _ = judge_input(&rt, &mut rt.stdin(), &mut rt.stdout());
 }
 
-// Reads a file, and prints the answer to it: whether neither failed.
-fn judge_input<R: Eprint, I: Read, W: Write>(rt: &R, input: &mut I, output: &mut W) -> bool
-    ensures { IsTrue result → IfSome (I.remaining input.old)
-        (λ file. Appends (W.contents output.old) (W.contents output.new) (answer_to file)) }
+// Reads a file, and prints the answer to it. What fails is told on standard error.
+fn judge_input<R: Eprint, I: Read, W: Write>(
+    rt: &R,
+    input: &mut I,
+    output: &mut W,
+) -> io::Result<()>
+    ensures { OnOk result (IfSome (I.remaining input.old)
+        (λ file. Appends (W.contents output.old) (W.contents output.new) (answer_to file))) }
 {
     let mut buffer = [0u8; 65536];
-    match streams::read_input(input, &mut buffer) {
-        Input::Whole(n) => judge(rt, output, &buffer[..n]),
-        Input::Failed(error) => {
-            streams::fail(rt, "standard input", error);
-            false
-        }
-    }
-}
-
-fn judge<R: Eprint, W: Write>(rt: &R, output: &mut W, s: &[u8]) -> bool
-    ensures { IsTrue result → Appends (W.contents output.old) (W.contents output.new) (answer_to s.now) }
-{
+    let n = streams::read_input(input, &mut buffer).inspect_err(|error| streams::fail(
+        rt,
+        "standard input",
+        *error,
+    ))?;
     let mut line = [0u8; 72];
-    let end = answer(s, &mut line);
+    let end = answer(&buffer[..n], &mut line);
     streams::write_out(rt, output, &line[..end])
 }
 
@@ -46,8 +43,7 @@ fn answer(s: &[u8], line: &mut [u8; 72]) -> usize
     ensures told { take result line.new ≡ answer_to s.now }
 {
     let mut list = [0u32; 4096];
-    let answer = file::judge(s, b"", &mut list);
-    match answer {
+    match file::judge(s, b"", &mut list) {
         Ok(totals) => say_ok(totals, line),
         Err(refusal) => say_no(refusal, line),
     }
@@ -57,25 +53,16 @@ fn say_ok(totals: Totals, line: &mut [u8; 72]) -> usize
     ensures fits { IsPrefixLen result line.new }
     ensures told { take result line.new ≡ ok_line totals }
 {
-    let ok = streams::add(line, 0, b"ok ");
-    let lines = streams::add_decimal(line, ok, totals.lines as u64);
-    let space = streams::add(line, lines, b" ");
-    let parcels = streams::add_decimal(line, space, totals.parcels as u64);
-    let second = streams::add(line, parcels, b" ");
-    let cents = streams::add_decimal(line, second, totals.cents);
-    streams::add(line, cents, b"\n")
+    let counts = [totals.lines as u64, totals.parcels as u64, totals.cents];
+    streams::put_numbers(line, b"ok", &counts)
 }
 
 fn say_no(refusal: Refusal, line: &mut [u8; 72]) -> usize
     ensures fits { IsPrefixLen result line.new }
     ensures told { take result line.new ≡ no_line refusal }
 {
-    let why = refusal.why;
-    let no = streams::add(line, 0, b"no ");
-    let number = streams::add_decimal(line, no, refusal::number(why) as u64);
-    let space = streams::add(line, number, b" ");
-    let place = streams::add_decimal(line, space, refusal.place as u64);
-    streams::add(line, place, b"\n")
+    let number = u64::from(refusal::number(refusal.why));
+    streams::put_numbers(line, b"no", &[number, refusal.place as u64])
 }
 
 #[cfg(test)]
@@ -88,7 +75,7 @@ mod tests {
         let file = [b'0'; 70000];
         let mut input: &[u8] = &file;
         let mut output = Vec::new(rt.alloc());
-        assert!(rt; judge_input(&rt, &mut input, &mut output));
+        assert!(rt; judge_input(&rt, &mut input, &mut output).is_ok());
         assert_eq!(rt; output.as_slice(), b"no 1 65535\n".as_slice());
         Ok(())
     }

@@ -2,7 +2,9 @@
 use Rattle.std.proofs.Common.{◌≡◌, ℕ, ◌+◌, ◌-◌, ◌/◌, ◌<◌, ◌≤◌, List, [], ◌∷◌, ◌++◌, map, length, take, drop, sym, refl, ap, ◌∙◌, subst}
 use Rattle.std.proofs.Common.{append-nil, append_assoc, arith, take-append-drop, take_all, drop_of_length-le, drop-drop}
 use Rattle.std.proofs.lemmas.List.{take_at}
-use Rattle.std.specs.Prelude.{Option, IfSome, true}
+use Rattle.std.specs.Prelude.{Option, IfSome, true, Result, OnOk}
+use Rattle.std.specs.declared.io.Error.{Error}
+use Rattle.std.proofs.lemmas.Result.{on_ok_weaker}
 use Rattle.std.specs.Io.KnownBytes.{Appends, Consumes, Keeps, IsAtEnd}
 use Rattle.std.proofs.KnownBytes.{Appends-nil, Appends-trans, Consumes-nil, Consumes-trans, Consumes-kept, Consumes-whole}
 use borrow.Author.Tests.{le-ltb}
@@ -25,9 +27,9 @@ use Rattle.returns.specs.Output.{ending, printed_of, counts_line}
 use Rattle.returns.specs.Turns.{Turns, waiting_answers}
 
 -- answers of at most 1,024 lines have room
-pub prints_all : (answers output after : List ℕ) (count : ℕ) → Prints answers output count after → length answers ≤ 1024 → length output ≡ 3072
+prints_whole : (answers output after : List ℕ) (count : ℕ) → Prints answers output count after → length answers ≤ 1024 → length output ≡ 3072
     → take count after ≡ printed answers
-prints_all answers output after count prints few long =
+prints_whole answers output after count prints few long =
     let third : length output / 3 ≡ 1024 = ap (λ n. n / 3) long in
     let room = le-ltb (length output / 3) (length answers) (omega arith) in
     let many : count ≡ length (printed answers) = prints.0 ∙ rw room in
@@ -36,6 +38,12 @@ prints_all answers output after count prints few long =
     omega (arith, prints.2, many, ap length put, placed_long output 0 (printed answers)) in
     let is : after ≡ printed answers ++ drop (0 + length (printed answers)) output = put ∙ placed_there output 0 (printed answers) fits in
     ap (λ l. take count l) is ∙ take_at (printed answers) (drop (0 + length (printed answers)) output) count (sym many)
+
+pub prints_all : (before after : Option (List ℕ)) (answers output lines : List ℕ) (count : ℕ) (written : Result (Unit {0}) Error)
+    → Prints answers output count lines → length output ≡ 3072 → OnOk written (Appends before after (take count lines))
+    → OnOk written (length answers ≤ 1024 → Appends before after (printed answers))
+prints_all before after answers output lines count written prints long =
+    on_ok_weaker written (λ grown few. subst (Appends before after) (prints_whole answers output lines count prints few long) grown)
 
 -- some answers of a text are printed, and those of the lines from a place on are the others
 pub record Said (text : List ℕ) (at : ℕ) (output after : Option (List ℕ)) : Type 0 where

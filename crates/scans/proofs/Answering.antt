@@ -1,5 +1,5 @@
 -- The lines of a text, laid out, checked as a day's numbers and overruled by their marks, have their answers.
-use Rattle.std.proofs.Common.{◌≡◌, ℕ, ◌+◌, ◌*◌, ◌%◌, ◌<◌, ◌≤◌, min, List, map, length, get_or, take, drop, sym, ap, ◌∙◌, zero-add, arith}
+use Rattle.std.proofs.Common.{◌≡◌, ℕ, ◌+◌, ◌*◌, ◌%◌, ◌<◌, ◌≤◌, min, Bool, false, List, map, length, get_or, take, drop, sym, ap, ◌∙◌, zero-add, arith}
 use Rattle.std.proofs.Common.{length-append, take-append-drop, length-take-le, get_or-take, le-ltb, eq-eqb}
 use lib.ListN.{get_or-append}
 use Rattle.text.specs.Placed.{written}
@@ -39,7 +39,7 @@ module _ (numbers answers : List ℕ) (n : ℕ) (long : length numbers ≡ 15 * 
       e.1 ∙ rw q
 
 -- each premise is a callee's promise
-module _ (text answers : List ℕ) (room : ℕ) (answered : told_of.Answered) (numbers marks : List ℕ) (day : Result ℕ Refusal) (checked : List ℕ)
+module _ (text answers : List ℕ) (room : ℕ) (answered : told_of.Answered) (numbers : List ℕ) (marks : List Bool) (day : Result ℕ Refusal) (checked : List ℕ)
     (er : room ≡ min (length answers) 1024) (lays : Lays text room answered numbers marks)
     (wide : 15 * room ≤ length numbers) (marked : room ≤ length marks)
     (checks : ChecksDay (take (15 * answered.lines) numbers) answers day checked) where
@@ -75,7 +75,7 @@ module _ (text answers : List ℕ) (room : ℕ) (answered : told_of.Answered) (n
       ∙ ap (λ s. number_at s k) (take-append-drop (15 * answered.lines) numbers)
 
   same_answer : (k : ℕ) → k < answered.lines →
-      ruled (get_or (take answered.lines marks) k 0) (get_or checked k 0) ≡ answer_at numbers marks k
+      ruled (get_or (take answered.lines marks) k false) (get_or checked k 0) ≡ answer_at numbers marks k
   unfolding answer_at
   same_answer k h =
       let table = tabled (told (take (15 * answered.lines) numbers)) 0 answered.lines in
@@ -86,11 +86,11 @@ module _ (text answers : List ℕ) (room : ℕ) (answered : told_of.Answered) (n
       ∙ tabled_at (told (take (15 * answered.lines) numbers)) answered.lines k 0 h
       ∙ ap (λ s. number_told (verdict_on (checked_number s))) (same_number k h)
       in
-      rw (get_or-take answered.lines marks k 0 h, c)
+      rw (get_or-take answered.lines marks k false h, c)
 
   pub answers_lines : (out : List ℕ) → out ≡ overruled (take answered.lines marks) checked → AnswersLines text answers answered out
   answers_lines out eo =
-      let rule : ℕ → ℕ = λ i. ruled (get_or (take answered.lines marks) i 0) (get_or checked i 0) in
+      let rule : ℕ → ℕ = λ i. ruled (get_or (take answered.lines marks) i false) (get_or checked i 0) in
       let first = tabled (told (take (15 * answered.lines) numbers)) 0 answered.lines in
       let first_long = tabled_long (told (take (15 * answered.lines) numbers)) 0 answered.lines in
       let last = tabled (answer_at numbers marks) 0 answered.lines in

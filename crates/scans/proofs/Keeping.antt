@@ -1,44 +1,44 @@
 -- What waits for the rest of its line, moved to the buffer's front.
-use Rattle.std.proofs.Common.{◌≡◌, ℕ, ◌+◌, ◌-◌, ◌<◌, ◌≤◌, min, List, length, take, drop, sym, refl, ap, ◌∙◌, ⊎_elim, arith, length-drop}
-use Rattle.std.proofs.Common.{length-take, take_all, take-take, take_at}
-use Rattle.text.specs.Placed.{written, placed}
+use Rattle.std.proofs.Common.{◌≡◌, ℕ, ◌+◌, ◌-◌, ◌<◌, ◌≤◌, min, List, [], length, take, drop, sym, ap, ◌∙◌, ⊎_elim, arith, length-drop}
+use Rattle.std.proofs.Common.{length-take, length-take-le, take_all, take-take, drop_of_length-le}
+use Rattle.std.proofs.lemmas.List.{take_min}
+use Rattle.std.specs.List.{copy_within}
 use Rattle.text.proofs.Numbers.{le_or_lt}
-use Rattle.text.proofs.Placing.{placed_there}
 use Rattle.scans.specs.Scans.{kept, Keeps}
 
--- a run that is clipped to so many bytes, and goes by way of an array that has room for it
-pub clipped_short : (s rest : List ℕ) (d m most : ℕ) → m ≡ min d most → rest ≡ take m s → length rest ≤ most
-clipped_short s rest d m most em er = omega (arith, ap length er, length-take m s)
+module _ (buffer : List ℕ) (from to start m n : ℕ) (es : start ≡ min from (length buffer)) (em : m ≡ min (to - from) 17)
+    (en : n ≡ min m (length buffer - start)) where
+  -- a place behind the buffer is its end
+  within : take n (drop start buffer) ≡ take m (drop from buffer)
+  within = ⊎_elim inside behind (le_or_lt from (length buffer))
+    where
+      inside : from ≤ length buffer → take n (drop start buffer) ≡ take m (drop from buffer)
+      inside h =
+          let s : start ≡ from = omega arith in
+          let k : n ≡ min m (length (drop from buffer)) = omega (arith, length-drop from buffer) in
+          rw (s, k) (take_min m (drop from buffer))
 
-module _ (held after rest : List ℕ) (wide : length rest ≤ length held) (ea : after ≡ placed held 0 rest) where
-  held_front : take (length rest) after ≡ rest
-  held_front =
-      rw (ea, placed_there held 0 rest (omega (arith, wide)))
-      (take_at rest (drop (0 + length rest) held) (length rest) refl)
+      behind : length buffer < from → take n (drop start buffer) ≡ take m (drop from buffer)
+      behind h =
+          let k : n ≡ 0 = omega arith in
+          let none : drop from buffer ≡ [] = drop_of_length-le buffer (let f : length buffer ≤ from = omega arith in f) in
+          rw (k, none) (sym (take_all m [] (omega arith)))
 
-  pub held_long : length rest ≡ length (take (length rest) after)
-  held_long = ap length (sym held_front)
-
--- each premise is a callee's promise
-module _ (buffer : List ℕ) (from to d m : ℕ) (rest : List ℕ)
-    (ed : d ≡ to - from) (em : m ≡ min d 17) (er : rest ≡ take m (drop from buffer)) where
-  rest_kept : rest ≡ kept buffer from to
-  rest_kept = er ∙ ⊎_elim more less (le_or_lt 17 (to - from))
+  short : take m (drop from buffer) ≡ kept buffer from to
+  short = ⊎_elim more less (le_or_lt 17 (to - from))
     where
       more : 17 ≤ to - from → take m (drop from buffer) ≡ kept buffer from to
-      more h = let n : m ≡ 17 = omega arith in rw (n, take-take 17 (to - from) (drop from buffer) h)
+      more h = let k : m ≡ 17 = omega arith in rw (k, take-take 17 (to - from) (drop from buffer) h)
 
       less : to - from < 17 → take m (drop from buffer) ≡ kept buffer from to
       less h =
-          let n : m ≡ to - from = omega arith in
-          rw (n, take_all 17 (take (to - from) (drop from buffer)) (omega (arith, length-take (to - from) (drop from buffer))))
+          let k : m ≡ to - from = omega arith in
+          rw (k, take_all 17 (take (to - from) (drop from buffer)) (omega (arith, length-take (to - from) (drop from buffer))))
 
-  pub keeps : (held after out : List ℕ) → length rest ≤ length held → after ≡ placed held 0 rest →
-      out ≡ placed buffer 0 (take (length rest) after) → Keeps buffer from to (length rest) out
-  keeps held after out wide ea eo =
-      let fits : length rest ≤ length buffer = omega (arith, ap length er, length-take m (drop from buffer), length-drop from buffer) in (
-        ap length rest_kept,
-        eo ∙ ap (λ s. placed buffer 0 s) (held_front held after rest wide ea)
-            ∙ placed_there buffer 0 rest (omega (arith, fits)) ∙ ap (λ s. written buffer 0 s) rest_kept,
-        clipped_short (drop from buffer) rest d m 17 em er,
-      )
+  long : length (kept buffer from to) ≡ n
+  long = ap length (sym (within ∙ short)) ∙ length-take-le n (drop start buffer) (omega (arith, length-drop start buffer))
+
+  pub keeps : (out : List ℕ) → out ≡ copy_within buffer start (start + n) 0 → Keeps buffer from to n out
+  keeps out eo =
+      let k : start + n - start ≡ n = omega arith in
+      (sym long, eo ∙ rw (k, within ∙ short, long), omega arith)

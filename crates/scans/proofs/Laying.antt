@@ -1,11 +1,11 @@
 -- The loop that lays lines out: what it has found at a place of the text.
-use Rattle.std.proofs.Common.{◌≡◌, ℕ, suc, ◌+◌, ◌-◌, ◌*◌, ◌<◌, ◌≤◌, List, [], ◌∷◌, ◌++◌, map, length, get_or, take, drop, set, sym, refl}
+use Rattle.std.proofs.Common.{◌≡◌, ℕ, suc, ◌+◌, ◌-◌, ◌*◌, ◌<◌, ◌≤◌, Bool, List, [], ◌∷◌, ◌++◌, map, length, get_or, take, drop, set, sym, refl}
 use Rattle.std.proofs.Common.{ap, ◌∙◌, zero-add, add-one, arith, length-drop, length-set, length-take, length-take-le, take_all, drop-cons}
 use Rattle.std.proofs.Common.{take-suc}
 use Rattle.text.specs.Scan.{line_feed}
 use Rattle.text.specs.Tabled.{tabled}
 use Rattle.scans.specs.Scans.{whole_lines, line_answer, bytes_of, answered_of}
-use Rattle.scans.specs.Laying.{mark_of, laid, answer_at, Lays}
+use Rattle.scans.specs.Laying.{is_number, laid, answer_at, Lays}
 use Rattle.scans.proofs.Tabling.{tabled_more, tabled_alike}
 use Rattle.scans.proofs.Splitting.{feed_behind, next_line, no_line}
 use Rattle.scans.proofs.Slots.{laid_long, answer_stays, answer_there}
@@ -19,7 +19,7 @@ map_both [] b = refl
 map_both (line ∷ a) b = ap (λ l. line_answer line ∷ l) (map_both a b)
 
 -- i lines end in front of the place at, and are laid out
-pub record Laying (text : List ℕ) (room : ℕ) (numbers marks : List ℕ) (at i : ℕ) : Type 0 where
+pub record Laying (text : List ℕ) (room : ℕ) (numbers : List ℕ) (marks : List Bool) (at i : ℕ) : Type 0 where
   pub wide : 15 * room ≤ length numbers
   pub marked : room ≤ length marks
   pub here : at ≤ length text
@@ -29,7 +29,7 @@ pub record Laying (text : List ℕ) (room : ℕ) (numbers marks : List ℕ) (at 
   pub taken : at ≡ bytes_of (take i (whole_lines text))
   pub told : map line_answer (take i (whole_lines text)) ≡ tabled (answer_at numbers marks) 0 i
 
-pub laying_none : (text : List ℕ) (room : ℕ) (numbers marks : List ℕ) → 15 * room ≤ length numbers → room ≤ length marks →
+pub laying_none : (text : List ℕ) (room : ℕ) (numbers : List ℕ) (marks : List Bool) → 15 * room ≤ length numbers → room ≤ length marks →
     Laying text room numbers marks 0 0
 laying_none text room numbers marks n m =
     record {
@@ -43,7 +43,7 @@ laying_none text room numbers marks n m =
       told = refl;
     }
 
-module _ {text : List ℕ} {room : ℕ} {numbers marks : List ℕ} {at i : ℕ} (s : Laying text room numbers marks at i) where
+module _ {text : List ℕ} {room : ℕ} {numbers : List ℕ} {marks : List Bool} {at i : ℕ} (s : Laying text room numbers marks at i) where
   -- where the loop ends, for so many lines
   done : i ≤ room → take room (whole_lines text) ≡ take i (whole_lines text) →
       Lays text room (record { lines = i; next = at }) numbers marks
@@ -66,8 +66,8 @@ module _ {text : List ℕ} {room : ℕ} {numbers marks : List ℕ} {at i : ℕ} 
     laying_inside = feed_behind text at end is s.here
 
     -- a turn: each premise is a fact that the loop has
-    pub laying_on : (m : ℕ) (after : List ℕ) → i < room → end < length text →
-        m ≡ mark_of (take (end - at) (drop at text)) → after ≡ laid numbers (15 * i) (take (end - at) (drop at text)) →
+    pub laying_on : (m : Bool) (after : List ℕ) → i < room → end < length text →
+        m ≡ is_number (take (end - at) (drop at text)) → after ≡ laid numbers (15 * i) (take (end - at) (drop at text)) →
         Laying text room after (set marks i m) (end + 1) (i + 1)
     laying_on m after l h em ea =
         let line = take (end - at) (drop at text) in

@@ -1,19 +1,9 @@
 -- Answers printed one behind the other.
-use Rattle.std.proofs.Common.{◌≡◌, ℕ, suc, ◌+◌, ◌*◌, ◌/◌, ◌%◌, ◌<◌, ◌≤◌, List, [], ◌∷◌, ◌++◌, length, get_or, take, sym, refl, ap, ◌∙◌}
+use Rattle.std.proofs.Common.{◌≡◌, ℕ, suc, ◌+◌, ◌*◌, ◌/◌, ◌<◌, ◌≤◌, List, [], ◌∷◌, ◌++◌, length, get_or, take, sym, refl, ap, ◌∙◌}
 use Rattle.std.proofs.Common.{append_assoc, append-nil, zero-add, add-one, arith, length-append, take_all, take-suc, le-ltb, lt-ltb}
 use Rattle.text.specs.Placed.{placed}
 use Rattle.text.proofs.Placing.{placed_on, placed_none, placed_long}
 use Rattle.scans.specs.Scans.{printed_one, printed, Prints}
-
--- one answer
-module _ (answer : ℕ) (before after : List ℕ) (fill : ℕ) where
-  pub one_digit : answer < 10 → after ≡ placed before fill ((48 + answer) ∷ 10 ∷ []) →
-      (fill + 2 ≡ fill + length (printed_one answer)) × (fill + 2 ≤ fill + 3) × (after ≡ placed before fill (printed_one answer))
-  one_digit h e = (rw (lt-ltb answer 10 h), omega arith, rw (lt-ltb answer 10 h) e)
-
-  pub two_digits : 10 ≤ answer → after ≡ placed before fill ((48 + answer / 10) ∷ (48 + answer % 10) ∷ 10 ∷ []) →
-      (fill + 3 ≡ fill + length (printed_one answer)) × (fill + 3 ≤ fill + 3) × (after ≡ placed before fill (printed_one answer))
-  two_digits h e = (rw (le-ltb answer 10 h), omega arith, rw (le-ltb answer 10 h) e)
 
 pub printed_both : (a b : List ℕ) → printed (a ++ b) ≡ printed a ++ printed b
 printed_both [] b = refl

@@ -10,7 +10,7 @@ use Rattle.check_characters.specs.Number.{checked_number}
 use Rattle.check_characters.specs.Day.{number_at}
 use Rattle.check_characters.proofs.Days.{number_front}
 use Rattle.scans.specs.Scans.{number_on, line_answer}
-use Rattle.scans.specs.Laying.{mark_of, laid, ruled, answer_at}
+use Rattle.scans.specs.Laying.{is_number, laid, ruled, answer_at}
 
 module _ (numbers number : List ℕ) (i : ℕ) (l : 15 * i + length number ≤ length numbers) where
   pub number_stays : (k : ℕ) → k < i → number_at (written numbers (15 * i) number) k ≡ number_at numbers k
@@ -30,8 +30,8 @@ module _ (numbers number : List ℕ) (i : ℕ) (l : 15 * i + length number ≤ l
       ∙ take_at number (drop (15 * i + length number) numbers) 15 e
 
 -- a line laid out: each premise is a fact that the loop has
-module _ (numbers marks line : List ℕ) (i m : ℕ) (after : List ℕ) (fits : 15 * i + 15 ≤ length numbers) (is : i < length marks)
-    (em : m ≡ mark_of line) (ea : after ≡ laid numbers (15 * i) line) where
+module _ (numbers : List ℕ) (marks : List Bool) (line : List ℕ) (i : ℕ) (m : Bool) (after : List ℕ) (fits : 15 * i + 15 ≤ length numbers) (is : i < length marks)
+    (em : m ≡ is_number line) (ea : after ≡ laid numbers (15 * i) line) where
   pub laid_long : length after ≡ length numbers
   laid_long = ap length ea ∙ go (eqb (length (number_on line)) 15)
     where
@@ -52,14 +52,14 @@ module _ (numbers marks line : List ℕ) (i m : ℕ) (after : List ℕ) (fits : 
 
   pub answer_stays : (k : ℕ) → k < i → answer_at after (set marks i m) k ≡ answer_at numbers marks k
   unfolding answer_at
-  answer_stays k h = rw (stays k h, get_or-set_other marks i k m 0 (λ e. omega arith))
+  answer_stays k h = rw (stays k h, get_or-set_other marks i k m false (λ e. omega arith))
 
   pub answer_there : answer_at after (set marks i m) i ≡ line_answer line
   unfolding answer_at line_answer
-  answer_there = rw (get_or-set_same marks i m 0 is, em, ea) (go (eqb (length (number_on line)) 15) refl)
+  answer_there = rw (get_or-set_same marks i m false is, em, ea) (go (eqb (length (number_on line)) 15) refl)
     where
       go : (t : Bool) → eqb (length (number_on line)) 15 ≡ t →
-          ruled (if t then 0 else 16)
+          ruled t
           (number_told (verdict_on (checked_number (number_at (if t then placed numbers (15 * i) (number_on line) else numbers) i))))
           ≡ (if t then number_told (verdict_on (checked_number (number_on line))) else 16)
       go true e =

@@ -1,17 +1,11 @@
 -- The counts on their way over answers, and what they tell.
-use Rattle.std.proofs.Common.{◌≡◌, ℕ, ◌+◌, ◌%◌, ◌^◌, ◌<◌, ◌≤◌, Bool, true, false, eqb, List, [], ◌∷◌, ◌++◌, length, get_or, drop, sym}
+use Rattle.std.proofs.Common.{◌≡◌, ℕ, ◌+◌, ◌^◌, ◌<◌, ◌≤◌, Bool, true, false, eqb, List, [], ◌∷◌, ◌++◌, length, get_or, drop, sym}
 use Rattle.std.proofs.Common.{refl, ap, ◌∙◌, mod-eq_of_lt, add-one, arith, drop_of_length-le, drop-cons}
 use Rattle.std.specs.Prelude.{if◌then◌else◌}
 use Rattle.scans.specs.declared.tally.Tally.{Tally}
 use Rattle.scans.specs.Tallying.{one_more, with_answer, tallied, no_line, how_often}
 
 -- one answer counted
-pub counts_on : (n m : ℕ) (counts : Bool) → counts ≡ true → m ≡ (n + 1) % 2 ^ 64 → m ≡ one_more n counts
-counts_on n m counts e f = rw e f
-
-pub counts_not : (n : ℕ) (counts : Bool) → counts ≡ false → n ≡ one_more n counts
-counts_not n counts e = rw e
-
 pub with_answer_lem : (t : Tally) (answer l p n s c : ℕ) → l ≡ one_more t.lines true → p ≡ one_more t.passed (eqb answer 0) →
     n ≡ one_more t.length (eqb answer 16) → s ≡ one_more t.symbol (eqb answer 17) → c ≡ one_more t.check (eqb answer 18) →
     record { lines = l; passed = p; length = n; symbol = s; check = c } ≡ with_answer t answer

@@ -2,7 +2,7 @@
 ghost use Rattle.std.specs.Prelude.{◌≡◌};
 ghost use Rattle.scans.specs.Tallying.{one_more, with_answer, tallied};
 
-#[derive(Clone, Copy)]
+#[derive(Clone, Copy, Debug, Default, PartialEq, Eq)]
 pub struct Tally {
     pub lines: u64,
     // Answered 0,
@@ -16,19 +16,20 @@ pub struct Tally {
 }
 
 // The counts with these answers. No run has so many lines that a count begins again.
+#[tactic(auto, using(crate::proofs::Tallying::tally_on, crate::proofs::Tallying::tally_ends))]
 pub fn count_answers(before: Tally, answers: &[u8]) -> Tally
     ensures { result ≡ tallied before answers.now }
 {
     let mut counts = before;
-    let mut i: usize = 0;
-    while i < answers.len() {
-        counts = with_answer(counts, answers[i]);
-        i += 1;
+    for answer in answers {
+        counts = with_answer(counts, *answer);
     }
     counts
 }
 
 // The counts with one answer more.
+// Kept: an answer is the byte that `check_numbers` writes for C, and not an enum.
+#[tactic(auto, unfolding(crate::specs::Tallying::with_answer))]
 fn with_answer(counts: Tally, answer: u8) -> Tally
     ensures { result ≡ with_answer counts answer }
 {
@@ -46,7 +47,7 @@ fn one_more(count: u64, counts: bool) -> u64
     ensures { result ≡ one_more count counts }
 {
     if counts {
-        return std::num::wrapping_add_u64(count, 1);
+        return count.wrapping_add(1);
     }
     count
 }

@@ -1,5 +1,5 @@
 -- What a line has, behind a run that was added; two outcomes are equal.
-use Rattle.std.proofs.Common.{◌≡◌, ℕ, ◌+◌, ◌<◌, ◌≤◌, min, List, ◌++◌, length, take, drop, ap, sym, ◌∙◌, ⊎_elim, arith, length-append, length-take-le}
+use Rattle.std.proofs.Common.{◌≡◌, ℕ, ◌+◌, ◌<◌, ◌≤◌, min, List, ◌++◌, length, take, drop, refl, ap, sym, ◌∙◌, ⊎_elim, arith, length-append, length-take-le}
 use Rattle.std.proofs.lemmas.List.{take_at}
 use borrow.Author.Tests.{lt-leb}
 use Rattle.text.specs.Placed.{placed}
@@ -19,13 +19,19 @@ module _ (line : List ℕ) (fill : ℕ) (run : List ℕ) where
   unfolding placed
   full h = simp (lt-leb (fill + length run) (length line) h)
 
-  pub adds : (count : ℕ) (after : List ℕ) → after ≡ placed line fill run
-      → (fill + length run ≤ length line → count ≡ fill + length run)
-      → (length line < fill + length run → count ≡ min fill (length line)) → Adds line fill run count after
-  adds count after there whole none = record {
+  pub adds_whole : (after : List ℕ) → after ≡ placed line fill run → fill + length run ≤ length line → Adds line fill run (fill + length run) after
+  adds_whole after there fits = record {
     there = there;
-    whole = λ h. (whole h, ap (λ n. take n after) (whole h) ∙ ap (λ l. take (fill + length run) l) there ∙ front h);
-    none = λ h. (none h, there ∙ full h);
+    whole = λ h. (refl, ap (λ l. take (fill + length run) l) there ∙ front h);
+    none = λ h. absurd (omega arith);
+  }
+
+  pub adds_none : (count : ℕ) (after : List ℕ) → after ≡ placed line fill run → length line < fill + length run → count ≡ min fill (length line)
+      → Adds line fill run count after
+  adds_none count after there over least = record {
+    there = there;
+    whole = λ h. absurd (omega arith);
+    none = λ h. (least, there ∙ full h);
   }
 
   pub adds_unique : (m n : ℕ) (after other : List ℕ) → Adds line fill run m after → Adds line fill run n other → (m ≡ n) × (after ≡ other)

@@ -1,5 +1,3 @@
 pub mod Adding
-pub mod Decimal
 pub mod Filling
-pub mod Held
-pub mod Powers
+pub mod Listing

@@ -1,4 +1,3 @@
 pub mod Counts
-pub mod Digits
 pub mod Lines
 pub mod Reads

@@ -1,157 +1,91 @@
 // What the programs read and write. A read that fails is no end of the input, and one that a signal interrupted is made again.
 #![tactic(auto)]
 
-mod number;
-
-ghost use Rattle.std.specs.Prelude.{◌≡◌, ◌≢◌, ◌↔◌, ◌+◌, ◌<◌, ◌≤◌, IsTrue, min, length};
+ghost use Rattle.std.specs.Prelude.{◌≡◌, ◌+◌, ◌*◌, ◌<◌, ◌≤◌, ◌++◌, length, take, OnOk};
 ghost use Rattle.std.specs.Fmt.{decimal};
 ghost use Rattle.std.specs.Io.KnownBytes.{Appends};
-ghost use Rattle.std.specs.IoError.{error_kind};
 ghost use Rattle.streams.specs.Counts.{IsPrefixLen};
-ghost use Rattle.streams.specs.Lines.{Adds};
-ghost use Rattle.streams.specs.Reads.{Held, HeldPiece, Took, TookPiece, meaning_of};
+ghost use Rattle.streams.specs.Lines.{Adds, numbers};
+ghost use Rattle.streams.specs.Reads.{Held, HeldPiece, Took, TookPiece};
 
-use number::put_decimal;
+use itoa::Buffer;
 use std::io;
 use std::io::{Eprint, Error, ErrorKind, Print, Read, Write};
 
-// How many bytes of the buffer are the input: all of it, or as much as the buffer takes.
-#[derive(Clone, Copy)]
-pub enum Input {
-    Whole(usize),
-    Failed(Error),
-}
-
-// What one read gave: so many bytes at the buffer's front, none where a signal interrupted it.
-#[derive(Clone, Copy)]
-pub enum Piece {
-    More(usize),
-    Ended,
-    Failed(Error),
-}
-
-#[derive(Clone, Copy)]
-enum Reading {
-    GoesOn,
-    Ended,
-    Failed,
-}
-
-// Reads until the input ends or the buffer is full. A proved loop has to end, and signals need not: so it counts its turns, up to a
-// number that no run reaches.
-pub fn read_input<R: Read>(reader: &mut R, buffer: &mut [u8]) -> Input
+// Reads until the input ends or the buffer is full, and answers how many bytes of the buffer are the input. A proved loop has to end, and
+// signals need not: so it counts its turns, up to a number that no run reaches.
+#[tactic(auto, using(crate::proofs::Filling::consumes_on))]
+pub fn read_input<R: Read>(reader: &mut R, buffer: &mut [u8]) -> io::Result<usize>
     ensures held { Held result buffer.new }
     ensures took { Took (R.remaining reader.old) (R.remaining reader.new) result buffer.new }
 {
     let mut there: usize = 0;
     'turns: for _ in 0..u64::MAX {
         if there == buffer.len() {
-            return Input::Whole(there);
+            return Ok(there);
         }
-        let piece = read_piece(reader, &mut buffer[there..]);
-        match piece {
-            Piece::More(n) => there += n,
-            Piece::Ended => return Input::Whole(there),
-            Piece::Failed(error) => return Input::Failed(error),
-        }
+        let Some(n) = read_piece(reader, &mut buffer[there..])? else {
+            return Ok(there);
+        };
+        there += n;
     }
-    Input::Failed(Error::other("the reads do not end"))
+    Err(Error::other("the reads do not end"))
 }
 
-// Reads once, into a buffer that is not empty.
-pub fn read_piece<R: Read>(reader: &mut R, buffer: &mut [u8]) -> Piece
+// Reads once, into a buffer that is not empty: so many bytes at its front, none where a signal interrupted the read, and `None` where the
+// input has ended.
+pub fn read_piece<R: Read>(reader: &mut R, buffer: &mut [u8]) -> io::Result<Option<usize>>
     ensures held { HeldPiece result buffer.new }
     ensures took { TookPiece (R.remaining reader.old) (R.remaining reader.new) result buffer.new }
 {
     match reader.read(buffer) {
-        Ok(n) => piece_given(n),
-        Err(error) => piece_lost(error),
+        Ok(0) => Ok(None),
+        Ok(n) => Ok(Some(n)),
+        Err(error) if error.kind() == ErrorKind::Interrupted => Ok(Some(0)),
+        Err(error) => Err(error),
     }
-}
-
-// What a read gave that did not fail.
-fn piece_given(n: usize) -> Piece
-    ensures ended { n ≡ 0 → result ≡ Piece.Ended }
-    ensures more { 0 < n → result ≡ Piece.More n }
-{
-    match meaning(n == 0, false, false) {
-        Reading::GoesOn => Piece::More(n),
-        _ => Piece::Ended,
-    }
-}
-
-// What a read gave that failed.
-fn piece_lost(error: Error) -> Piece
-    ensures again { error_kind error ≡ ErrorKind.Interrupted → result ≡ Piece.More 0 }
-    ensures failed { error_kind error ≢ ErrorKind.Interrupted → result ≡ Piece.Failed error }
-{
-    match meaning(true, true, is_interrupted(&error)) {
-        Reading::GoesOn => Piece::More(0),
-        _ => Piece::Failed(error),
-    }
-}
-
-// Whether a signal made a read fail.
-fn is_interrupted(error: &Error) -> bool
-    ensures { IsTrue result ↔ (error_kind error.now ≡ ErrorKind.Interrupted) }
-{
-    error.kind() == ErrorKind::Interrupted
-}
-
-// What a read means that gave nothing, or failed, or failed by a signal.
-fn meaning(nothing: bool, failed: bool, interrupted: bool) -> Reading
-    ensures { result ≡ meaning_of nothing failed interrupted }
-{
-    if failed {
-        if interrupted {
-            return Reading::GoesOn;
-        }
-        return Reading::Failed;
-    }
-    if nothing {
-        return Reading::Ended;
-    }
-    Reading::GoesOn
 }
 
 // Writes to standard output, and says on standard error where that failed.
 pub fn say<R: Print + Eprint>(rt: &R, text: &[u8]) {
-    write_out(rt, &mut io::writer(rt), text);
+    let _ = write_out(rt, &mut io::writer(rt), text);
 }
 
-// The same, for who has to stop where it failed, and to any output: whether all of it was written.
-pub fn write_out<R: Eprint, W: Write>(rt: &R, output: &mut W, text: &[u8]) -> bool
-    ensures { IsTrue result → Appends (W.contents output.old) (W.contents output.new) text.now }
+// The same, for who has to stop where it failed, and to any output.
+pub fn write_out<R: Eprint, W: Write>(rt: &R, output: &mut W, text: &[u8]) -> io::Result<()>
+    ensures { OnOk result (Appends (W.contents output.old) (W.contents output.new) text.now) }
 {
-    match output.write_all(text) {
-        Ok(()) => true,
-        Err(error) => {
-            fail(rt, "standard output", error);
-            false
-        }
-    }
+    output
+        .write_all(text)
+        .inspect_err(|error| fail(rt, "standard output", *error))
 }
 
 // Says on standard error what failed, and why.
 pub fn fail<R: Eprint>(rt: &R, what: &str, error: Error) {
-    let _ = rt.eprintln(format_args!("{what}: {error}"));
+    let _ = eprintln!(rt; "{what}: {error}");
 }
 
 // Says a number's decimal digits.
 pub fn say_decimal<R: Print + Eprint>(rt: &R, n: u64) {
-    let mut digits = [0u8; 20];
-    let count = put_decimal(n, &mut digits);
-    say(rt, &digits[..count]);
+    say(rt, Buffer::new().format(n).as_bytes());
 }
 
 // Puts a run behind the bytes that a line has, where there is room; answers how many it then has. So a line can be written at once.
+// Kept: no heap, and a `write!` to the output makes several writes; `Adds` also speaks of a fill behind the line's end.
+#[tactic(auto, using(crate::proofs::Adding::adds_whole, crate::proofs::Adding::adds_none))]
 pub fn add(line: &mut [u8], fill: usize, run: &[u8]) -> usize
     ensures fits { IsPrefixLen result line.new }
     ensures added { Adds line.old fill run.now result line.new }
 {
     let room = line.len();
     text::place(line, fill, run);
-    filled(room, fill, run.len())
+    if room < fill {
+        return room;
+    }
+    if room - fill < run.len() {
+        return fill;
+    }
+    fill + run.len()
 }
 
 // The same for a number's decimal digits.
@@ -160,23 +94,24 @@ pub fn add_decimal(line: &mut [u8], fill: usize, n: u64) -> usize
     ensures added { Adds line.old fill (decimal n) result line.new }
     ensures short { length (decimal n) ≤ 20 }
 {
-    let mut digits = [0u8; 20];
-    let count = put_decimal(n, &mut digits);
-    add(line, fill, &digits[..count])
+    let mut digits = Buffer::new();
+    add(line, fill, digits.format(n).as_bytes())
 }
 
-fn filled(room: usize, fill: usize, more: usize) -> usize
-    ensures fits { result ≤ room }
-    ensures whole { fill + more ≤ room → result ≡ fill + more }
-    ensures none { room < fill + more → result ≡ min fill room }
+// Puts a word and numbers, each behind a space, and a line feed at the line's front; answers how long they are. The line has room for
+// them where it has 21 bytes for each number.
+#[tactic(auto, using(crate::proofs::Listing::listing_none))]
+pub fn put_numbers(line: &mut [u8], word: &[u8], values: &[u64]) -> usize
+    ensures fits { IsPrefixLen result line.new }
+    ensures told { length word.now + 21 * length values.now < length line.old →
+        take result line.new ≡ word.now ++ numbers values.now }
 {
-    if room < fill {
-        return room;
+    let mut fill = add(line, 0, word);
+    for value in values {
+        fill = add(line, fill, b" ");
+        fill = add_decimal(line, fill, *value);
     }
-    if room - fill < more {
-        return fill;
-    }
-    fill + more
+    add(line, fill, b"\n")
 }
 
 #[cfg(test)]
@@ -210,13 +145,6 @@ mod tests {
         }
     }
 
-    fn whole(input: Input) -> Option<usize> {
-        match input {
-            Input::Whole(n) => Some(n),
-            Input::Failed(_) => None,
-        }
-    }
-
     #[test]
     fn an_interrupted_read_is_made_again(rt: HostRuntime) -> Result<(), Fail> {
         let mut reads = Reads {
@@ -225,7 +153,7 @@ mod tests {
             failing: 99,
         };
         let mut buffer = [0u8; 8];
-        assert_eq!(rt; whole(read_input(&mut reads, &mut buffer)), Some(5));
+        assert_eq!(rt; read_input(&mut reads, &mut buffer).ok(), Some(5));
         assert_eq!(rt; buffer.as_slice(), b"abdef\0\0\0".as_slice());
         Ok(())
     }
@@ -238,7 +166,7 @@ mod tests {
             failing: 3,
         };
         let mut buffer = [0u8; 8];
-        assert_eq!(rt; whole(read_input(&mut reads, &mut buffer)), None);
+        assert_eq!(rt; read_input(&mut reads, &mut buffer).ok(), None);
         Ok(())
     }
 
@@ -246,7 +174,7 @@ mod tests {
     fn a_full_buffer_ends_the_reading(rt: HostRuntime) -> Result<(), Fail> {
         let mut input: &[u8] = b"twelve bytes";
         let mut buffer = [0u8; 6];
-        assert_eq!(rt; whole(read_input(&mut input, &mut buffer)), Some(6));
+        assert_eq!(rt; read_input(&mut input, &mut buffer).ok(), Some(6));
         assert_eq!(rt; buffer.as_slice(), b"twelve".as_slice());
         assert_eq!(rt; input, b" bytes".as_slice());
         Ok(())

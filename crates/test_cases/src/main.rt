@@ -3,26 +3,19 @@
 // 4,294,967,295 before.
 #![tactic(auto)]
 
-ghost use Rattle.std.specs.Prelude.{◌<◌, ◌≤◌};
-ghost use Rattle.streams.specs.Counts.{IsPrefixLen};
+ghost use Rattle.std.specs.Prelude.{◌+◌, ◌^◌, ◌<◌, ◌≤◌, length, IfOk};
 
-use file::Totals;
-use refusal::Refusal;
 use std::env::{Env, FillError};
-use std::io::{Eprint, Error, ErrorKind, Print, Read};
+use std::io::{Eprint, Error, ErrorKind, Write};
 use std::rt::Files;
-use std::{fs, str};
-use streams::Input;
+use std::{fs, io, str};
+use test_input::No;
 
 fn main(rt: HostRuntime) {
-    let n = arg_count(&rt);
-    let mut i: usize = 1;
-    while i < n {
-        if n - i < 3 {
-            return;
+    for case in 0..arg_count(&rt).saturating_sub(1) / 3 {
+        if let Err(error) = one_case(&rt, &mut rt.stdout(), 3 * case + 1) {
+            return streams::fail(&rt, "standard output", error);
         }
-        one_case(&rt, i, i + 1, i + 2);
-        i += 3;
     }
 }
 
@@ -37,102 +30,82 @@ fn arg_count<R: Env>(rt: &R) -> usize {
     usize::MAX
 }
 
-// Puts an argument at the front of the buffer; answers how long it is, and 0 where it is missing or longer than the buffer.
-fn arg<R: Env>(rt: &R, i: usize, buffer: &mut [u8]) -> usize
-    ensures { IsPrefixLen result buffer.new }
-{
+// An argument at the front of the buffer; nothing where it is missing or longer than the buffer.
+fn arg<'a, R: Env>(rt: &R, i: usize, buffer: &'a mut [u8]) -> &'a [u8] {
     match rt.arg(i, buffer) {
-        Ok(n) => n,
-        Err(_) => 0,
+        Ok(n) => &buffer[..n],
+        Err(_) => &[],
     }
 }
 
-// The arguments with these numbers are a number of words, a list of countries and a file's name.
-fn one_case<R: Env + Files + Print + Eprint>(
-    rt: &R,
-    words_at: usize,
-    countries_at: usize,
-    name_at: usize,
-) {
-    let mut count = [0u8; 8];
-    let digits = arg(rt, words_at, &mut count);
-    let words = number(&count[..digits]);
+// The three arguments from this one on are a number of words, a list of countries and a file's name.
+fn one_case<R: Env + Files + Eprint, W: Write>(rt: &R, out: &mut W, at: usize) -> io::Result<()>
+    requires { at + 2 < 2 ^ 64 }
+{
+    let mut digits = [0u8; 8];
+    let words = number(arg(rt, at, &mut digits));
     let mut countries = [0u8; 4096];
-    let given = arg(rt, countries_at, &mut countries);
+    let countries = arg(rt, at + 1, &mut countries);
     let mut name = [0u8; 4096];
-    let long = arg(rt, name_at, &mut name);
-    let Ok(path) = str::from_utf8(&name[..long]) else {
+    let Ok(name) = str::from_utf8(arg(rt, at + 2, &mut name)) else {
         streams::fail(rt, "a file's name", Error::from(ErrorKind::InvalidInput));
-        return;
+        return Ok(());
     };
-    match fs::open(rt, path) {
-        Ok(mut file) => run(rt, &mut file, path, words, &countries[..given]),
-        Err(error) => streams::fail(rt, path, error),
+    let mut buffer = [0u8; 65536];
+    match read_file(rt, name, &mut buffer) {
+        Ok(n) => judge(out, name, &buffer[..n], countries, words),
+        Err(error) => {
+            streams::fail(rt, name, error);
+            Ok(())
+        }
     }
 }
 
-fn run<R: Print + Eprint, I: Read>(
-    rt: &R,
-    input: &mut I,
+// Reads a file into the buffer; answers how many bytes of the buffer it is.
+fn read_file<R: Files>(rt: &R, name: &str, buffer: &mut [u8]) -> io::Result<usize>
+    ensures { IfOk result (λ n. n ≤ length buffer.new) }
+{
+    streams::read_input(&mut fs::open(rt, name)?, buffer)
+}
+
+fn judge<W: Write>(
+    out: &mut W,
     name: &str,
-    words: usize,
+    file: &[u8],
     countries: &[u8],
-)
+    words: usize,
+) -> io::Result<()>
     requires { words ≤ 4096 }
 {
-    let mut buffer = [0u8; 65536];
-    let mut list = [4294967295u32; 4096];
-    let input = streams::read_input(input, &mut buffer);
-    match input {
-        Input::Whole(n) => judge(
-            rt,
-            name.as_bytes(),
-            &buffer[..n],
-            countries,
-            &mut list[0..words],
-        ),
-        Input::Failed(error) => streams::fail(rt, name, error),
+    let mut list = [u32::MAX; 4096];
+    let list = &mut list[..words];
+    write!(out, "{name} {words} ")?;
+    out.write_all(countries)?;
+    match file::judge(file, lent(countries), list) {
+        Ok(totals) => write!(
+            out,
+            " ok {} {} {}",
+            totals.lines, totals.parcels, totals.cents
+        )?,
+        Err(refusal) => write!(out, " {}", No(refusal))?,
     }
-}
-
-fn judge<R: Print + Eprint>(rt: &R, name: &[u8], s: &[u8], countries: &[u8], list: &mut [u32]) {
-    streams::say(rt, name);
-    streams::say(rt, b" ");
-    streams::say_decimal(rt, list.len() as u64);
-    streams::say(rt, b" ");
-    streams::say(rt, countries);
-    let answer = file::judge(s, lent(countries), list);
-    match answer {
-        Ok(totals) => say_ok(rt, totals),
-        Err(refusal) => say_no(rt, refusal),
-    }
-    streams::say(rt, b" list ");
-    streams::say_decimal(rt, sum(list));
-    streams::say(rt, b"\n");
+    writeln!(out, " list {}", sum(list))
 }
 
 // The list of countries that an argument stands for.
 fn lent(countries: &[u8]) -> &[u8] {
-    if text::equal(countries, b"-") {
-        return &countries[0..0];
+    if countries == b"-".as_slice() {
+        &[]
+    } else {
+        countries
     }
-    countries
 }
 
-fn sum(list: &[u32]) -> u64 {
-    let mut total: u64 = 0;
-    let mut i: usize = 0;
-    while i < list.len() {
-        total = (total + wide(list[i])) % 1000000000000;
-        i += 1;
-    }
-    total
-}
-
-fn wide(word: u32) -> u64
-    ensures { result < 4294967296 }
+// The sum of words, modulo 1,000,000,000,000.
+fn sum(list: &[u32]) -> u64
+    requires { length list.now ≤ 4096 }
 {
-    word as u64
+    list.iter().map(|&word| u64::from(word)).sum::<u64>() % 1000000000000
 }
 
 // The number that digits write, at most 4,096.
@@ -140,33 +113,8 @@ fn number(s: &[u8]) -> usize
     ensures { result ≤ 4096 }
 {
     let mut n: usize = 0;
-    let mut i: usize = 0;
-    while i < s.len() {
-        n = (10 * n + value(s[i])) % 4097;
-        i += 1;
+    for b in s {
+        n = (10 * n + usize::from(*b % 48)) % 4097;
     }
     n
-}
-
-fn value(b: u8) -> usize
-    ensures { result < 48 }
-{
-    (b % 48) as usize
-}
-
-fn say_ok<R: Print + Eprint>(rt: &R, totals: Totals) {
-    streams::say(rt, b" ok ");
-    streams::say_decimal(rt, totals.lines as u64);
-    streams::say(rt, b" ");
-    streams::say_decimal(rt, totals.parcels as u64);
-    streams::say(rt, b" ");
-    streams::say_decimal(rt, totals.cents);
-}
-
-fn say_no<R: Print + Eprint>(rt: &R, refusal: Refusal) {
-    let why = refusal.why;
-    streams::say(rt, b" no ");
-    streams::say_decimal(rt, refusal::number(why) as u64);
-    streams::say(rt, b" ");
-    streams::say_decimal(rt, refusal.place as u64);
 }

@@ -1,28 +1,30 @@
-// The input of the test programs: the numbers in its lines.
+// What the test programs read and print alike: the numbers in their input's lines, and a refusal.
 #![tactic(auto)]
 
-ghost use Rattle.std.specs.Prelude.{◌≡◌, ◌-◌, ◌≤◌, length};
+ghost use Rattle.std.specs.Prelude.{◌≡◌, ◌≤◌, length};
 ghost use Rattle.test_input.specs.Input.{given};
 
+use refusal::Refusal;
+use std::fmt;
+
 // A number, and where the input goes on behind it and the byte that ends it.
-#[derive(Clone, Copy)]
+#[derive(Clone, Copy, Debug, PartialEq, Eq)]
 pub struct Given {
     pub value: usize,
     pub next: usize,
 }
 
 // The number that the digits from here on write, modulo 1,000,000.
+#[tactic(auto, using(crate::proofs::Reading::value_on, crate::proofs::Reading::given_stops, crate::proofs::Reading::given_ends))]
 pub fn number(s: &[u8], start: usize) -> Given
     ensures { (result ≡ given s.now start) × (result.value ≤ 999999) × (result.next ≤ length s.now) }
 {
     let mut value: usize = 0;
-    let mut i = start;
-    while i < s.len() {
+    for i in start..s.len() {
         if !text::is_digit(s[i]) {
             return Given { value, next: i + 1 };
         }
-        value = (10 * value + digit(s[i])) % 1000000;
-        i += 1;
+        value = (10 * value + usize::from(s[i].saturating_sub(b'0'))) % 1000000;
     }
     Given {
         value,
@@ -30,12 +32,18 @@ pub fn number(s: &[u8], start: usize) -> Given
     }
 }
 
-// What a digit is worth; 0 for a byte below the digits.
-fn digit(b: u8) -> usize
-    ensures { (result ≡ b - 48) × (result ≤ 207) }
-{
-    if b < 48 {
-        return 0;
+// A refusal as the test programs print it: `no NUMBER PLACE`.
+#[derive(Clone, Copy, Debug, PartialEq, Eq)]
+pub struct No(pub Refusal);
+
+impl fmt::Display for No {
+    ghost use Rattle.std.specs.Prelude.{Some};
+    ghost use Rattle.test_input.specs.Told.{refusal_text};
+
+    ghost output = { λ no. Some (refusal_text no.0) };
+
+    fn fmt<W: fmt::Write>(&self, f: &mut fmt::Formatter<W>) -> fmt::Result {
+        let Refusal { why, place } = self.0;
+        write!(f, "no {} {place}", refusal::number(why))
     }
-    (b - 48) as usize
 }

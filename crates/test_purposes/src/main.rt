@@ -3,128 +3,72 @@
 // and the whole list, which was full of sevens.
 #![tactic(auto)]
 
-ghost use Rattle.std.specs.Prelude.{◌≤◌, length};
+ghost use Rattle.std.specs.Prelude.{◌≤◌};
 
-use refusal::Refusal;
-use std::io::{Eprint, Print};
-use streams::Input;
+use std::io;
+use std::io::Write;
+use test_input::No;
 
 fn main(rt: HostRuntime) {
     let mut buffer = [0u8; 65536];
-    let input = streams::read_input(&mut rt.stdin(), &mut buffer);
-    match input {
-        Input::Whole(n) => run(&rt, &buffer[..n]),
-        Input::Failed(error) => streams::fail(&rt, "standard input", error),
-    }
-}
-
-fn run<R: Print + Eprint>(rt: &R, s: &[u8]) {
-    let mut start: usize = 0;
-    while start < s.len() {
-        let end = first_from(s, start, b'#');
-        run_case(rt, &s[start..end]);
-        start = end + 1;
-    }
-}
-
-// The first such byte from here on, or the end of the run.
-fn first_from(s: &[u8], start: usize, b: u8) -> usize
-    requires { start ≤ length s.now }
-    ensures { (start ≤ result) × (result ≤ length s.now) }
-{
-    let mut i = start;
-    while i < s.len() {
-        if s[i] == b {
-            return i;
+    match streams::read_input(&mut rt.stdin(), &mut buffer) {
+        Ok(n) => {
+            if let Err(error) = run(&mut rt.stdout(), &buffer[..n]) {
+                streams::fail(&rt, "standard output", error);
+            }
         }
-        i += 1;
+        Err(error) => streams::fail(&rt, "standard input", error),
     }
-    i
+}
+
+fn run<W: Write>(out: &mut W, input: &[u8]) -> io::Result<()> {
+    for case in input.split(|&b| b == b'#') {
+        run_case(out, case)?;
+    }
+    Ok(())
 }
 
 // Nothing stands in front of the first `#`.
-fn run_case<R: Print + Eprint>(rt: &R, case: &[u8]) {
-    if case.len() < 9 {
-        return;
-    }
-    let number = two_digits(case[0], case[1]);
-    let room = least(two_digits(case[3], case[4]), 40);
-    let words = least(two_digits(case[6], case[7]), 20);
-    let end = first_from(case, 9, b'\n');
-    if case.len() <= end {
-        return;
-    }
-    let countries = &case[9..end];
-    let mut out = [b'.'; 40];
+fn run_case<W: Write>(out: &mut W, case: &[u8]) -> io::Result<()> {
+    let [n1, n2, _, o1, o2, _, w1, w2, _, rest @ ..] = case else {
+        return Ok(());
+    };
+    let Some(end) = rest.iter().position(|&b| b == b'\n') else {
+        return Ok(());
+    };
+    let mut output = [b'.'; 40];
     let mut list = [7u32; 20];
+    let room = two_digits(*o1, *o2).min(40);
+    let words = two_digits(*w1, *w2).min(20);
     let answer = purpose::write_purpose(
-        &case[end + 1..],
-        countries,
-        number,
+        &rest[end + 1..],
+        &rest[..end],
+        two_digits(*n1, *n2),
         &mut list[..words],
-        &mut out[..room],
+        &mut output[..room],
     );
-    say(rt, answer);
-    streams::say(rt, b" |");
-    streams::say(rt, &out);
-    streams::say(rt, b"|");
-    say_list(rt, &list);
-    streams::say(rt, b"\n");
-}
-
-fn say<R: Print + Eprint>(rt: &R, answer: Result<usize, Refusal>) {
     match answer {
-        Ok(n) => {
-            streams::say(rt, b"ok ");
-            streams::say_decimal(rt, n as u64);
-        }
-        Err(refusal) => say_no(rt, refusal),
+        Ok(n) => write!(out, "ok {n} |")?,
+        Err(refusal) => write!(out, "{} |", No(refusal))?,
     }
-}
-
-fn say_no<R: Print + Eprint>(rt: &R, refusal: Refusal) {
-    let why = refusal.why;
-    streams::say(rt, b"no ");
-    streams::say_decimal(rt, refusal::number(why) as u64);
-    streams::say(rt, b" ");
-    streams::say_decimal(rt, refusal.place as u64);
-}
-
-fn say_list<R: Print + Eprint>(rt: &R, list: &[u32]) {
-    let mut i: usize = 0;
-    while i < list.len() {
-        say_word(rt, list[i]);
-        i += 1;
+    out.write_all(&output)?;
+    write!(out, "|")?;
+    for word in list {
+        write!(out, " {word}")?;
     }
+    writeln!(out)
 }
 
-fn say_word<R: Print + Eprint>(rt: &R, word: u32) {
-    streams::say(rt, b" ");
-    streams::say_decimal(rt, word as u64);
-}
-
-fn two_digits(a: u8, b: u8) -> usize {
-    10 * digit(a) + digit(b)
+fn two_digits(tens: u8, ones: u8) -> usize {
+    10 * digit(tens) + digit(ones)
 }
 
 // The value of a digit, and 0 for any other byte.
 fn digit(b: u8) -> usize
     ensures { result ≤ 9 }
 {
-    if b < b'0' {
-        return 0;
+    match b {
+        b'0'..=b'9' => usize::from(b - b'0'),
+        _ => 0,
     }
-    if b'9' < b {
-        return 0;
-    }
-    (b - b'0') as usize
-}
-
-fn least(a: usize, b: usize) -> usize
-    ensures { result ≤ b }
-{
-    if a < b {
-        return a;
-    }
-    b
 }

@@ -6,234 +6,159 @@
 #![tactic(auto)]
 
 use check_characters::Kind;
-use check_digits::{Part, Parts};
 use refusal::Refusal;
-use std::io::{Eprint, Print};
-use streams::Input;
+use std::io;
+use std::io::Write;
+use test_input::No;
 
 fn main(rt: HostRuntime) {
     let mut buffer = [0u8; 65536];
-    let input = streams::read_input(&mut rt.stdin(), &mut buffer);
-    match input {
-        Input::Whole(n) => run(&rt, &buffer[..n]),
-        Input::Failed(error) => streams::fail(&rt, "standard input", error),
-    }
-}
-
-fn run<R: Print + Eprint>(rt: &R, s: &[u8]) {
-    let mut start: usize = 0;
-    while start < s.len() {
-        let end = text::line_feed(s, start);
-        if end < start {
-            return;
+    match streams::read_input(&mut rt.stdin(), &mut buffer) {
+        Ok(n) => {
+            if let Err(error) = run(&mut rt.stdout(), &buffer[..n]) {
+                streams::fail(&rt, "standard output", error);
+            }
         }
-        say(rt, &s[start..end]);
-        start = end + 1;
+        Err(error) => streams::fail(&rt, "standard input", error),
     }
 }
 
-fn say<R: Print + Eprint>(rt: &R, line: &[u8]) {
-    if line.len() < 2 {
-        streams::say(rt, b"?\n");
-        return;
+fn run<W: Write>(out: &mut W, input: &[u8]) -> io::Result<()> {
+    for line in input.split_inclusive(|&b| b == b'\n') {
+        say(out, line.strip_suffix(b"\n".as_slice()).unwrap_or(line))?;
     }
-    let what = line[0];
-    let text = &line[2..];
-    streams::say(rt, text);
-    match what {
-        b'N' => say_number(rt, text),
-        b'B' => say_issued(rt, text),
-        b'C' => say_check(rt, text),
-        b'I' => say_iban(rt, text),
-        b'D' => say_identcode(rt, text),
-        b'P' => say_parts(rt, text),
-        b'J' => say_issued_identcode(rt, text),
-        b'K' => say_next(rt, text),
-        b'T' => say_typed(rt, text),
-        b'A' => say_day(rt, text),
-        _ => say_unknown(rt),
-    }
+    Ok(())
 }
 
-fn say_unknown<R: Print + Eprint>(rt: &R) {
-    streams::say(rt, b" ?\n");
-}
-
-fn say_no<R: Print + Eprint>(rt: &R, refusal: Refusal) {
-    say_refused(rt, refusal);
-    streams::say(rt, b"\n");
-}
-
-fn say_refused<R: Print + Eprint>(rt: &R, refusal: Refusal) {
-    let why = refusal.why;
-    streams::say(rt, b" no ");
-    streams::say_decimal(rt, refusal::number(why) as u64);
-    streams::say(rt, b" ");
-    streams::say_decimal(rt, refusal.place as u64);
-}
-
-fn say_number<R: Print + Eprint>(rt: &R, s: &[u8]) {
-    let answer = check_characters::check_number(s);
-    match answer {
-        Ok(kind) => say_kind(rt, kind),
-        Err(refusal) => say_no(rt, refusal),
+fn say<W: Write>(out: &mut W, line: &[u8]) -> io::Result<()> {
+    let [what, _, text @ ..] = line else {
+        return writeln!(out, "?");
+    };
+    out.write_all(text)?;
+    match *what {
+        b'N' => say_number(out, text),
+        b'B' => say_issued(out, text),
+        b'C' => say_check(out, text),
+        b'I' => say_checked(out, check_characters::check_iban(text), "IBAN"),
+        b'D' => say_checked(out, check_digits::check_identcode(text), "identcode"),
+        b'P' => say_parts(out, text),
+        b'J' => say_issued_identcode(out, text),
+        b'K' => say_next(out, text),
+        b'T' => say_typed(out, text),
+        b'A' => say_day(out, text),
+        _ => say_unknown(out),
     }
 }
 
-fn say_kind<R: Print + Eprint>(rt: &R, kind: Kind) {
-    match kind {
-        Kind::Tracking => {
-            streams::say(rt, b" tracking number\n");
-        }
-        Kind::Label => {
-            streams::say(rt, b" label code\n");
-        }
+fn say_unknown<W: Write>(out: &mut W) -> io::Result<()> {
+    writeln!(out, " ?")
+}
+
+fn say_number<W: Write>(out: &mut W, s: &[u8]) -> io::Result<()> {
+    match check_characters::check_number(s) {
+        Ok(Kind::Tracking) => writeln!(out, " tracking number"),
+        Ok(Kind::Label) => writeln!(out, " label code"),
+        Err(refusal) => writeln!(out, " {}", No(refusal)),
     }
 }
 
-fn say_issued<R: Print + Eprint>(rt: &R, body: &[u8]) {
-    let mut out = [b'.'; 30];
-    let answer = check_characters::issue_number(body, &mut out);
-    say_output(rt, answer, &out);
+fn say_issued<W: Write>(out: &mut W, body: &[u8]) -> io::Result<()> {
+    let mut number = [b'.'; 30];
+    let answer = check_characters::issue_number(body, &mut number);
+    say_output(out, answer, &number)
 }
 
-fn say_issued_identcode<R: Print + Eprint>(rt: &R, body: &[u8]) {
-    let mut out = [b'.'; 30];
-    let answer = check_digits::issue_identcode(body, &mut out);
-    say_output(rt, answer, &out);
+fn say_issued_identcode<W: Write>(out: &mut W, body: &[u8]) -> io::Result<()> {
+    let mut identcode = [b'.'; 30];
+    let answer = check_digits::issue_identcode(body, &mut identcode);
+    say_output(out, answer, &identcode)
 }
 
-fn say_output<R: Print + Eprint>(rt: &R, answer: Result<usize, Refusal>, out: &[u8]) {
+fn say_output<W: Write>(
+    out: &mut W,
+    answer: Result<usize, Refusal>,
+    issued: &[u8],
+) -> io::Result<()> {
     match answer {
         Ok(_) => {
-            streams::say(rt, b" ");
-            streams::say(rt, out);
-            streams::say(rt, b"\n");
+            out.write_all(b" ")?;
+            out.write_all(issued)?;
+            writeln!(out)
         }
-        Err(refusal) => say_no(rt, refusal),
+        Err(refusal) => writeln!(out, " {}", No(refusal)),
     }
 }
 
-fn say_check<R: Print + Eprint>(rt: &R, s: &[u8]) {
-    let check = check_characters::check_of(s);
-    streams::say(rt, b" ");
-    streams::say(rt, &[check]);
-    streams::say(rt, b"\n");
+fn say_check<W: Write>(out: &mut W, s: &[u8]) -> io::Result<()> {
+    out.write_all(&[b' ', check_characters::check_of(s), b'\n'])
 }
 
-fn say_iban<R: Print + Eprint>(rt: &R, s: &[u8]) {
-    say_checked(rt, check_characters::check_iban(s), b" IBAN\n");
-}
-
-fn say_identcode<R: Print + Eprint>(rt: &R, s: &[u8]) {
-    say_checked(rt, check_digits::check_identcode(s), b" identcode\n");
-}
-
-fn say_checked<R: Print + Eprint>(rt: &R, answer: Result<(), Refusal>, name: &[u8]) {
+fn say_checked<W: Write>(out: &mut W, answer: Result<(), Refusal>, name: &str) -> io::Result<()> {
     match answer {
-        Ok(()) => {
-            streams::say(rt, name);
-        }
-        Err(refusal) => say_no(rt, refusal),
+        Ok(()) => writeln!(out, " {name}"),
+        Err(refusal) => writeln!(out, " {}", No(refusal)),
     }
 }
 
-fn say_parts<R: Print + Eprint>(rt: &R, s: &[u8]) {
-    let answer = check_digits::read_identcode(s);
-    match answer {
-        Ok(parts) => say_each(rt, s, parts),
-        Err(refusal) => say_no(rt, refusal),
+fn say_parts<W: Write>(out: &mut W, s: &[u8]) -> io::Result<()> {
+    let parts = match check_digits::read_identcode(s) {
+        Ok(parts) => parts,
+        Err(refusal) => return writeln!(out, " {}", No(refusal)),
+    };
+    for part in [
+        parts.origin,
+        parts.customer,
+        parts.sequence,
+        parts.product,
+        parts.destination,
+        parts.check,
+    ] {
+        out.write_all(b" ")?;
+        out.write_all(text::clip(s, part.start, part.length))?;
     }
+    writeln!(out)
 }
 
-fn say_each<R: Print + Eprint>(rt: &R, s: &[u8], parts: Parts) {
-    say_part(rt, s, parts.origin);
-    say_part(rt, s, parts.customer);
-    say_part(rt, s, parts.sequence);
-    say_part(rt, s, parts.product);
-    say_part(rt, s, parts.destination);
-    say_part(rt, s, parts.check);
-    streams::say(rt, b"\n");
-}
-
-fn say_part<R: Print + Eprint>(rt: &R, s: &[u8], part: Part) {
-    streams::say(rt, b" ");
-    streams::say(rt, text::clip(s, part.start, part.length));
-}
-
-fn say_next<R: Print + Eprint>(rt: &R, s: &[u8]) {
+fn say_next<W: Write>(out: &mut W, s: &[u8]) -> io::Result<()> {
     let carry = test_input::number(s, 0);
-    let at = carry.next;
-    if s.len() <= at {
-        say_unknown(rt);
-        return;
-    }
-    say_carry(rt, check_characters::next_carry(carry.value as u32, s[at]));
-    streams::say(rt, b"\n");
+    let Some(&key) = s.get(carry.next) else {
+        return say_unknown(out);
+    };
+    say_carry(out, check_characters::next_carry(carry.value as u32, key))?;
+    writeln!(out)
 }
 
-fn say_typed<R: Print + Eprint>(rt: &R, keys: &[u8]) {
-    let mut carry: u32 = 36;
-    let mut i: usize = 0;
-    while i < keys.len() {
-        carry = say_carry(rt, check_characters::next_carry(carry, keys[i]));
-        i += 1;
+fn say_typed<W: Write>(out: &mut W, keys: &[u8]) -> io::Result<()> {
+    let mut carry = 36;
+    for &key in keys {
+        let next = check_characters::next_carry(carry, key);
+        say_carry(out, next)?;
+        // Behind a key that is refused the next one has no carry, which 0 is not.
+        carry = next.unwrap_or(0);
     }
-    streams::say(rt, b"\n");
+    writeln!(out)
 }
 
-// Says a carry and answers it, or says the refusal and answers 0, which is no carry.
-fn say_carry<R: Print + Eprint>(rt: &R, answer: Result<u32, Refusal>) -> u32 {
+fn say_carry<W: Write>(out: &mut W, answer: Result<u32, Refusal>) -> io::Result<()> {
     match answer {
-        Ok(carry) => {
-            streams::say(rt, b" ");
-            streams::say_decimal(rt, carry as u64);
-            carry
-        }
-        Err(refusal) => {
-            say_refused(rt, refusal);
-            0
-        }
+        Ok(carry) => write!(out, " {carry}"),
+        Err(refusal) => write!(out, " {}", No(refusal)),
     }
 }
 
 // The answer bytes hold 99 before the call, so that one sees which of them it wrote.
-fn say_day<R: Print + Eprint>(rt: &R, s: &[u8]) {
+fn say_day<W: Write>(out: &mut W, s: &[u8]) -> io::Result<()> {
     let given = test_input::number(s, 0);
-    let room = given.value;
-    let at = given.next;
-    if room > 9 {
-        say_unknown(rt);
-        return;
-    }
     let mut answers = [99u8; 9];
-    say_answers(rt, &s[at..], &mut answers[..room]);
-}
-
-fn say_answers<R: Print + Eprint>(rt: &R, numbers: &[u8], answers: &mut [u8]) {
-    let answer = check_characters::check_numbers(numbers, answers);
-    match answer {
-        Ok(passed) => say_passed(rt, passed),
-        Err(refusal) => say_refused(rt, refusal),
+    let Some(answers) = answers.get_mut(..given.value) else {
+        return say_unknown(out);
+    };
+    match check_characters::check_numbers(&s[given.next..], answers) {
+        Ok(passed) => write!(out, " passed {passed}")?,
+        Err(refusal) => write!(out, " {}", No(refusal))?,
     }
-    say_bytes(rt, answers);
-    streams::say(rt, b"\n");
-}
-
-fn say_passed<R: Print + Eprint>(rt: &R, passed: usize) {
-    streams::say(rt, b" passed ");
-    streams::say_decimal(rt, passed as u64);
-}
-
-fn say_bytes<R: Print + Eprint>(rt: &R, s: &[u8]) {
-    let mut i: usize = 0;
-    while i < s.len() {
-        say_byte(rt, s[i]);
-        i += 1;
+    for answer in answers.iter() {
+        write!(out, " {answer}")?;
     }
-}
-
-fn say_byte<R: Print + Eprint>(rt: &R, b: u8) {
-    streams::say(rt, b" ");
-    streams::say_decimal(rt, b as u64);
+    writeln!(out)
 }

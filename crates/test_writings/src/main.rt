@@ -2,117 +2,58 @@
 // space behind it, and the text. Each gives the answer and the whole output, which was all points before.
 #![tactic(auto)]
 
-ghost use Rattle.std.specs.Prelude.{◌≤◌, length};
-
-use refusal::Refusal;
-use std::io::{Eprint, Print};
-use streams::Input;
+use std::io;
+use std::io::Write;
+use test_input::No;
 
 fn main(rt: HostRuntime) {
     let mut buffer = [0u8; 65536];
-    let input = streams::read_input(&mut rt.stdin(), &mut buffer);
-    match input {
-        Input::Whole(n) => run(&rt, &buffer[..n]),
-        Input::Failed(error) => streams::fail(&rt, "standard input", error),
-    }
-}
-
-fn run<R: Print + Eprint>(rt: &R, s: &[u8]) {
-    let mut start: usize = 0;
-    while start < s.len() {
-        let end = text::line_feed(s, start);
-        if end <= start {
-            return;
+    match streams::read_input(&mut rt.stdin(), &mut buffer) {
+        Ok(n) => {
+            if let Err(error) = run(&mut rt.stdout(), &buffer[..n]) {
+                streams::fail(&rt, "standard output", error);
+            }
         }
-        one_call(rt, &s[start..end]);
-        start = end + 1;
+        Err(error) => streams::fail(&rt, "standard input", error),
     }
 }
 
-#[derive(Clone, Copy)]
-struct Call {
-    version: u32,
-    number: u32,
-    fill: usize,
-    room: usize,
+// An empty line ends the input.
+fn run<W: Write>(out: &mut W, input: &[u8]) -> io::Result<()> {
+    for line in input.split_inclusive(|&b| b == b'\n') {
+        let line = line.strip_suffix(b"\n".as_slice()).unwrap_or(line);
+        if line.is_empty() {
+            return Ok(());
+        }
+        one_call(out, line)?;
+    }
+    Ok(())
 }
 
-fn one_call<R: Print + Eprint>(rt: &R, line: &[u8]) {
-    let version = test_input::number(line, 0);
-    let number = test_input::number(line, version.next);
-    let fill = test_input::number(line, number.next);
-    let room = test_input::number(line, fill.next);
-    let count = test_input::number(line, room.next);
-    let call = Call {
-        version: (version.value % 1000) as u32,
-        number: (number.value % 1000) as u32,
-        fill: fill.value,
-        room: room.value % 5001,
-    };
+fn one_call<W: Write>(out: &mut W, line: &[u8]) -> io::Result<()> {
+    let mut rest = line;
+    let version = (take_number(&mut rest) % 1000) as u32;
+    let number = (take_number(&mut rest) % 1000) as u32;
+    let fill = take_number(&mut rest);
+    let room = take_number(&mut rest) % 5001;
+    let count = take_number(&mut rest) % 65;
     let mut ends = [0usize; 64];
-    with_ends(rt, call, line, count.next, &mut ends, count.value % 65);
-}
-
-// The call whose ends, so many, and text stand in the line from here on.
-fn with_ends<R: Print + Eprint>(
-    rt: &R,
-    call: Call,
-    line: &[u8],
-    start: usize,
-    ends: &mut [usize],
-    many: usize,
-)
-    requires { many ≤ length ends.old }
-{
-    let at = read_ends(line, start, ends, many);
-    let room = call.room;
-    let mut out = [b'.'; 5000];
-    if 5000 < room {
-        return;
+    for end in &mut ends[..count] {
+        *end = take_number(&mut rest);
     }
-    write(rt, call, &line[at..], &ends[0..many], &mut out[0..room]);
-}
-
-// Reads so many ends from here on; answers where the text starts behind them.
-fn read_ends(line: &[u8], start: usize, ends: &mut [usize], many: usize) -> usize
-    requires { many ≤ length ends.old }
-    ensures { result ≤ length line.now }
-{
-    let mut at = start;
-    let mut i: usize = 0;
-    while i < many {
-        let end = test_input::number(line, at);
-        ends[i] = end.value;
-        at = end.next;
-        i += 1;
+    let mut written = [b'.'; 5000];
+    let written = &mut written[..room];
+    match writer::write_line(version, number, rest, &ends[..count], written, fill) {
+        Ok(n) => write!(out, "written {n} ")?,
+        Err(refusal) => write!(out, "{} ", No(refusal))?,
     }
-    if line.len() < at {
-        return line.len();
-    }
-    at
+    out.write_all(written)?;
+    writeln!(out)
 }
 
-fn write<R: Print + Eprint>(rt: &R, call: Call, text: &[u8], ends: &[usize], out: &mut [u8]) {
-    let answer = writer::write_line(call.version, call.number, text, ends, out, call.fill);
-    match answer {
-        Ok(n) => say_written(rt, n),
-        Err(refusal) => say_no(rt, refusal),
-    }
-    streams::say(rt, out);
-    streams::say(rt, b"\n");
-}
-
-fn say_written<R: Print + Eprint>(rt: &R, n: usize) {
-    streams::say(rt, b"written ");
-    streams::say_decimal(rt, n as u64);
-    streams::say(rt, b" ");
-}
-
-fn say_no<R: Print + Eprint>(rt: &R, refusal: Refusal) {
-    let why = refusal.why;
-    streams::say(rt, b"no ");
-    streams::say_decimal(rt, refusal::number(why) as u64);
-    streams::say(rt, b" ");
-    streams::say_decimal(rt, refusal.place as u64);
-    streams::say(rt, b" ");
+// Takes the number at the front of what is left of a line, and the byte that ends it.
+fn take_number(rest: &mut &[u8]) -> usize {
+    let given = test_input::number(rest, 0);
+    *rest = &rest[given.next..];
+    given.value
 }
