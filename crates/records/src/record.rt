@@ -2,7 +2,7 @@
 ghost use Rattle.std.specs.Prelude.{◌≡◌, false, ◌&&◌, ◌||◌, leb, eqb};
 ghost use Rattle.records.specs.Record.{row_of, named, count_fits, may_follow, may_come, may_end};
 
-#[derive(Clone, Copy)]
+#[derive(Clone, Copy, Debug, PartialEq, Eq)]
 pub enum Record {
     // 010
     Header,
@@ -19,7 +19,7 @@ pub enum Record {
 }
 
 // Which record is due: any, where a line is judged alone; at a file's start the header; else one that may follow.
-#[derive(Clone, Copy)]
+#[derive(Clone, Copy, Debug, PartialEq, Eq)]
 pub enum Due {
     Any,
     First,
