@@ -4,22 +4,22 @@ use mathlib.Core.Path.{◌≡◌, refl, ap, ◌∙◌}
 use mathlib.Core.Bool.{Bool, true, false, not}
 use mathlib.Core.List.{List, [], ◌∷◌}
 use native.Mathlib.Omega.{arith}
-use lib.Dec.{eqb, ltb}
+use lib.Dec.{eqb}
 use lib.ListN.{length, take, drop, length-drop}
 use lib.Seq.{take_all}
-use borrow.Author.Tests.{ltb-false, le-ltb}
+use borrow.Author.Tests.{le-ltb}
 use Rattle.text.specs.Byte.{text_byte}
 use Rattle.text.specs.Quoted.{bytes}
 use Rattle.text.specs.Scan.{first_failing, same}
-use Rattle.text.proofs.Runs.{first_most}
 use Rattle.refusal.specs.declared.Reason.TheVariants.{NoLineEnd}
 use Rattle.refusal.specs.Table.{because}
 use Rattle.line.specs.Line.{line_end, ends_well, text_at, text_answer, file_limit}
+use Rattle.line.proofs.Parts.{position_long}
 use Rattle.line.proofs.Accepting.{text_long, end_after, end_inside}
 use Rattle.std.proofs.lemmas.Bool.Decides.{nat_tests}
 use Rattle.std.specs.List.{position, position_or_len, starts_with}
 use Rattle.std.specs.Option.{unwrap_or}
-use Rattle.std.specs.Prelude.{if◌then◌else◌, Option, Some, None, Ok, Err}
+use Rattle.std.specs.Prelude.{if◌then◌else◌, Option, Ok, Err}
 
 -- the text up to the first byte that is no text byte
 first_position : (ok : ℕ → Bool) (i : ℕ) (s : List ℕ) → first_failing (λ _ b. ok b) i s ≡ i + position_or_len (λ b. not (ok b)) s
@@ -31,19 +31,11 @@ first_position ok i (b ∷ s) = go (ok b) (first_position ok (suc i) s)
     go true e = omega arith
     go false e = omega arith
 
-position_long : (ok : ℕ → Bool) (s : List ℕ) → unwrap_or (position (λ b. not (ok b)) s) (length s) ≡ position_or_len (λ b. not (ok b)) s
-position_long ok s = go (ltb (position_or_len (λ b. not (ok b)) s) (length s)) refl
-  where
-    go : (t : Bool) → ltb (position_or_len (λ b. not (ok b)) s) (length s) ≡ t →
-        unwrap_or (if t then Some (position_or_len (λ b. not (ok b)) s) else None) (length s) ≡ position_or_len (λ b. not (ok b)) s
-    go true e = refl
-    go false e = omega (arith, ltb-false (position_or_len (λ b. not (ok b)) s) (length s) e, first_position ok 0 s, first_most (λ _ b. ok b) 0 s)
-
 pub text_cut : (s rest : List ℕ) (at long : ℕ) (r : Option ℕ) → rest ≡ drop at s → r ≡ position (λ b. not (text_byte b)) rest →
     long ≡ unwrap_or r (length rest) → take long rest ≡ text_at s at
 text_cut s rest at long r e er el =
     let n : long ≡ position_or_len (λ b. not (text_byte b)) rest =
-    el ∙ ap (λ (o : Option ℕ). unwrap_or o (length rest)) er ∙ position_long text_byte rest in
+    el ∙ ap (λ (o : Option ℕ). unwrap_or o (length rest)) er ∙ position_long (λ b. not (text_byte b)) rest in
     let m : line_end s at - at ≡ position_or_len (λ b. not (text_byte b)) (drop at s) = omega (arith, first_position text_byte at (drop at s)) in
     rw (n, e, m)
 

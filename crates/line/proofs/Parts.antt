@@ -1,16 +1,20 @@
 -- The parts of a line: how many there are, and how the library's `split` gives them one after the other.
-use Prim.Native.Nat.{ℕ, zero, suc, ◌+◌, ◌<◌}
-use mathlib.Core.Path.{◌≡◌, refl, sym, ap, subst, ◌∙◌}
-use mathlib.Core.Bool.{Bool, true, false, false≢true}
+use Prim.Native.Nat.{ℕ, zero, suc, ◌+◌, ◌-◌, ◌≤◌, ◌<◌}
+use mathlib.Core.Path.{◌≡◌, refl, ap, subst, ◌∙◌}
+use mathlib.Core.Bool.{Bool, true, false, not}
 use mathlib.Core.List.{List, [], ◌∷◌, ◌++◌}
+use mathlib.Core.Logic.{⊎_elim}
 use native.Mathlib.Omega.{arith}
-use lib.ListN.{length, get_or, length-drop}
+use lib.ListN.{length, take, drop, get_or, length-take, length-drop}
+use lib.Dec.{leb, ltb}
+use lib.Seq.{take_all, drop-drop}
+use borrow.Author.Tests.{le-leb, lt-leb, ltb-false}
 use denote.Ref.{Bor}
 use denote.Param.Members.{Mut}
 use Rattle.std.specs.Prelude.{Option, Some, None, slice_get, if◌then◌else◌}
 use Rattle.std.specs.Bool.{MatchBool}
 use Rattle.std.specs.Fn.{ComputesKey, CalledAt}
-use Rattle.std.specs.List.{All, count_by, IsFirstMatchOrLen}
+use Rattle.std.specs.List.{All, count_by, position, position_or_len, IsFirstMatchOrLen}
 use Rattle.std.specs.Option.{unwrap_or, option_map}
 use Rattle.std.specs.Slice.Iter.{split_rest, split_done, split_callee, split_steps}
 use Rattle.std.specs.Iterator.Adapters.{take_source, take_count, take_steps}
@@ -18,7 +22,9 @@ use Rattle.std.specs.declared.slice.Split.{Split}
 use Rattle.std.specs.declared.iter.Take.{Take}
 use Rattle.std.proofs.lemmas.Fn.{always_returns_same}
 use Rattle.std.proofs.lemmas.Grind.{common_steps}
-use Rattle.std.proofs.lemmas.List.Splits.{slice_split_none, slice_split_at, length-slice_split}
+use Rattle.std.proofs.lemmas.List.Splits.{slice_split_none, slice_split_at, slice_split_first, length-slice_split}
+use Rattle.std.proofs.lemmas.List.Sums.{fails_before_first, prefix_len-le-length}
+use Rattle.text.proofs.Numbers.{le_or_lt}
 use Rattle.text.specs.Scan.{count}
 use Rattle.line.proofs.Splits.{split_some}
 use Rattle.line.specs.Parts.{semicolon, into_first, split, fields_of, start_in}
@@ -61,6 +67,60 @@ long_split (b ∷ line) = go (semicolon b) (long_split line)
     go true e = omega arith
     go false e = into_long b (split line) (omega (arith, ap length (split_some line))) ∙ omega arith
 
+-- the parts of a line that are left at a place
+abbrev pub rest : List ℕ → ℕ → List (List ℕ)
+rest line start = if leb start (length line) then split (drop start line) else []
+
+-- the first of these bytes' parts, and those behind its semicolon
+first_off : (s : List ℕ) → split s ≡ take (position_or_len semicolon s) s ∷ rest s (position_or_len semicolon s + 1)
+first_off s = ⊎_elim more none (le_or_lt (position_or_len semicolon s + 1) (length s))
+  where
+    more : position_or_len semicolon s + 1 ≤ length s → split s ≡ take (position_or_len semicolon s) s ∷ rest s (position_or_len semicolon s + 1)
+    more h = slice_split_first semicolon s 0 (omega arith) ∙ rw (le-leb (position_or_len semicolon s + 1) (length s) h)
+
+    none : length s < position_or_len semicolon s + 1 → split s ≡ take (position_or_len semicolon s) s ∷ rest s (position_or_len semicolon s + 1)
+    none h = slice_split_none semicolon s (λ k d l. fails_before_first semicolon s k d (omega arith))
+        ∙ rw (lt-leb (position_or_len semicolon s + 1) (length s) h, take_all (position_or_len semicolon s) s (omega arith))
+
+rest_behind : (line : List ℕ) (start n : ℕ) → start ≤ length line → rest (drop start line) n ≡ rest line (start + n)
+rest_behind line start n h = ⊎_elim more none (le_or_lt (start + n) (length line))
+  where
+    more : start + n ≤ length line → rest (drop start line) n ≡ rest line (start + n)
+    more l = rw (le-leb (start + n) (length line) l, le-leb n (length (drop start line)) (omega (arith, length-drop start line)), drop-drop n start line)
+
+    none : length line < start + n → rest (drop start line) n ≡ rest line (start + n)
+    none l = rw (lt-leb (start + n) (length line) l, lt-leb n (length (drop start line)) (omega (arith, length-drop start line)))
+
+pub front_long : (line : List ℕ) (n : ℕ) → n ≤ length line → length (take (n + 1 - 1 - 0) line) ≡ n
+front_long line n h = omega (arith, length-take (n + 1 - 1 - 0) line)
+
+module _ (line : List ℕ) (name : ℕ) (e : name ≡ position_or_len semicolon line) where
+  pub rest_starts : split line ≡ take (name + 1 - 1 - 0) line ∷ rest line (name + 1)
+  rest_starts = let n : name + 1 - 1 - 0 ≡ position_or_len semicolon line = omega arith in rw (n, e) (first_off line)
+
+module _ (line : List ℕ) (start n : ℕ) (h : start ≤ length line)
+    (ep : n ≡ position_or_len semicolon (take (length line - start) (drop start line))) where
+  e : n ≡ position_or_len semicolon (drop start line)
+  e = ep ∙ ap (position_or_len semicolon) (take_all (length line - start) (drop start line) (omega (arith, length-drop start line)))
+
+  pub rest_step : rest line start ≡ take (start + n - start) (drop start line) ∷ rest line (start + n + 1)
+  rest_step =
+      let m : start + n - start ≡ position_or_len semicolon (drop start line) = omega (arith, e) in
+      let k : start + (position_or_len semicolon (drop start line) + 1) ≡ start + n + 1 = omega (arith, e) in
+      rw (le-leb start (length line) h, m)
+      (first_off (drop start line) ∙ ap (λ (ps : List (List ℕ)). take (position_or_len semicolon (drop start line)) (drop start line) ∷ ps)
+      (rest_behind line start (position_or_len semicolon (drop start line) + 1) h ∙ ap (rest line) k))
+
+  pub part_there : length (take (start + n - start) (drop start line)) ≡ n
+  part_there = omega (arith, e, length-take (start + n - start) (drop start line), prefix_len-le-length (λ b. not (semicolon b)) (drop start line))
+
+pub position_long : (p : ℕ → Bool) (s : List ℕ) → unwrap_or (position p s) (length s) ≡ position_or_len p s
+position_long p s = go (ltb (position_or_len p s) (length s)) refl
+  where
+    go : (t : Bool) → ltb (position_or_len p s) (length s) ≡ t → unwrap_or (if t then Some (position_or_len p s) else None) (length s) ≡ position_or_len p s
+    go true e = refl
+    go false e = omega (arith, ltb-false (position_or_len p s) (length s) e, prefix_len-le-length (λ b. not (p b)) s)
+
 -- the parts that an iterator still gives
 abbrev pub left : {F : Type 0} → Split ℕ F → List (List ℕ)
 left s = if split_done s then [] else split (split_rest s)
@@ -86,12 +146,6 @@ module _ {F : Type 0} (g : Mut F (Bor ℕ × Unit {0}) Bool) (s t : Split ℕ F)
   pub next_part : (x : Bor (List ℕ)) → split_steps g s (Some x) t → left s ≡ x.now ∷ left t
   next_part x k = ap (λ (b : Bool). if b then [] else split (split_rest s)) k.0
       ∙ cut_off (split_rest s) x.now (split_rest t) (split_done t) k.1 (k.2 semicolon computes).1
-
-  pub first_part : (u : Split ℕ F) (r : Option (Bor (List ℕ))) (d part : Bor (List ℕ)) → split_done s ≡ false → split_steps g s r t → part ≡ unwrap_or r d →
-      u ≡ t → split (split_rest s) ≡ part.now ∷ left u
-  first_part u None d part e k ep eu = absurd (false≢true (sym e ∙ k.0))
-  first_part u (Some x) d part e k ep eu = ap (λ (b : Bool). if b then [] else split (split_rest s)) (sym e) ∙ next_part x k
-      ∙ ap (λ (b : Bor (List ℕ)). b.now ∷ left t) (sym ep) ∙ ap (λ (v : Split ℕ F). part.now ∷ left v) (sym eu)
 
 -- a step of an iterator over the first few parts
 module _ {F : Type 0} (g : Mut F (Bor ℕ × Unit {0}) Bool) (s t : Take (Split ℕ F))

@@ -3,7 +3,6 @@ use Prim.Native.Nat.{ℕ, suc, ◌+◌}
 use mathlib.Core.Path.{◌≡◌, refl, sym, ap, ◌∙◌}
 use mathlib.Core.List.{List, [], ◌∷◌}
 use native.Mathlib.Numerals.{add-one}
-use native.Mathlib.Omega.{arith}
 use lib.ListN.{length, drop, get_or}
 use Rattle.refusal.specs.declared.Reason.{Reason}
 use Rattle.refusal.specs.declared.Refusal.{Refusal}
@@ -27,12 +26,9 @@ module _ (rows : List Row) (n place : ℕ) (beside field : List ℕ) (parts more
   pub walk_stops : (why : Reason) → tested rows n beside field ≡ Err why → Err (because why place) ≡ whole
   walk_stops why t = rw t at turn
 
-  pub walk_on : tested rows n beside field ≡ Ok tt → walk rows (n + 1) (place + (length field + 1)) field more ≡ whole
-  walk_on t =
-      let there : place + (length field + 1) ≡ place + length field + 1 = omega arith in
-      let on : walk rows (suc n) (place + length field + 1) field more ≡ whole = rw t at turn in
-      ap (λ (m : ℕ). walk rows m (place + (length field + 1)) field more) (add-one n)
-      ∙ ap (λ (p : ℕ). walk rows (suc n) p field more) there ∙ on
+  pub walk_on : (next : ℕ) (front : List ℕ) → next ≡ place + length field + 1 → front ≡ field → tested rows n beside field ≡ Ok tt →
+      walk rows (n + 1) next front more ≡ whole
+  walk_on next front en ef t = rw (en, ef, add-one n) (rw t at turn)
 
 -- the reason of a refusal that `map_err` placed
 pub placed_by : (t : Result ⊤ Reason) (m : Result ⊤ Refusal) (refusal : Refusal) (gives : Reason → Refusal → Type 0) →

@@ -1,6 +1,7 @@
 // The parts of a line: part 0 is the record type, and the part with a field's number is that field.
 ghost use Rattle.std.specs.Prelude.{◌≡◌, ◌+◌, ◌≤◌, length};
-ghost use Rattle.line.specs.Parts.{start_of, part_at};
+ghost use Rattle.std.specs.List.{position_or_len};
+ghost use Rattle.line.specs.Parts.{semicolon, start_of, part_at};
 
 // The part with this number; no bytes where the line has no such part.
 pub fn field_in(line: &[u8], number: usize) -> &[u8]
@@ -18,4 +19,12 @@ pub fn start_of(line: &[u8], number: usize) -> usize
         start += part.len() + 1;
     }
     start
+}
+
+// How long the part at the front of these bytes is: it ends at the first semicolon, or with them.
+pub fn part_long(s: &[u8]) -> usize
+    ensures first { result ≡ position_or_len semicolon s.now }
+    ensures inside { result ≤ length s.now }
+{
+    s.iter().position(|&b| b == b';').unwrap_or(s.len())
 }
