@@ -100,7 +100,9 @@ pub struct Steps {
 impl Steps {
     // A constant is laid out anew wherever it is read, and that takes as long as the steps of a number: so it is done once in a call.
     #[tactic(auto, unfolding(crate::specs::Steps::steps, crate::specs::Mod37::step))]
-    pub fn laid_out() -> Steps {
+    pub(crate) fn laid_out() -> Steps
+        ensures { result.entries ≡ steps }
+    {
         Steps { entries: STEPS }
     }
 
