@@ -195,7 +195,3 @@ same_judged s countries m n e r list j = rw e at j
 pub clear_now : (words words₀ : List ℕ) → length words ≡ length words₀ → words ≡ replicate (length words₀) 0 →
     words ≡ replicate (length words) 0
 clear_now words words₀ long e = e ∙ ap (λ (k : ℕ). replicate k 0) (sym long)
-
--- the tree keeps its room
-pub room_kept : (codes codes₀ : List ℕ) → length codes ≡ length codes₀ → tree_words ≤ length codes₀ → tree_words ≤ length codes
-room_kept codes codes₀ long room = omega arith
