@@ -1,17 +1,15 @@
 -- A sender's contacts, by the cases that the code meets.
 use Prim.Native.Nat.{ℕ}
 use mathlib.Core.Path.{◌≡◌}
-use mathlib.Core.Bool.{Bool, true, false, not, and-true, and-false}
+use mathlib.Core.Bool.{Bool, true, false, not, and-false}
 use mathlib.Core.List.{List, []}
 use lib.ListN.{length, get_or}
-use borrow.Author.Tests.{not-true, not-false}
 use Rattle.text.proofs.Scans.{no_bytes}
 use Rattle.countries.specs.List.{is_listed}
 use Rattle.records.specs.Record.{◌is_a◌}
 use Rattle.records.specs.declared.record.Record.{Record}
 use Rattle.records.specs.declared.record.Record.TheVariants.{Shipment}
-use Rattle.line.specs.Need.{is_filled}
-use Rattle.file.specs.Contact.{has_contacts, contacts_behind, lacks_contact}
+use Rattle.file.specs.Contact.{contacts_behind, lacks_contact}
 
 -- an arm of a match is a case of the rule
 pub contacts_as : (kind case : Record) (parts : List (List ℕ)) (before t : Bool) → kind ≡ case → t ≡ contacts_behind case parts before →

@@ -23,7 +23,7 @@ use Rattle.file.specs.Step.{told_by, parcels_in, behind, listed_so_far, step_ans
 use Rattle.file.specs.File.{Judged, begin, passed, ended, on_step, file_from, judged, list_of, Judges}
 use Rattle.records.specs.declared.version.Version.{Version}
 use Rattle.file.specs.declared.step.State.{State}
-use Rattle.file.specs.Identcode.{parcels_most, tree_words, Sown}
+use Rattle.file.specs.Identcode.{parcels_most, Sown}
 use Rattle.file.proofs.Cashing.{cash_below}
 use Rattle.file.proofs.Codes.{accepted_far}
 use Rattle.file.proofs.Sowing.{sown_none}

@@ -2,12 +2,12 @@
 use Prim.Native.Nat.{ℕ, suc, ◌+◌, ◌-◌, ◌≤◌, ◌<◌}
 use mathlib.Core.Path.{◌≡◌, refl, sym, ap, ◌∙◌}
 use mathlib.Core.Bool.{true, false}
-use mathlib.Core.List.{List, [], ◌∷◌, ◌++◌, append-nil}
+use mathlib.Core.List.{List, [], ◌∷◌, ◌++◌}
 use native.Mathlib.Numerals.{add-one}
 use native.Mathlib.Omega.{arith}
-use lib.ListN.{length, take, drop, set, get_or, replicate, length-take, length-replicate, replicate-append-replicate}
-use lib.ListN.{drop_of_length-le, take-append-drop}
-use lib.Seq.{drop-cons, set_at, append_snoc, drop-set-lt, take-suc-set}
+use lib.ListN.{length, take, drop, set, get_or, replicate, length-take}
+use lib.ListN.{take-append-drop}
+use lib.Seq.{drop-cons, drop-set-lt, take-suc-set}
 use borrow.Author.Tests.{lt-ltb, le-ltb, ltb-true, ltb-false}
 use Rattle.file.specs.Step.{listed_so_far, has_word}
 

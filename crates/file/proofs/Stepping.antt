@@ -13,7 +13,6 @@ use Rattle.refusal.specs.Table.{because}
 use Rattle.refusal.specs.declared.Refusal.{Refusal}
 use Rattle.forms.specs.Shape.{digits}
 use Rattle.identcodes.specs.Tree.{identcode_at}
-use Rattle.records.specs.declared.record.Record.{Record}
 use Rattle.records.specs.declared.record.Record.TheVariants.{Parcel}
 use Rattle.records.specs.declared.record.Due.TheVariants.{After}
 use Rattle.line.specs.Parts.{split}
