@@ -11,7 +11,7 @@ use lib.Seq.{take-suc, take_all}
 use borrow.Author.Tests.{eq-eqb, ne_eqb, eqb-true, leb-true}
 use Rattle.text.proofs.Finite.{every_at, told_apart}
 use Rattle.check_characters.specs.Symbol.{value_of, symbol_of}
-use Rattle.check_characters.specs.Mod37.{thirty_six_for0, step, carry_from, carry, closes, passes, first_value, check_of}
+use Rattle.check_characters.specs.Mod37.{thirty_six_for0, step, carry_from, carry, closes, passes, first_value}
 
 -- a carry is from 1 to 36
 pub record Carry (c : ℕ) : Type 0 where
@@ -37,12 +37,6 @@ carry_range c (b ∷ s) h = carry_range (step c (value_of b)) s (step_carry c (v
 pub carry_of : (s : List ℕ) → Carry (carry s)
 carry_of s = carry_range 36 s (record { low = omega arith; high = omega arith })
 
-pub step_low : (c d v : ℕ) → d ≡ step c v → 1 ≤ d
-step_low c d v e = rw e (step_carry c v).low
-
-pub step_high : (c d v : ℕ) → d ≡ step c v → d ≤ 36
-step_high c d v e = rw e (step_carry c v).high
-
 -- the step is one to one in what the sum leaves modulo 36
 pub step_sum : (c v d w : ℕ) → step c v ≡ step d w → (c + v) % 36 ≡ (d + w) % 36
 unfolding step
@@ -63,16 +57,12 @@ carry_append c [] q = refl
 carry_append c (b ∷ p) q = carry_append (step c (value_of b)) p q
 
 -- one symbol more
-carry_next : (s : List ℕ) (i : ℕ) → i < length s → carry (take (i + 1) s) ≡ step (carry (take i s)) (value_of (get_or s i 0))
+pub carry_next : (s : List ℕ) (i : ℕ) → i < length s → carry (take (i + 1) s) ≡ step (carry (take i s)) (value_of (get_or s i 0))
 carry_next s i h = rw add-one (ap carry (take-suc s i 0 h) ∙ carry_append 36 (take i s) (get_or s i 0 ∷ []))
 
--- a loop at the place i, whose carry is that of what lies in front: each premise is a fact that the loop has
-module _ (s : List ℕ) (i c : ℕ) (ec : c ≡ carry (take i s)) where
-  pub carry_on : (d v : ℕ) → i < length s → v ≡ value_of (get_or s i 0) → d ≡ step c v → d ≡ carry (take (i + 1) s)
-  carry_on d v h ev ed = ed ∙ rw (ec, ev) (sym (carry_next s i h))
-
-  pub carry_ends : length s ≤ i → c ≡ carry s
-  carry_ends h = ec ∙ ap carry (take_all i s h)
+-- the carry behind all of them
+pub carry_ends : (s : List ℕ) (i c : ℕ) → c ≡ carry (take i s) → length s ≤ i → c ≡ carry s
+carry_ends s i c ec h = ec ∙ ap carry (take_all i s h)
 
 -- a number passes exactly when the carry of the whole is 2: the check is a symbol like the others
 module _ (s : List ℕ) (h : 1 ≤ length s) where
@@ -89,14 +79,6 @@ module _ (s : List ℕ) (h : 1 ≤ length s) where
   unfolding passes
   two_passes e = eq-eqb _ _ (one_of_two (carry (take (length s - 1) s)) (value_of (get_or s (length s - 1) 0)) (sym last_step ∙ e))
 
--- what the callers of the walk know of a carry
-module _ (c : ℕ) (s : List ℕ) (ec : c ≡ carry s) where
-  pub carry_low : 1 ≤ c
-  carry_low = omega (arith, (carry_of s).low)
-
-  pub carry_high : c ≤ 36
-  carry_high = omega (arith, (carry_of s).high)
-
 -- the check character's value, the first that closes a carry, is what the code works out
 abbrev check_value : ℕ → ℕ
 check_value c = first_value (closes c) 0 36
@@ -109,8 +91,3 @@ check_value_lem c h =
 
 pub closing_symbol : (r c : ℕ) → 1 ≤ c → c ≤ 36 → r ≡ symbol_of ((37 - c) % 36) → r ≡ symbol_of (first_value (closes c) 0 36)
 closing_symbol r c low high er = er ∙ ap symbol_of (sym (check_value_lem c (record { low = low; high = high })))
-
--- behind a walk over all of it
-pub check_behind : (r c i : ℕ) (s : List ℕ) → c ≡ carry (take i s) → length s ≤ i → r ≡ symbol_of (first_value (closes c) 0 36) → r ≡ check_of s
-unfolding check_of
-check_behind r c i s ec h er = er ∙ ap (λ x. symbol_of (first_value (closes x) 0 36)) (carry_ends s i c ec h)

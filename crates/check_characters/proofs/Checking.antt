@@ -1,42 +1,47 @@
 -- What checking a DPD number answers, by cases.
-use Prim.Native.Nat.{ℕ, ◌-◌, ◌≤◌, ◌<◌}
+use Prim.Native.Nat.{ℕ, ◌-◌}
 use mathlib.Core.Path.{◌≡◌, sym, ◌∙◌}
 use mathlib.Core.Bool.{true, false}
 use mathlib.Core.List.{List}
 use mathlib.Core.Logic.{⊎_elim}
-use lib.ListN.{length, take}
-use borrow.Author.Tests.{eq-eqb, ne_eqb, lt-ltb, le-ltb}
-use Rattle.refusal.specs.declared.Reason.TheVariants.{WrongLength, WrongSymbol, WrongCheck}
+use lib.ListN.{length}
+use borrow.Author.Tests.{eq-eqb, ne_eqb, le-ltb}
+use Rattle.refusal.specs.declared.Reason.TheVariants.{WrongLength, WrongCheck}
 use Rattle.refusal.specs.Table.{because}
+use Rattle.refusal.specs.declared.Refusal.{Refusal}
 use Rattle.text.proofs.Choices.{true_or_false}
 use Rattle.check_characters.specs.Mod37.{carry, passes}
-use Rattle.check_characters.specs.Number.{length_of, wrong_in_number, checked_as, checked_number}
+use Rattle.check_characters.specs.Answer.{walked}
+use Rattle.check_characters.specs.Number.{length_of, allowed_in_number, wrong_in_number, checked_as, checked_number}
 use Rattle.check_characters.specs.declared.number.Kind.{Kind}
 use Rattle.check_characters.specs.declared.number.Kind.TheVariants.{Tracking, Label}
-use Rattle.check_characters.proofs.Carries.{carry_ends, passes_two, two_passes}
+use Rattle.check_characters.proofs.Carries.{passes_two, two_passes}
 use Rattle.check_characters.proofs.Shapes.{has_last}
+use Rattle.check_characters.proofs.Walks.{walked_refused, walked_whole}
 use Rattle.std.specs.Prelude.{Ok, Err}
 
-module _ (k : Kind) (s : List ℕ) (wrong : ℕ) (ew : wrong ≡ wrong_in_number k s) where
-  pub checked_wrong : wrong < length s → Err (because WrongSymbol wrong) ≡ checked_as k s
+-- behind a walk over all of it
+module _ (k : Kind) (s : List ℕ) where
+  pub checked_refused : (r : Refusal) → walked (allowed_in_number k) s (carry s) ≡ Err r → checked_as k s ≡ Err r
   unfolding checked_as
-  checked_wrong h = simp (← ew, lt-ltb wrong (length s))
+  checked_refused r e = let a = walked_refused (allowed_in_number k) s (carry s) r e in rw (a.0, a.1)
 
-  -- behind a walk over all of it
-  module _ (c : ℕ) (ec : c ≡ carry (take wrong s)) (long : length s ≡ length_of k) (h : length s ≤ wrong) where
-    pub checked_passes : c ≡ 2 → Ok k ≡ checked_as k s
+  module _ (c : ℕ) (e : walked (allowed_in_number k) s (carry s) ≡ Ok c) (long : length s ≡ length_of k) where
+    pub checked_passes : c ≡ 2 → checked_as k s ≡ Ok k
     unfolding checked_as
-    checked_passes e =
-        let p : passes s ≡ true = two_passes s (has_last k (length s) long) (sym (carry_ends s wrong c ec h) ∙ e) in
-        simp (← ew, le-ltb wrong (length s), p)
+    checked_passes n =
+        let (fine, ec) = walked_whole (allowed_in_number k) s (carry s) c e in
+        let p : passes s ≡ true = two_passes s (has_last k (length s) long) (sym ec ∙ n) in
+        simp (le-ltb (wrong_in_number k s) (length s), p)
 
-    pub checked_fails : (c ≡ 2 → ⊥) → Err (because WrongCheck (length s - 1)) ≡ checked_as k s
+    pub checked_fails : (c ≡ 2 → ⊥) → checked_as k s ≡ Err (because WrongCheck (length s - 1))
     unfolding checked_as
     checked_fails n =
+        let (fine, ec) = walked_whole (allowed_in_number k) s (carry s) c e in
         let p : passes s ≡ false =
-        ⊎_elim (λ (t : passes s ≡ true). absurd (n (carry_ends s wrong c ec h ∙ passes_two s (has_last k (length s) long) t))) (λ f. f)
+        ⊎_elim (λ (t : passes s ≡ true). absurd (n (ec ∙ passes_two s (has_last k (length s) long) t))) (λ f. f)
         (true_or_false (passes s)) in
-        simp (← ew, le-ltb wrong (length s), p)
+        simp (le-ltb (wrong_in_number k s) (length s), p)
 
 module _ (s : List ℕ) where
   pub checked_tracking : length s ≡ 15 → checked_number s ≡ checked_as Tracking s
@@ -50,3 +55,5 @@ module _ (s : List ℕ) where
   pub checked_length : (length s ≡ 15 → ⊥) → (length s ≡ 28 → ⊥) → checked_number s ≡ Err (because WrongLength 0)
   unfolding checked_number
   checked_length n m = simp (ne_eqb (length s) 15, ne_eqb (length s) 28)
+
+pub ruleset checks = (checked_refused, checked_passes, checked_fails)

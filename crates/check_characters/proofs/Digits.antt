@@ -12,7 +12,6 @@ use Rattle.std.specs.Prelude.{if◌then◌else◌}
 use Rattle.text.specs.Byte.{capital}
 use Rattle.check_characters.specs.Symbol.{value_of}
 use Rattle.check_characters.specs.Iban.{digits_of, spread, decimal_from, iban_number}
-use Rattle.check_characters.proofs.Symbols.{value_le}
 
 pub decimal_append : (a : ℕ) (p q : List ℕ) → decimal_from a (p ++ q) ≡ decimal_from (decimal_from a p) q
 decimal_append a [] q = refl
@@ -39,23 +38,16 @@ weighed r b = go (capital b)
     go true = omega arith
     go false = refl
 
--- one symbol more, whose value is v
-module _ (n b v : ℕ) (ev : v ≡ value_of b) where
-  pub behind_letter_below : 100 * n + v < 100 * n + 36
-  behind_letter_below = omega (arith, value_le b)
+-- one symbol more
+module _ (n b : ℕ) where
+  alone : decimal_from n (spread (b ∷ [])) ≡ weight b * n + value_of b
+  alone = decimal_append n (digits_of b) [] ∙ weighed n b
 
-  pub behind_digit_below : 10 * n + v < 100 * n + 36
-  behind_digit_below = omega (arith, value_le b)
+  pub behind_letter : capital b ≡ true → decimal_from n (spread (b ∷ [])) ≡ 100 * n + value_of b
+  behind_letter e = alone ∙ rw e
 
-  alone : decimal_from n (spread (b ∷ [])) ≡ weight b * n + v
-  alone = decimal_append n (digits_of b) [] ∙ weighed n b ∙ ap (λ (x : ℕ). weight b * n + x) (sym ev)
-
-  module _ (t : Bool) (et : t ≡ capital b) where
-    pub behind_letter : t ≡ true → 100 * n + v ≡ decimal_from n (spread (b ∷ []))
-    behind_letter e = simp (alone, ← et, e)
-
-    pub behind_digit : t ≡ false → 10 * n + v ≡ decimal_from n (spread (b ∷ []))
-    behind_digit e = simp (alone, ← et, e)
+  pub behind_digit : capital b ≡ false → decimal_from n (spread (b ∷ [])) ≡ 10 * n + value_of b
+  behind_digit e = alone ∙ rw e
 
 -- four symbols, one after the other
 pub behind_each : (n a b c d k l m r : ℕ) → k ≡ decimal_from n (spread (a ∷ [])) → l ≡ decimal_from k (spread (b ∷ [])) →
@@ -81,42 +73,34 @@ decimal_mod a b (d ∷ s) e =
 lessened : (a : ℕ) (s : List ℕ) → decimal_from (a % 97) s % 97 ≡ decimal_from a s % 97
 lessened a s = decimal_mod (a % 97) a s (omega arith)
 
--- the walk over the symbols s at the place i, where the number is n and z the remainder of the whole
-module _ (s : List ℕ) (i n z : ℕ) (f : decimal_from n (spread (drop i s)) % 97 ≡ z) where
-  run_on : (j a : ℕ) (p : List ℕ) → drop i s ≡ p ++ drop j s → a ≡ decimal_from n (spread p) → decimal_from (a % 97) (spread (drop j s)) % 97 ≡ z
-  run_on j a p e ea =
-      lessened a (spread (drop j s))
-      ∙ ap (λ (x : ℕ). decimal_from x (spread (drop j s)) % 97) ea
-      ∙ ap (λ (x : ℕ). x % 97) (sym (run_append n p (drop j s)))
-      ∙ ap (λ (w : List ℕ). decimal_from n (spread w) % 97) (sym e)
-      ∙ f
+-- and so behind a run of which the number a was taken
+run_on : (n a : ℕ) (p q : List ℕ) → a ≡ decimal_from n (spread p) → decimal_from (a % 97) (spread q) % 97 ≡ decimal_from n (spread (p ++ q)) % 97
+run_on n a p q e = lessened a (spread q) ∙ ap (λ (x : ℕ). decimal_from x (spread q) % 97) e ∙ ap (λ (x : ℕ). x % 97) (sym (run_append n p q))
 
-  pub one_on : (a : ℕ) → i < length s → a ≡ decimal_from n (spread (get_or s i 0 ∷ [])) → decimal_from (a % 97) (spread (drop (i + 1) s)) % 97 ≡ z
-  one_on a h ea = run_on (i + 1) a (get_or s i 0 ∷ []) (rw add-one (drop-cons s i 0 h)) ea
+four_first : (s : List ℕ) → 4 ≤ length s → s ≡ get_or s 0 0 ∷ get_or s 1 0 ∷ get_or s 2 0 ∷ get_or s 3 0 ∷ drop 4 s
+four_first (a ∷ b ∷ c ∷ d ∷ s) h = refl
+four_first (a ∷ b ∷ c ∷ []) h = absurd (omega arith)
+four_first (a ∷ b ∷ []) h = absurd (omega arith)
+four_first (a ∷ []) h = absurd (omega arith)
+four_first [] h = absurd (omega arith)
 
-  pub four_on : (a : ℕ) → i + 3 < length s →
-      a ≡ decimal_from n (spread (get_or s i 0 ∷ get_or s (i + 1) 0 ∷ get_or s (i + 2) 0 ∷ get_or s (i + 3) 0 ∷ [])) →
-      decimal_from (a % 97) (spread (drop (i + 4) s)) % 97 ≡ z
-  four_on a h ea =
-      run_on (i + 4) a (get_or s i 0 ∷ get_or s (i + 1) 0 ∷ get_or s (i + 2) 0 ∷ get_or s (i + 3) 0 ∷ [])
-      (left i (i + 1) refl (omega arith) (left (i + 1) (i + 2) (omega arith) (omega arith) (left (i + 2) (i + 3) (omega arith) (omega arith)
-      (left (i + 3) (i + 4) (omega arith) h refl)))) ea
-    where
-      left : (j k : ℕ) {w : List ℕ} → k ≡ j + 1 → j < length s → drop k s ≡ w → drop j s ≡ get_or s j 0 ∷ w
-      left j k ek l e = drop-cons s j 0 l ∙ ap (λ (w : List ℕ). get_or s j 0 ∷ w) (ap (λ (k : ℕ). drop k s) (sym (ek ∙ add-one j)) ∙ e)
+-- a walk over the symbols s
+module _ (s : List ℕ) (n : ℕ) where
+  pub one_on : (i a : ℕ) → i < length s → a ≡ decimal_from n (spread (get_or s i 0 ∷ [])) →
+      decimal_from (a % 97) (spread (drop (i + 1) s)) % 97 ≡ decimal_from n (spread (drop i s)) % 97
+  one_on i a h ea = run_on n a (get_or s i 0 ∷ []) (drop (i + 1) s) ea ∙ rw (add-one, drop-cons s i 0)
 
-  pub walk_ends : n < 97 → length s ≤ i → n ≡ z
-  walk_ends l h = sym (rw (drop_of_length-le s) (mod-eq_of_lt l)) ∙ f
+  pub four_on : (m : ℕ) → 4 ≤ length s → m ≡ decimal_from n (spread (get_or s 0 0 ∷ get_or s 1 0 ∷ get_or s 2 0 ∷ get_or s 3 0 ∷ [])) →
+      decimal_from (m % 97) (spread (take (length s - 4) (drop 4 s))) % 97 ≡ decimal_from n (spread s) % 97
+  four_on m h e =
+      let all : take (length s - 4) (drop 4 s) ≡ drop 4 s = take_all (length s - 4) (drop 4 s) (simp length-drop (omega arith)) in
+      rw all (run_on n m (get_or s 0 0 ∷ get_or s 1 0 ∷ get_or s 2 0 ∷ get_or s 3 0 ∷ []) (drop 4 s) e
+      ∙ ap (λ (w : List ℕ). decimal_from n (spread w) % 97) (sym (four_first s h)))
 
-  pub walk_rests : (r : ℕ) → r ≡ decimal_from n (spread (take (length s - i) (drop i s))) % 97 → r ≡ z
-  walk_rests r e =
-      e ∙ ap (λ (w : List ℕ). decimal_from n (spread w) % 97) (take_all (length s - i) (drop i s) (simp length-drop (omega arith))) ∙ f
+  pub walk_ends : (i : ℕ) → n < 97 → length s ≤ i → decimal_from n (spread (drop i s)) % 97 ≡ n
+  walk_ends i l h = rw (drop_of_length-le s) (mod-eq_of_lt l)
 
 -- the account part, and from there the first four
-pub of_whole : (s : List ℕ) (account r : ℕ) → account ≡ decimal_from 0 (spread (take (length s - 4) (drop 4 s))) % 97 →
+pub of_whole : (s : List ℕ) (account r : ℕ) → account ≡ decimal_from 0 (spread (drop 4 s)) % 97 →
     r ≡ decimal_from account (spread (take 4 s)) % 97 → r ≡ iban_number s % 97
-of_whole s account r ea er =
-    er
-    ∙ ap (λ (n : ℕ). decimal_from n (spread (take 4 s)) % 97) (walk_rests s 4 0 (decimal_from 0 (spread (drop 4 s)) % 97) refl account ea)
-    ∙ lessened (decimal_from 0 (spread (drop 4 s))) (spread (take 4 s))
-    ∙ ap (λ (n : ℕ). n % 97) (sym (run_append 0 (drop 4 s) (take 4 s)))
+of_whole s account r ea er = er ∙ rw ea (run_on 0 (decimal_from 0 (spread (drop 4 s))) (drop 4 s) (take 4 s) refl)

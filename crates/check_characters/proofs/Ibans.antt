@@ -1,74 +1,56 @@
--- What checking an IBAN answers, by cases.
-use Prim.Native.Nat.{ℕ, ◌+◌, ◌*◌, ◌%◌, ◌≤◌, ◌<◌}
-use mathlib.Core.Path.{◌≡◌}
-use mathlib.Core.Bool.{Bool, true, false}
-use mathlib.Core.List.{List}
+-- Where the first symbol stands that is not allowed in an IBAN.
+use Prim.Native.Nat.{ℕ, suc, ◌+◌, ◌≤◌}
+use mathlib.Core.Path.{◌≡◌, sym, ◌∙◌}
+use mathlib.Core.Bool.{Bool, true, false, not}
+use mathlib.Core.List.{List, [], ◌∷◌}
+use native.Mathlib.Nat.{add-zero, zero-add}
+use native.Mathlib.Numerals.{add-one}
 use native.Mathlib.Omega.{arith}
-use lib.Dec.{eqb}
-use lib.ListN.{length, get_or}
-use borrow.Author.Tests.{ne_eqb, lt-ltb, le-ltb, le-leb, lt-leb}
-use Rattle.refusal.specs.declared.Reason.TheVariants.{WrongLength, WrongSymbol, WrongCheck}
+use lib.Dec.{ltb}
+use lib.ListN.{length}
+use borrow.Author.Tests.{le-leb}
+use Rattle.std.specs.Prelude.{cond, if◌then◌else◌, position, Some, None, Ok, Err}
+use Rattle.std.specs.List.{position_or_len, enumerate_from}
+use Rattle.std.proofs.lemmas.List.FromFn.{length-enumerate_from}
+use Rattle.refusal.specs.declared.Reason.TheVariants.{WrongSymbol, WrongCheck}
 use Rattle.refusal.specs.Table.{because}
-use Rattle.text.specs.Byte.{digit, capital, symbol}
-use Rattle.check_characters.specs.Symbol.{value_of}
-use Rattle.check_characters.specs.Iban.{allowed_in_iban, wrong_in_iban, barred, iban_number, sound_of, checked_iban}
-use Rattle.std.specs.Prelude.{Ok, Err}
+use Rattle.text.specs.Scan.{first_failing}
+use Rattle.text.proofs.Choices.{came_then, came_else}
+use Rattle.check_characters.specs.Iban.{allowed_in_iban, wrong_in_iban, sound_of, checked_iban}
 
-module _ (i b : ℕ) (t : Bool) where
-  pub allowed_country : i < 2 → t ≡ capital b → t ≡ allowed_in_iban i b
-  unfolding allowed_in_iban
-  allowed_country h e = simp (lt-ltb i 2) e
-
-  pub allowed_check : 2 ≤ i → i < 4 → t ≡ digit b → t ≡ allowed_in_iban i b
-  unfolding allowed_in_iban
-  allowed_check l h e = simp (le-ltb i 2, lt-ltb i 4) e
-
-  pub allowed_account : 4 ≤ i → t ≡ symbol b → t ≡ allowed_in_iban i b
-  unfolding allowed_in_iban
-  allowed_account h e = simp (le-ltb i 2 (omega arith), le-ltb i 4) e
-
-module _ (d : ℕ) where
-  pub barred_00 : d ≡ 0 → true ≡ barred d
-  unfolding barred
-  barred_00 e = rw e
-
-  pub barred_01 : d ≡ 1 → true ≡ barred d
-  unfolding barred
-  barred_01 e = rw e
-
-  pub barred_99 : (d ≡ 0 → ⊥) → (d ≡ 1 → ⊥) → eqb d 99 ≡ barred d
-  unfolding barred
-  barred_99 n m = simp (ne_eqb d 0, ne_eqb d 1)
-
-module _ (s : List ℕ) (tens ones : ℕ) (et : tens ≡ value_of (get_or s 2 0)) (eo : ones ≡ value_of (get_or s 3 0)) (bar : Bool)
-    (eb : bar ≡ barred (10 * tens + ones)) where
-  pub sound_barred : bar ≡ true → false ≡ sound_of s
-  unfolding sound_of
-  sound_barred e = simp (← et, ← eo, ← eb, e)
-
-  pub sound_remainder : bar ≡ false → (r : ℕ) → r ≡ iban_number s % 97 → eqb r 1 ≡ sound_of s
-  unfolding sound_of
-  sound_remainder e r er = simp (← et, ← eo, ← eb, e, ← er)
+-- the library's search for the first symbol that is not allowed finds the document's
+first_place : (ok : ℕ → ℕ → Bool) (i : ℕ) (s : List ℕ) → first_failing ok i s ≡ i + position_or_len (λ (p : ℕ × ℕ). not (ok p.0 p.1)) (enumerate_from i s)
+first_place ok i [] = sym (add-zero i)
+first_place ok i (b ∷ s) = go (ok i b) (first_place ok (suc i) s)
+  where
+    go : (t : Bool) → first_failing ok (suc i) s ≡ suc i + position_or_len (λ (p : ℕ × ℕ). not (ok p.0 p.1)) (enumerate_from (suc i) s) →
+        (if t then first_failing ok (suc i) s else i) ≡
+        i + cond (not (not t)) (1 + position_or_len (λ (p : ℕ × ℕ). not (ok p.0 p.1)) (enumerate_from (i + 1) s)) 0
+    go true e = rw add-one (e ∙ omega arith)
+    go false e = sym (add-zero i)
 
 module _ (s : List ℕ) where
-  pub checked_short : length s < 15 → checked_iban s ≡ Err (because WrongLength 0)
-  unfolding checked_iban
-  checked_short h = simp (lt-leb 15 (length s))
+  wrong_place : position (λ (p : ℕ × ℕ). not (allowed_in_iban p.0 p.1)) (enumerate_from 0 s) ≡
+      (if ltb (wrong_in_iban s) (length s) then Some (wrong_in_iban s) else None)
+  wrong_place =
+      let e : position_or_len (λ (p : ℕ × ℕ). not (allowed_in_iban p.0 p.1)) (enumerate_from 0 s) ≡ wrong_in_iban s =
+      sym (first_place allowed_in_iban 0 s ∙ zero-add _) in
+      rw (e, length-enumerate_from 0 s)
 
-  pub checked_long : 34 < length s → checked_iban s ≡ Err (because WrongLength 0)
-  unfolding checked_iban
-  checked_long h = simp (le-leb 15 (length s) (omega arith), lt-leb (length s) 34)
-
-  module _ (l : 15 ≤ length s) (h : length s ≤ 34) (wrong : ℕ) (ew : wrong ≡ wrong_in_iban s) where
-    pub checked_wrong : wrong < length s → Err (because WrongSymbol wrong) ≡ checked_iban s
+  -- what checking answers, by what the search found
+  module _ (low : 15 ≤ length s) (high : length s ≤ 34) where
+    pub checked_wrong : (wrong : ℕ) → position (λ (p : ℕ × ℕ). not (allowed_in_iban p.0 p.1)) (enumerate_from 0 s) ≡ Some wrong →
+        checked_iban s ≡ Err (because WrongSymbol wrong)
     unfolding checked_iban
-    checked_wrong m = simp (le-leb 15 (length s), le-leb (length s) 34, ← ew, lt-ltb wrong (length s))
+    checked_wrong wrong e =
+        let a = came_then (ltb (wrong_in_iban s) (length s)) (Some (wrong_in_iban s)) None (Some wrong) (λ z. cc) (sym wrong_place ∙ e) in
+        let same : wrong_in_iban s ≡ wrong = cc in
+        let t : ltb wrong (length s) ≡ true = rw same at a.0 in
+        simp (le-leb 15 (length s), le-leb (length s) 34, same, t)
 
-    module _ (m : length s ≤ wrong) (t : Bool) (et : t ≡ sound_of s) where
-      pub checked_sound : t ≡ true → Ok tt ≡ checked_iban s
-      unfolding checked_iban
-      checked_sound e = simp (le-leb 15 (length s), le-leb (length s) 34, ← ew, le-ltb wrong (length s), ← et, e)
-
-      pub checked_unsound : t ≡ false → Err (because WrongCheck 2) ≡ checked_iban s
-      unfolding checked_iban
-      checked_unsound e = simp (le-leb 15 (length s), le-leb (length s) 34, ← ew, le-ltb wrong (length s), ← et, e)
+    pub checked_right : position (λ (p : ℕ × ℕ). not (allowed_in_iban p.0 p.1)) (enumerate_from 0 s) ≡ None →
+        checked_iban s ≡ (if sound_of s then Ok tt else Err (because WrongCheck 2))
+    unfolding checked_iban
+    checked_right e =
+        let a = came_else (ltb (wrong_in_iban s) (length s)) (Some (wrong_in_iban s)) None None (λ z. cc) (sym wrong_place ∙ e) in
+        simp (le-leb 15 (length s), le-leb (length s) 34, a.0)

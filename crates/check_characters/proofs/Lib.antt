@@ -3,6 +3,7 @@ pub mod Carries
 pub mod Entries
 pub mod Keying
 pub mod Shapes
+pub mod Walks
 pub mod Checking
 pub mod Days
 pub mod Issuing

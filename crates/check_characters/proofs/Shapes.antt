@@ -1,11 +1,11 @@
 -- Which byte may stand where in a DPD number.
 use Prim.Native.Nat.{ℕ, zero, suc, ◌+◌, ◌-◌, ◌≤◌, ◌<◌}
-use mathlib.Core.Path.{◌≡◌, refl, sym, ap, ◌∙◌}
+use mathlib.Core.Path.{◌≡◌, refl, ap, ◌∙◌}
 use mathlib.Core.Bool.{Bool, false}
 use mathlib.Core.List.{List, [], ◌∷◌, ◌++◌}
 use native.Mathlib.Nat.{add-zero, add-suc, not-suc-le-zero, le_of_suc-le-suc}
 use native.Mathlib.Omega.{arith}
-use lib.ListN.{get_or, replicate}
+use lib.ListN.{length, get_or, replicate}
 use Rattle.text.specs.Byte.{digit, symbol}
 use Rattle.check_characters.specs.Number.{shape_of, length_of, allowed_in_number}
 use Rattle.check_characters.specs.declared.number.Kind.{Kind}
@@ -23,37 +23,48 @@ run_past : (n i : ℕ) (p : Test) (rest : List Test) (d : Test) → get_or (repl
 run_past zero i p rest d = rw add-zero
 run_past (suc n) i p rest d = rw (add-suc i n) (run_past n i p rest d)
 
-module _ (k : Kind) (i b : ℕ) (t : Bool) where
-  stands : (p : Test) → get_or (shape_of k) i (λ _. false) ≡ p → t ≡ p b → t ≡ allowed_in_number k i b
-  unfolding allowed_in_number
-  stands p e et = et ∙ sym (ap (λ (f : Test). f b) e)
+past : (tests : List Test) (i : ℕ) (d : Test) → length tests ≤ i → get_or tests i d ≡ d
+past [] i d h = refl
+past (p ∷ tests) zero d h = absurd (not-suc-le-zero h)
+past (p ∷ tests) (suc i) d h = past tests i d (le_of_suc-le-suc h)
 
-  pub tracking_digit : k ≡ Tracking → i < 14 → t ≡ digit b → t ≡ allowed_in_number k i b
-  unfolding shape_of
-  tracking_digit ek h et = stands digit (rw ek (run_at 14 i digit (symbol ∷ []) (λ _. false) h)) et
+module _ (i b : ℕ) where
+  pub tracking_digit : i < 14 → allowed_in_number Tracking i b ≡ digit b
+  unfolding shape_of allowed_in_number
+  tracking_digit h = ap (λ (f : Test). f b) (run_at 14 i digit (symbol ∷ []) (λ _. false) h)
 
-  pub tracking_check : k ≡ Tracking → 14 ≤ i → i < length_of k → t ≡ symbol b → t ≡ allowed_in_number k i b
-  unfolding shape_of
-  tracking_check ek l h et = let h' = rw ek at h in let e : i ≡ 14 = omega arith in stands symbol (rw (ek, e)) et
+  pub tracking_check : i ≡ 14 → allowed_in_number Tracking i b ≡ symbol b
+  unfolding shape_of allowed_in_number
+  tracking_check e = rw e
 
-  pub label_symbol : k ≡ Label → i < 7 → t ≡ symbol b → t ≡ allowed_in_number k i b
-  unfolding shape_of
-  label_symbol ek h et = stands symbol (rw ek (run_at 7 i symbol (replicate 20 digit ++ (symbol ∷ [])) (λ _. false) h)) et
+  pub tracking_past : 15 ≤ i → allowed_in_number Tracking i b ≡ false
+  unfolding shape_of allowed_in_number
+  tracking_past h = ap (λ (f : Test). f b) (past (shape_of Tracking) i (λ _. false) h)
 
-  pub label_digit : k ≡ Label → 7 ≤ i → i < 27 → t ≡ digit b → t ≡ allowed_in_number k i b
-  unfolding shape_of
-  label_digit ek l h et =
+  pub label_symbol : i < 7 → allowed_in_number Label i b ≡ symbol b
+  unfolding shape_of allowed_in_number
+  label_symbol h = ap (λ (f : Test). f b) (run_at 7 i symbol (replicate 20 digit ++ (symbol ∷ [])) (λ _. false) h)
+
+  pub label_digit : 7 ≤ i → i < 27 → allowed_in_number Label i b ≡ digit b
+  unfolding shape_of allowed_in_number
+  label_digit l h =
       let e : i ≡ i - 7 + 7 = omega arith in
       let there : get_or (replicate 7 symbol ++ (replicate 20 digit ++ (symbol ∷ []))) (i - 7 + 7) (λ _. false) ≡ digit =
       run_past 7 (i - 7) symbol (replicate 20 digit ++ (symbol ∷ [])) (λ _. false)
       ∙ run_at 20 (i - 7) digit (symbol ∷ []) (λ _. false) (omega arith) in
-      stands digit (rw ek (ap (λ j. get_or (shape_of Label) j (λ _. false)) e ∙ there)) et
+      ap (λ (f : Test). f b) (ap (λ j. get_or (shape_of Label) j (λ _. false)) e ∙ there)
 
-  pub label_check : k ≡ Label → 27 ≤ i → i < length_of k → t ≡ symbol b → t ≡ allowed_in_number k i b
-  unfolding shape_of
-  label_check ek l h et = let h' = rw ek at h in let e : i ≡ 27 = omega arith in stands symbol (rw (ek, e)) et
+  pub label_check : i ≡ 27 → allowed_in_number Label i b ≡ symbol b
+  unfolding shape_of allowed_in_number
+  label_check e = rw e
+
+  pub label_past : 28 ≤ i → allowed_in_number Label i b ≡ false
+  unfolding shape_of allowed_in_number
+  label_past h = ap (λ (f : Test). f b) (past (shape_of Label) i (λ _. false) h)
 
 -- a number of a kind has a last symbol
 pub has_last : (k : Kind) (n : ℕ) → n ≡ length_of k → 1 ≤ n
 has_last Tracking n e = omega arith
 has_last Label n e = omega arith
+
+pub ruleset stands = (tracking_digit, tracking_check, tracking_past, label_symbol, label_digit, label_check, label_past)

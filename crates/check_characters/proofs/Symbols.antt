@@ -1,27 +1,21 @@
 -- Symbols and their values, by cases.
 use Prim.Native.Nat.{ℕ, ◌+◌, ◌-◌, ◌≤◌, ◌<◌}
-use mathlib.Core.Path.{◌≡◌, refl, sym, ◌∙◌}
+use mathlib.Core.Path.{◌≡◌, refl}
 use mathlib.Core.Bool.{Bool, true, false}
 use mathlib.Core.Logic.{⊎_elim}
 use native.Mathlib.Omega.{arith}
-use borrow.Author.Tests.{lt-ltb, le-ltb}
+use borrow.Author.Tests.{lt-ltb}
 use Rattle.text.specs.Byte.{digit, capital}
 use Rattle.text.proofs.Choices.{true_or_false}
 use Rattle.text.proofs.Bytes.{digit_range, capital_range}
 use Rattle.check_characters.specs.Symbol.{value_of, symbol_of}
 
 module _ (b : ℕ) (t : Bool) (et : t ≡ digit b) where
-  pub digit_floor : t ≡ true → 48 ≤ b
-  digit_floor e = (digit_range b (sym et ∙ e)).0
-
   pub value_digit : t ≡ true → b - 48 ≡ value_of b
   unfolding value_of
   value_digit e = simp (← et, e)
 
   module _ (u : Bool) (eu : u ≡ capital b) (other : t ≡ false) where
-    pub capital_floor : u ≡ true → 65 ≤ b
-    capital_floor e = (capital_range b (sym eu ∙ e)).0
-
     pub value_capital : u ≡ true → b - 65 + 10 ≡ value_of b
     unfolding value_of
     value_capital e = simp (← et, other, ← eu, e)
@@ -37,13 +31,6 @@ value_le b =
     (λ c. omega (arith, value_other b (digit b) refl (capital b) refl n c)) (true_or_false (capital b)))
     (true_or_false (digit b))
 
-pub value_below : (v b : ℕ) → v ≡ value_of b → v < 36
-value_below v b e = omega (arith, value_le b)
-
 pub low_symbol : (v : ℕ) → v < 10 → symbol_of v ≡ 48 + v
 unfolding symbol_of
 low_symbol v h = simp (lt-ltb v 10)
-
-pub high_symbol : (v : ℕ) → 10 ≤ v → symbol_of v ≡ 65 + (v - 10)
-unfolding symbol_of
-high_symbol v h = simp (le-ltb v 10)

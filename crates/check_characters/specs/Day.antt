@@ -8,7 +8,7 @@ use Rattle.text.specs.Placed.{written}
 use Rattle.text.specs.Scan.{count}
 use Rattle.text.specs.Tabled.{tabled}
 use Rattle.refusal.specs.declared.Reason.TheVariants.{OutputTooShort, WrongLength}
-use Rattle.refusal.specs.Table.{because, number_told, verdict_of, Verdict, verdict_on}
+use Rattle.refusal.specs.Table.{because, number_told, verdict_on}
 use Rattle.check_characters.specs.Number.{checked_number}
 use Rattle.refusal.specs.declared.Refusal.{Refusal}
 

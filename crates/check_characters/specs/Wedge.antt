@@ -5,7 +5,7 @@
 use Rattle.std.specs.Prelude.{ℕ, Bool, not, ◌&&◌, leb, if◌then◌else◌, Result, Ok, Err}
 use Rattle.text.specs.Byte.{symbol}
 use Rattle.refusal.specs.declared.Reason.TheVariants.{NotThere, WrongSymbol}
-use Rattle.refusal.specs.Table.{because, verdict_of, Verdict}
+use Rattle.refusal.specs.Table.{because}
 use Rattle.check_characters.specs.Symbol.{value_of}
 use Rattle.check_characters.specs.Mod37.{step}
 use Rattle.refusal.specs.declared.Refusal.{Refusal}

@@ -5,26 +5,22 @@ ghost use Rattle.text.specs.Placed.{written};
 ghost use Rattle.refusal.specs.Table.{number_told, verdict_on};
 ghost use Rattle.check_characters.specs.Day.{how_many, day_answers, ChecksDay};
 
+use crate::number;
 use crate::number::Kind;
-use crate::{number, steps};
+use crate::steps::Steps;
 use refusal::{Reason, Refusal};
 
 // Checks a day's tracking numbers, and writes for each the byte 0, 17 or 18 that it would be answered alone.
+#[tactic(auto, using(crate::proofs::Days::day_cases), unfolding(crate::specs::Day::answers_after))]
 pub fn check_numbers(numbers: &[u8], answers: &mut [u8]) -> Result<usize, Refusal>
     ensures { ChecksDay numbers.now answers.old result answers.new }
 {
     if numbers.len() % 15 != 0 {
-        return Err(Refusal {
-            why: Reason::WrongLength,
-            place: 0,
-        });
+        return Err(Refusal::new(Reason::WrongLength, 0));
     }
     let n = numbers.len() / 15;
     if answers.len() < n {
-        return Err(Refusal {
-            why: Reason::OutputTooShort,
-            place: 0,
-        });
+        return Err(Refusal::new(Reason::OutputTooShort, 0));
     }
     check_each(numbers, answers);
     Ok(text::count_of(0, &answers[..n]))
@@ -35,14 +31,9 @@ fn check_each(numbers: &[u8], answers: &mut [u8])
     requires { how_many numbers.now ≤ length answers.old }
     ensures { answers.new ≡ written answers.old 0 (day_answers numbers.now) }
 {
-    let table = steps::laid_out();
-    let n = numbers.len() / 15;
-    let mut i: usize = 0;
-    while i < n {
-        let at = 15 * i;
-        let answer = number::check_as(&table, Kind::Tracking, &numbers[at..at + 15]);
-        answers[i] = answer_byte(answer);
-        i += 1;
+    let steps = Steps::laid_out();
+    for (i, number) in numbers.chunks_exact(15).enumerate() {
+        answers[i] = answer_byte(number::check_as(&steps, Kind::Tracking, number));
     }
 }
 
@@ -52,9 +43,6 @@ fn answer_byte(answer: Result<Kind, Refusal>) -> u8
 {
     match answer {
         Ok(_) => 0,
-        Err(refusal) => {
-            let why = refusal.why;
-            refusal::number(why) as u8
-        }
+        Err(refusal) => refusal::number(refusal.why) as u8,
     }
 }

@@ -8,94 +8,67 @@
 // The remainder by 97 is taken on a walk over the IBAN as it stands, first the account, then the first four. Behind 1904 it is 61, behind
 // 3002 it is 59, behind 3457 it is 11, behind 3201 it is 2, and behind AT61 it is 1, so that the IBAN passes. With the check digits 16 it
 // is 53 in the end (`example_walk`).
-ghost use Rattle.std.specs.Prelude.{◌≡◌, ◌≤◌, length};
-ghost use Rattle.check_characters.specs.Iban.{allowed_in_iban, wrong_in_iban, barred, sound_of, checked_iban};
+ghost use Rattle.std.specs.Prelude.{◌≡◌, ◌≤◌, length, not, position};
+ghost use Rattle.std.specs.List.{enumerate_from};
+ghost use Rattle.check_characters.specs.Iban.{allowed_in_iban, barred, sound_of, checked_iban};
 
 use crate::{remainder, symbol};
 use refusal::{Reason, Refusal};
 
 // Checks an IBAN.
+#[tactic(auto, using(crate::proofs::Ibans::checked_wrong, crate::proofs::Ibans::checked_right), unfolding(crate::specs::Iban::checked_iban))]
 pub fn check_iban(symbols: &[u8]) -> Result<(), Refusal>
     ensures { result ≡ checked_iban symbols.now }
 {
-    let n = symbols.len();
-    if n < 15 {
-        return Err(Refusal {
-            why: Reason::WrongLength,
-            place: 0,
-        });
+    if !matches!(symbols.len(), 15..=34) {
+        return Err(Refusal::new(Reason::WrongLength, 0));
     }
-    if 34 < n {
-        return Err(Refusal {
-            why: Reason::WrongLength,
-            place: 0,
-        });
-    }
-    let wrong = wrong_symbol(symbols);
-    if wrong < n {
-        return Err(Refusal {
-            why: Reason::WrongSymbol,
-            place: wrong,
-        });
+    if let Some(wrong) = wrong_symbol(symbols) {
+        return Err(Refusal::new(Reason::WrongSymbol, wrong));
     }
     if is_sound(symbols) {
         return Ok(());
     }
-    Err(Refusal {
-        why: Reason::WrongCheck,
-        place: 2,
-    })
+    Err(Refusal::new(Reason::WrongCheck, 2))
 }
 
 // Whether the check digits may stand in an IBAN and the remainder by 97 is 1.
+#[tactic(auto, unfolding(crate::specs::Iban::sound_of))]
 fn is_sound(symbols: &[u8]) -> bool
     requires { 4 ≤ length symbols.now }
     ensures { result ≡ sound_of symbols.now }
 {
     let tens = symbol::value(symbols[2]) as u32;
     let ones = symbol::value(symbols[3]) as u32;
-    if is_barred(10 * tens + ones) {
-        return false;
-    }
-    remainder::of_iban(symbols) == 1
+    !is_barred(10 * tens + ones) && remainder::of_iban(symbols).number == 1
 }
 
 // Whether these check digits never stand in an IBAN, though the remainder by 97 may be 1.
+#[tactic(auto, unfolding(crate::specs::Iban::barred))]
 fn is_barred(digits: u32) -> bool
     ensures { result ≡ barred digits }
 {
-    if digits == 0 {
-        return true;
-    }
-    if digits == 1 {
-        return true;
-    }
-    digits == 99
+    matches!(digits, 0 | 1 | 99)
 }
 
-// The place of the first symbol that is not allowed where it stands, or the end.
-fn wrong_symbol(symbols: &[u8]) -> usize
-    ensures { result ≡ wrong_in_iban symbols.now }
+// The place of the first symbol that is not allowed where it stands.
+fn wrong_symbol(symbols: &[u8]) -> Option<usize>
+    ensures { result ≡ position (λ p. not (allowed_in_iban p.0 p.1)) (enumerate_from 0 symbols.now) }
 {
-    let mut i: usize = 0;
-    while i < symbols.len() {
-        if !is_allowed(i, symbols[i]) {
-            return i;
-        }
-        i += 1;
-    }
-    i
+    symbols
+        .iter()
+        .enumerate()
+        .position(|(i, &b)| !is_allowed(i, b))
 }
 
 // Whether the byte b may stand at the place i.
+#[tactic(auto, unfolding(crate::specs::Iban::allowed_in_iban))]
 fn is_allowed(i: usize, b: u8) -> bool
     ensures { result ≡ allowed_in_iban i b }
 {
-    if i < 2 {
-        return text::is_capital(b);
+    match i {
+        0..2 => text::is_capital(b),
+        2..4 => text::is_digit(b),
+        _ => text::is_symbol(b),
     }
-    if i < 4 {
-        return text::is_digit(b);
-    }
-    text::is_symbol(b)
 }

@@ -9,156 +9,110 @@
 //
 // First 36 + 0 leaves 0, read as 36; twice that is 72, which leaves 35. Then 35 + 9 leaves 8, and twice that is 16. At the end the
 // check's value makes 22 + value leave 1 modulo 36: it is 15, the value of `F`. Twice 1 is 2, the carry behind it.
-ghost use Rattle.std.specs.Prelude.{◌≡◌, ◌+◌, ◌<◌, ◌≤◌, length, take};
-ghost use Rattle.check_characters.specs.Number.{length_of, allowed_in_number, wrong_in_number, checked_as, checked_number};
+ghost use Rattle.std.specs.Prelude.{◌≡◌, ◌+◌, length};
+ghost use Rattle.check_characters.specs.Number.{length_of, kind_of, allowed_in_number, checked_as, checked_number};
 ghost use Rattle.check_characters.specs.Number.{issue_as, Issues};
-ghost use Rattle.check_characters.specs.Answer.{issued_to};
+ghost use Rattle.check_characters.specs.Answer.{walked, issued_to};
 ghost use Rattle.check_characters.specs.Mod37.{carry, check_of};
-ghost use Rattle.check_characters.specs.Steps.{steps};
 
-use crate::{answer, carry, steps, symbol};
+use crate::answer;
+use crate::carry::Carry;
+use crate::steps::Steps;
 use refusal::{Reason, Refusal};
 
-#[derive(Clone, Copy)]
+// The numbers are those that the calls for C tell.
+#[derive(Clone, Copy, Debug, PartialEq, Eq)]
 pub enum Kind {
-    Tracking,
-    Label,
+    Tracking = 1,
+    Label = 2,
 }
 
-// How far a number's symbols are allowed, and the carry behind these.
-#[derive(Clone, Copy)]
-struct Walked {
-    wrong: usize,
-    carry: u8,
+impl Kind {
+    // The kind of the numbers that have so many symbols.
+    #[tactic(auto, unfolding(crate::specs::Number::kind_of))]
+    fn of_length(n: usize) -> Option<Kind>
+        ensures { result ≡ kind_of n }
+    {
+        match n {
+            15 => Some(Kind::Tracking),
+            28 => Some(Kind::Label),
+            _ => None,
+        }
+    }
+
+    // Whether the byte b may stand at the place i of a number.
+    #[tactic(auto, using(crate::proofs::Shapes::stands))]
+    fn allows(self, i: usize, b: u8) -> bool
+        ensures { result ≡ allowed_in_number self i b }
+    {
+        match (self, i) {
+            (Kind::Tracking, 0..14) => text::is_digit(b),
+            (Kind::Tracking, 14) => text::is_symbol(b),
+            (Kind::Label, 0..7 | 27) => text::is_symbol(b),
+            (Kind::Label, 7..27) => text::is_digit(b),
+            _ => false,
+        }
+    }
 }
 
 // Checks a tracking number or a label code; the length tells which.
+#[tactic(auto, unfolding(crate::specs::Number::kind_of, crate::specs::Number::checked_number))]
 pub fn check_number(symbols: &[u8]) -> Result<Kind, Refusal>
     ensures { result ≡ checked_number symbols.now }
 {
-    let table = steps::laid_out();
-    let n = symbols.len();
-    if n == 15 {
-        return check_as(&table, Kind::Tracking, symbols);
-    }
-    if n == 28 {
-        return check_as(&table, Kind::Label, symbols);
-    }
-    Err(Refusal {
-        why: Reason::WrongLength,
-        place: 0,
-    })
+    let Some(kind) = Kind::of_length(symbols.len()) else {
+        return Err(Refusal::new(Reason::WrongLength, 0));
+    };
+    check_as(&Steps::laid_out(), kind, symbols)
 }
 
 // Issues the number that has this body: body and check are written at the output's start.
+#[tactic(auto, using(crate::proofs::Issuing::kinds), unfolding(crate::specs::Answer::issued_to))]
 pub fn issue_number(body: &[u8], output: &mut [u8]) -> Result<usize, Refusal>
     ensures { Issues body.now output.old result output.new }
 {
-    let table = steps::laid_out();
-    let n = body.len();
-    if n == 14 {
-        return issue_as(&table, Kind::Tracking, body, output);
-    }
-    if n == 27 {
-        return issue_as(&table, Kind::Label, body, output);
-    }
-    Err(Refusal {
-        why: Reason::WrongLength,
-        place: 0,
-    })
+    let Some(kind) = Kind::of_length(body.len() + 1) else {
+        return Err(Refusal::new(Reason::WrongLength, 0));
+    };
+    issue_as(kind, body, output)
 }
 
 // Checks a number that has the length of its kind. Its check is walked over like the other symbols: it makes the sum leave 1 modulo 36, so
 // that the carry behind it is 2. A day's numbers are checked by this too.
-pub fn check_as(table: &[u8; 1296], kind: Kind, symbols: &[u8]) -> Result<Kind, Refusal>
-    requires { (table.now ≡ steps) × (length symbols.now ≡ length_of kind) }
+#[tactic(auto, using(crate::proofs::Shapes::has_last, crate::proofs::Checking::checks))]
+pub fn check_as(steps: &Steps, kind: Kind, symbols: &[u8]) -> Result<Kind, Refusal>
+    requires { length symbols.now ≡ length_of kind }
     ensures { result ≡ checked_as kind symbols.now }
 {
-    let n = symbols.len();
-    let walked = walk(table, kind, symbols);
-    if walked.wrong < n {
-        return Err(Refusal {
-            why: Reason::WrongSymbol,
-            place: walked.wrong,
-        });
-    }
-    if walked.carry == 2 {
+    let carry = walk(steps, kind, symbols)?;
+    if carry.number == 2 {
         return Ok(kind);
     }
-    Err(Refusal {
-        why: Reason::WrongCheck,
-        place: n - 1,
-    })
+    Err(Refusal::new(Reason::WrongCheck, symbols.len() - 1))
 }
 
 // Issues a number from a body that is one symbol shorter than its kind.
-fn issue_as(
-    table: &[u8; 1296],
-    kind: Kind,
-    body: &[u8],
-    output: &mut [u8],
-) -> Result<usize, Refusal>
-    requires { (table.now ≡ steps) × (length body.now + 1 ≡ length_of kind) }
-    ensures { (result ≡ issue_as kind body.now (length output.old))
-        × (output.new ≡ issued_to result body.now (check_of body.now) output.old) }
+#[tactic(auto, using(crate::proofs::Issuing::issues, crate::proofs::Issuing::issued_with), unfolding(crate::specs::Answer::issued_to))]
+fn issue_as(kind: Kind, body: &[u8], output: &mut [u8]) -> Result<usize, Refusal>
+    requires { length body.now + 1 ≡ length_of kind }
+    ensures told { result ≡ issue_as kind body.now (length output.old) }
+    ensures wrote { output.new ≡ issued_to result body.now (check_of body.now) output.old }
 {
-    let walked = walk(table, kind, body);
-    if walked.wrong < body.len() {
-        return Err(Refusal {
-            why: Reason::WrongSymbol,
-            place: walked.wrong,
-        });
-    }
-    let check = carry::closing(walked.carry);
-    answer::issue(body, check, output)
+    let carry = walk(&Steps::laid_out(), kind, body)?;
+    answer::issue(body, carry.closing(), output)
 }
 
-// Walks to the first symbol that is not allowed where it stands, or the end, and takes the carry along. That is a whole word: a byte would be
-// put into a part of a register, and so wait for the number before it in a day's numbers.
-fn walk(table: &[u8; 1296], kind: Kind, symbols: &[u8]) -> Walked
-    requires { (table.now ≡ steps) × (length symbols.now ≤ length_of kind) }
-    ensures { (result.wrong ≡ wrong_in_number kind symbols.now)
-        × (result.carry ≡ carry (take result.wrong symbols.now)) }
+// Walks over symbols that may stand in a number of this kind, and takes the carry along; the first that may not is refused.
+#[tactic(auto, using(crate::proofs::Walks::walks, crate::proofs::Carries::carry_next))]
+fn walk(steps: &Steps, kind: Kind, symbols: &[u8]) -> Result<Carry, Refusal>
+    ensures { result ≡ walked (allowed_in_number kind) symbols.now (carry symbols.now) }
 {
-    let mut carry: usize = 36;
-    let mut i: usize = 0;
-    while i < symbols.len() {
-        let b = symbols[i];
-        if !is_allowed(kind, i, b) {
-            return Walked {
-                wrong: i,
-                carry: carry as u8,
-            };
+    let mut carry = Carry::start();
+    for (i, &b) in symbols.iter().enumerate() {
+        if !kind.allows(i, b) {
+            return Err(Refusal::new(Reason::WrongSymbol, i));
         }
-        carry = carry::next(table, carry, symbol::value(b)) as usize;
-        i += 1;
+        carry = steps.next(carry, b);
     }
-    Walked {
-        wrong: i,
-        carry: carry as u8,
-    }
-}
-
-// Whether the byte b may stand at the place i of a number.
-fn is_allowed(kind: Kind, i: usize, b: u8) -> bool
-    requires { i < length_of kind }
-    ensures { result ≡ allowed_in_number kind i b }
-{
-    match kind {
-        Kind::Tracking => {
-            if i < 14 {
-                return text::is_digit(b);
-            }
-            text::is_symbol(b)
-        }
-        Kind::Label => {
-            if i < 7 {
-                return text::is_symbol(b);
-            }
-            if i < 27 {
-                return text::is_digit(b);
-            }
-            text::is_symbol(b)
-        }
-    }
+    Ok(carry)
 }

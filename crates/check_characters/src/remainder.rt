@@ -4,60 +4,78 @@ ghost use Rattle.check_characters.specs.Iban.{spread, decimal_from, iban_number}
 
 use crate::symbol;
 
-// The remainder by 97 of an IBAN's number: behind the account part, and from there behind the first four.
-pub fn of_iban(symbols: &[u8]) -> u64
+// A remainder by 97.
+#[derive(Clone, Copy)]
+pub struct Remainder {
+    pub number: u64,
+    ghost small: { number < 97 },
+}
+
+// The remainder of an IBAN's number: behind the account part, and from there behind the first four.
+pub fn of_iban(symbols: &[u8]) -> Remainder
     requires { 4 ≤ length symbols.now }
-    ensures { result ≡ iban_number symbols.now % 97 }
+    ensures { result.number ≡ iban_number symbols.now % 97 }
 {
-    let n = symbols.len();
-    walk(walk(0, &symbols[4..n]), &symbols[0..4])
+    let (first, account) = symbols.split_at(4);
+    Remainder::of(0).behind(account).behind(first)
 }
 
-// The remainder behind a run of symbols, where it is `start` in front of it. It is taken once for four symbols, which leave the number
-// below 10,000,000,000.
-fn walk(start: u64, run: &[u8]) -> u64
-    requires { start < 97 }
-    ensures { result ≡ decimal_from start (spread run.now) % 97 }
-{
-    let mut n = start;
-    let mut i: usize = 0;
-    while i + 3 < run.len() {
-        n = behind_four(n, run[i], run[i + 1], run[i + 2], run[i + 3]) % 97;
-        i += 4;
+impl Remainder {
+    // That of a number.
+    fn of(n: u64) -> Remainder
+        ensures { result.number ≡ n % 97 }
+    {
+        Remainder { number: n % 97 }
     }
-    walk_rest(n, &run[i..])
-}
 
-// The number behind four more symbols, where it is `n` in front of them.
-fn behind_four(n: u64, a: u8, b: u8, c: u8, d: u8) -> u64
-    requires { n < 97 }
-    ensures { result ≡ decimal_from n (spread (a ∷ b ∷ c ∷ d ∷ [])) }
-{
-    behind(behind(behind(behind(n, a), b), c), d)
+    // The remainder behind a run of symbols. It is taken once for four symbols, which leave the number below 10,000,000,000.
+    #[tactic(auto, using(crate::proofs::Digits::four_on))]
+    fn behind(self, run: &[u8]) -> Remainder
+        ensures { result.number ≡ decimal_from self.number (spread run.now) % 97 }
+    {
+        let mut last = self;
+        let mut left = run;
+        while let [a, b, c, d, rest @ ..] = left {
+            last = Remainder::of(last.number_behind_four(*a, *b, *c, *d));
+            left = rest;
+        }
+        last.behind_each(left)
+    }
+
+    // The remainder behind a run of symbols, taken symbol by symbol.
+    #[tactic(auto, using(crate::proofs::Digits::one_on, crate::proofs::Digits::walk_ends))]
+    fn behind_each(self, run: &[u8]) -> Remainder
+        ensures { result.number ≡ decimal_from self.number (spread run.now) % 97 }
+    {
+        let mut last = self;
+        for &b in run {
+            last = Remainder::of(number_behind(last.number, b));
+        }
+        last
+    }
+
+    // The number behind four more symbols.
+    #[tactic(auto, using(crate::proofs::Digits::behind_each))]
+    fn number_behind_four(self, a: u8, b: u8, c: u8, d: u8) -> u64
+        ensures { result ≡ decimal_from self.number (spread (a ∷ b ∷ c ∷ d ∷ [])) }
+    {
+        number_behind(
+            number_behind(number_behind(number_behind(self.number, a), b), c),
+            d,
+        )
+    }
 }
 
 // The number behind one more symbol, where it is `n` in front of it: a letter is two digits.
-fn behind(n: u64, b: u8) -> u64
+#[tactic(auto, using(crate::proofs::Digits::behind_letter, crate::proofs::Digits::behind_digit, crate::proofs::Symbols::value_le))]
+fn number_behind(n: u64, b: u8) -> u64
     requires { n < 100000000 }
-    ensures { (result ≡ decimal_from n (spread (b ∷ []))) × (result < 100 * n + 36) }
+    ensures number { result ≡ decimal_from n (spread (b ∷ [])) }
+    ensures below { result < 100 * n + 36 }
 {
     let v = symbol::value(b) as u64;
     if text::is_capital(b) {
         return 100 * n + v;
     }
     10 * n + v
-}
-
-// The remainder behind what is left of a run, taken symbol by symbol.
-fn walk_rest(start: u64, run: &[u8]) -> u64
-    requires { start < 97 }
-    ensures { result ≡ decimal_from start (spread run.now) % 97 }
-{
-    let mut n = start;
-    let mut i: usize = 0;
-    while i < run.len() {
-        n = behind(n, run[i]) % 97;
-        i += 1;
-    }
-    n
 }

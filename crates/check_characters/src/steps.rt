@@ -7,7 +7,12 @@
 // counted from 0. The entry for the carry 36 and the value 0 is number 1260: 35. A comment names the carry at its first entry, that for the
 // value 0. docs/carry-table.txt, which is made from here, has the 36 of a carry on one line.
 ghost use Rattle.std.specs.Prelude.{◌≡◌};
+ghost use Rattle.check_characters.specs.Symbol.{value_of};
+ghost use Rattle.check_characters.specs.Mod37.{step};
 ghost use Rattle.check_characters.specs.Steps.{steps};
+
+use crate::carry::Carry;
+use crate::symbol;
 
 const STEPS: [u8; 1296] = [
     2, // carry 1
@@ -85,10 +90,30 @@ const STEPS: [u8; 1296] = [
     17, 19, 21, 23, 25, 27, 29, 31, 33,
 ];
 
-// The table, for a call to lend to all that it calls. A constant is laid out anew wherever it is read, and that takes as long as the steps
-// of a number: so it is done once.
-pub fn laid_out() -> [u8; 1296]
-    ensures { result ≡ steps }
-{
-    STEPS
+// The table, for a call to lend to all that it calls.
+#[derive(Drop)]
+pub struct Steps {
+    entries: [u8; 1296],
+    ghost by_the_step: { entries ≡ steps },
+}
+
+impl Steps {
+    // A constant is laid out anew wherever it is read, and that takes as long as the steps of a number: so it is done once in a call.
+    #[tactic(auto, unfolding(crate::specs::Steps::steps, crate::specs::Mod37::step))]
+    pub(crate) fn laid_out() -> Steps
+        ensures { result.entries ≡ steps }
+    {
+        Steps { entries: STEPS }
+    }
+
+    // The carry after one more symbol, as the table has it.
+    #[tactic(auto, using(crate::proofs::Entries::entry_inside, crate::proofs::Entries::entry_read, crate::proofs::Symbols::value_le, crate::proofs::Carries::step_carry))]
+    pub fn next(&self, carry: Carry, b: u8) -> Carry
+        ensures { result ≡ step carry (value_of b) }
+    {
+        let value = symbol::value(b) as usize;
+        Carry {
+            number: self.entries[(carry.number - 1) * 36 + value] as usize,
+        }
+    }
 }

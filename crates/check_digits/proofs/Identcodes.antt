@@ -1,35 +1,32 @@
 -- Identcodes: the walk over digits and their weights, the check digit, and what each call answers, by cases.
 use Prim.Native.Nat.{ℕ, suc, ◌+◌, ◌-◌, ◌*◌, ◌%◌, ◌≤◌, ◌<◌}
 use mathlib.Core.Path.{◌≡◌, refl, sym, ap, ◌∙◌}
-use mathlib.Core.Bool.{Bool, true, false, not}
+use mathlib.Core.Bool.{true, false, not}
 use mathlib.Core.List.{List, [], ◌∷◌, ◌++◌}
 use mathlib.Core.Logic.{⊎_elim}
 use native.Mathlib.Omega.{arith}
 use native.Mathlib.Nat.{zero-add, add-zero, suc-add, add-suc}
 use native.Mathlib.Numerals.{add-one}
 use lib.Dec.{eqb, ltb}
-use mir.Val.{Fits}
-use mir.Syntax.{w32}
 use lib.ListN.{length, get_or, take, length-take}
 use lib.Seq.{take-suc, take_all}
-use borrow.Author.Tests.{eqb-true, eq-eqb, ne_eqb, lt-ltb, le-ltb, ltb-false, not-false}
+use borrow.Author.Tests.{eqb-true, eq-eqb, ne_eqb, le-ltb, ltb-false, not-false}
 use Rattle.refusal.specs.declared.Reason.TheVariants.{WrongLength, WrongSymbol, WrongCheck}
 use Rattle.refusal.specs.declared.Refusal.{Refusal}
 use Rattle.refusal.specs.Table.{because, verdict_on}
 use Rattle.refusal.proofs.Verdicts.{no_pass}
-use Rattle.std.specs.Prelude.{if◌then◌else◌, ⊤, Result, Ok, Err}
+use Rattle.std.specs.Prelude.{if◌then◌else◌, Ok, Err}
 use Rattle.text.specs.Byte.{digit}
 use Rattle.text.proofs.Choices.{came_then, came_else}
 use Rattle.text.proofs.Bytes.{digit_range}
 use Rattle.text.proofs.Numbers.{eq_or_ne}
 use Rattle.text.proofs.Scans.{none_fails}
 use Rattle.check_characters.specs.Symbol.{value_of, symbol_of}
-use Rattle.check_characters.specs.Answer.{room_for}
-use Rattle.check_digits.specs.Identcode.{allowed_in_identcode, position, parts, wrong_in_identcode, weight_at}
+use Rattle.check_characters.specs.Answer.{walked, room_for}
+use Rattle.check_characters.proofs.Walks.{walked_refused, walked_whole}
+use Rattle.check_digits.specs.Identcode.{allowed_in_identcode, wrong_in_identcode, weight_at}
 use Rattle.check_digits.specs.Identcode.{weighed_from, weighed, check_digit, check_digit_of, passes}
-use Rattle.check_digits.specs.Identcode.{checked_identcode, parts_where, parts_answer, issue_identcode_answer}
-use Rattle.check_digits.specs.declared.identcode.Part.{Part}
-use Rattle.check_digits.specs.declared.identcode.Parts.{Parts}
+use Rattle.check_digits.specs.Identcode.{checked_identcode, issue_identcode_answer}
 use Rattle.check_characters.proofs.Symbols.{value_digit, low_symbol}
 
 module _ (i : ℕ) where
@@ -54,37 +51,25 @@ weighed_more s i h =
     (ap weighed (take-suc s i 0 h) ∙ weighed_append 0 (take i s) (get_or s i 0 ∷ [])
     ∙ rw (n, zero-add) (omega arith))
 
--- a byte that passed the test of the loop at the place i
-module _ (b : ℕ) (t : Bool) (et : t ≡ digit b) (q : not t ≡ false) where
-  is_digit : digit b ≡ true
-  is_digit = sym et ∙ not-false t q
+-- a walk at the place i that has walked over what lies in front of it
+module _ (s : List ℕ) (i : ℕ) (h : i < length s) where
+  -- the byte there passes
+  module _ (t : digit (get_or s i 0) ≡ true) where
+    pub digit_there : (48 ≤ get_or s i 0) × (get_or s i 0 ≤ 57)
+    digit_there = digit_range (get_or s i 0) t
 
-  pub digit_least : 48 ≤ b
-  digit_least = (digit_range b is_digit).0
+    pub digit_weighs : weighed (take (i + 1) s) ≡ weighed (take i s) + weight_at i * (get_or s i 0 - 48)
+    digit_weighs = rw (value_digit (get_or s i 0) (digit (get_or s i 0)) refl t) (weighed_more s i h)
 
-  pub digit_fits : Fits w32 (b - 48)
-  digit_fits = omega (arith, digit_range b is_digit)
+pub weighs_little : (i d : ℕ) → d ≤ 9 → weight_at i * d ≤ 27
+weighs_little i d l =
+    ⊎_elim (λ z. rw (sym (weight_three i z)) (omega arith)) (λ z. rw (sym (weight_one i z)) (omega arith)) (eq_or_ne (i % 2) 0)
 
-  module _ (w i : ℕ) (ew : w ≡ weight_at i) where
-    weighs_little : w * (b - 48) ≤ 27
-    weighs_little =
-        let r = digit_range b is_digit in
-        ⊎_elim (λ z. rw (ew ∙ sym (weight_three i z)) (omega arith)) (λ z. rw (ew ∙ sym (weight_one i z)) (omega arith)) (eq_or_ne (i % 2) 0)
+-- and behind all of them
+pub weighed_ends : (s : List ℕ) (i sum : ℕ) → sum ≡ weighed (take i s) → length s ≤ i → sum ≡ weighed s
+weighed_ends s i sum e h = e ∙ ap weighed (take_all i s h)
 
-    pub weighs_fits : Fits w32 (w * (b - 48))
-    weighs_fits = omega (arith, weighs_little)
-
-    module _ (s : List ℕ) (sum : ℕ) (h : i < length s) where
-      pub sum_stays : length s ≤ 22 → sum ≤ 27 * i → Fits w32 (sum + w * (b - 48))
-      sum_stays short l = omega (arith, weighs_little)
-
-      pub sum_little : sum ≤ 27 * i → sum + w * (b - 48) ≤ 27 * (i + 1)
-      sum_little l = omega (arith, weighs_little)
-
-      pub sum_on : b ≡ get_or s i 0 → sum ≡ weighed (take i s) → sum + w * (b - 48) ≡ weighed (take (i + 1) s)
-      sum_on eb e =
-          let v : b - 48 ≡ value_of (get_or s i 0) = value_digit b (digit b) refl is_digit ∙ ap value_of eb in
-          sym (weighed_more s i h ∙ rw (← e, ← ew, ← v))
+pub ruleset weighings = (digit_there, digit_weighs, weighs_little)
 
 -- the check digit of a sum
 module _ (left sum : ℕ) (e : left ≡ sum % 10) where
@@ -127,31 +112,32 @@ module _ (s : List ℕ) (long : length s ≡ 22) (fine : length s ≤ wrong_in_i
 
 -- what checking a code answers
 module _ (s : List ℕ) where
-  pub checked_length : (length s ≡ 22 → ⊥) → Err (because WrongLength 0) ≡ checked_identcode s
+  pub checked_length : (length s ≡ 22 → ⊥) → checked_identcode s ≡ Err (because WrongLength 0)
   unfolding checked_identcode
   checked_length n = simp (ne_eqb (length s) 22)
 
-  module _ (long : length s ≡ 22) (wrong sum : ℕ) (ew : wrong ≡ wrong_in_identcode s) (es : sum ≡ weighed (take wrong s)) where
-    pub checked_wrong : wrong < 22 → Err (because WrongSymbol wrong) ≡ checked_identcode s
+  module _ (long : length s ≡ 22) where
+    pub checked_refused : (r : Refusal) → walked allowed_in_identcode s (weighed s) ≡ Err r → checked_identcode s ≡ Err r
     unfolding checked_identcode
-    checked_wrong h = simp (eq-eqb (length s) 22, ← ew, lt-ltb wrong (length s) (omega arith))
+    checked_refused r e = let a = walked_refused allowed_in_identcode s (weighed s) r e in simp (eq-eqb (length s) 22, a.0) (rw a.1)
 
-    module _ (h : 22 ≤ wrong) where
+    module _ (sum : ℕ) (e : walked allowed_in_identcode s (weighed s) ≡ Ok sum) where
       fine : length s ≤ wrong_in_identcode s
-      fine = omega arith
+      fine = (walked_whole allowed_in_identcode s (weighed s) sum e).0
 
-      whole : sum ≡ weighed s
-      whole = es ∙ ap weighed (take_all wrong s (omega arith))
-
-      pub checked_passes : sum % 10 ≡ 0 → Ok tt ≡ checked_identcode s
+      pub checked_passes : sum % 10 ≡ 0 → checked_identcode s ≡ Ok tt
       unfolding checked_identcode
-      checked_passes e =
-          simp (eq-eqb (length s) 22, ← ew, le-ltb wrong (length s) (omega arith), passes_leaves s long fine (rw (← whole) e))
+      checked_passes z =
+          let a = walked_whole allowed_in_identcode s (weighed s) sum e in
+          simp (eq-eqb (length s) 22, le-ltb (wrong_in_identcode s) (length s) fine, passes_leaves s long fine (rw (← a.1) z))
 
-      pub checked_fails : (sum % 10 ≡ 0 → ⊥) → Err (because WrongCheck 21) ≡ checked_identcode s
+      pub checked_fails : (sum % 10 ≡ 0 → ⊥) → checked_identcode s ≡ Err (because WrongCheck 21)
       unfolding checked_identcode
       checked_fails n =
-          simp (← ew, long, le-ltb wrong 22, leaves_passes s long fine (λ e. n (rw whole e)))
+          let a = walked_whole allowed_in_identcode s (weighed s) sum e in
+          simp (long, le-ltb (wrong_in_identcode s) 22 (omega (arith, a.0)), leaves_passes s long fine (λ z. n (rw a.1 z)))
+
+pub ruleset checks = (checked_length, checked_refused, checked_passes, checked_fails)
 
 -- what an accepted code is
 pub record Whole (s : List ℕ) : Type 0 where
@@ -174,34 +160,27 @@ accepted_whole s e =
       closed = c.0;
     }
 
--- reading its parts
-pub all_six : (a b c d e f : Part) → a ≡ position 1 2 → b ≡ position 3 7 → c ≡ position 8 15 → d ≡ position 16 17 → e ≡ position 18 21 →
-    f ≡ position 22 22 → record { origin = a; customer = b; sequence = c; product = d; destination = e; check = f } ≡ parts
-all_six a b c d e f ea eb ec ed ee ef = rw (ea, eb, ec, ed, ee, ef)
-
-module _ (s : List ℕ) (a : Result ⊤ Refusal) (ea : a ≡ checked_identcode s) where
-  pub parts_read : (found : Parts) → found ≡ parts → a ≡ Ok tt → Ok found ≡ parts_answer s
-  unfolding parts_answer
-  parts_read found f e = ap Ok f ∙ ap parts_where (sym e ∙ ea)
-
-  pub parts_refused : (refusal : Refusal) → a ≡ Err refusal → Err refusal ≡ parts_answer s
-  unfolding parts_answer
-  parts_refused refusal e = ap parts_where (sym e ∙ ea)
-
 -- and issuing one
 module _ (body : List ℕ) (room : ℕ) where
-  pub identcode_length : (length body ≡ 21 → ⊥) → Err (because WrongLength 0) ≡ issue_identcode_answer body room
+  pub identcode_length : (length body ≡ 21 → ⊥) → issue_identcode_answer body room ≡ Err (because WrongLength 0)
   unfolding issue_identcode_answer
   identcode_length n = simp (ne_eqb (length body) 21)
 
-  module _ (long : length body ≡ 21) (wrong : ℕ) (ew : wrong ≡ wrong_in_identcode body) where
-    pub identcode_wrong : wrong < 21 → Err (because WrongSymbol wrong) ≡ issue_identcode_answer body room
+  module _ (long : length body ≡ 21) where
+    pub identcode_refused : (r : Refusal) → walked allowed_in_identcode body (weighed body) ≡ Err r → issue_identcode_answer body room ≡ Err r
     unfolding issue_identcode_answer
-    identcode_wrong h = simp (eq-eqb (length body) 21, ← ew, lt-ltb wrong (length body) (omega arith))
+    identcode_refused r e = let a = walked_refused allowed_in_identcode body (weighed body) r e in simp (eq-eqb (length body) 21, a.0) (rw a.1)
 
-    pub identcode_right : (r : Result ℕ Refusal) → 21 ≤ wrong → r ≡ room_for (length body + 1) room → r ≡ issue_identcode_answer body room
+    -- where every symbol is a digit
+    pub identcode_right : length body ≤ wrong_in_identcode body → issue_identcode_answer body room ≡ room_for (length body + 1) room
     unfolding issue_identcode_answer
-    identcode_right r h e = simp (eq-eqb (length body) 21, ← ew, le-ltb wrong (length body) (omega arith)) (rw long at e)
+    identcode_right f = simp (long, le-ltb (wrong_in_identcode body) 21 (omega arith))
 
-    pub identcode_check : (sum check : ℕ) → 21 ≤ wrong → sum ≡ weighed (take wrong body) → check ≡ check_digit sum → check ≡ check_digit_of body
-    identcode_check sum check h es ec = ec ∙ ap check_digit (es ∙ ap weighed (take_all wrong body (omega arith)))
+    module _ (sum : ℕ) (e : walked allowed_in_identcode body (weighed body) ≡ Ok sum) where
+      pub identcode_walked : issue_identcode_answer body room ≡ room_for (length body + 1) room
+      identcode_walked = identcode_right (walked_whole allowed_in_identcode body (weighed body) sum e).0
+
+      pub identcode_check : check_digit sum ≡ check_digit_of body
+      identcode_check = ap check_digit (walked_whole allowed_in_identcode body (weighed body) sum e).1
+
+pub ruleset issues = (identcode_length, identcode_refused, identcode_walked, identcode_check)

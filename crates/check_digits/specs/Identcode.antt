@@ -12,7 +12,7 @@ use Rattle.std.specs.Prelude.{ℕ, suc, ◌+◌, ◌-◌, ◌*◌, ◌%◌, ◌�
 use Rattle.text.specs.Byte.{digit}
 use Rattle.text.specs.Scan.{first_failing}
 use Rattle.refusal.specs.declared.Reason.TheVariants.{WrongLength, WrongSymbol, WrongCheck}
-use Rattle.refusal.specs.Table.{because, verdict_of, Verdict}
+use Rattle.refusal.specs.Table.{because}
 use Rattle.check_characters.specs.Symbol.{value_of, symbol_of}
 use Rattle.check_characters.specs.Answer.{room_for, issued_to}
 use Rattle.check_digits.specs.declared.identcode.Part.{Part}

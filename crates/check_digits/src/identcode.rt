@@ -8,21 +8,30 @@
 //
 // 204 leaves 4 by 10, and 10 - 4 is 6. The check digit itself would weigh 1: so a code passes where all its 22 digits, weighed, leave
 // 0, here 210. That takes one walk.
-ghost use Rattle.std.specs.Prelude.{◌≡◌, ◌≤◌, length, take};
-ghost use Rattle.check_digits.specs.Identcode.{wrong_in_identcode, weight_at, weighed, check_digit, checked_identcode};
+ghost use Rattle.std.specs.Prelude.{◌≡◌, ◌≤◌, length};
+ghost use Rattle.check_digits.specs.Identcode.{allowed_in_identcode, weight_at, weighed, check_digit, checked_identcode};
 ghost use Rattle.check_digits.specs.Identcode.{parts_answer, IssuesIdentcode};
+ghost use Rattle.check_characters.specs.Answer.{walked};
 
 use refusal::{Reason, Refusal};
 
 // One part: where it starts in the code, and how many digits it has.
-#[derive(Clone, Copy)]
+#[derive(Clone, Copy, Debug, PartialEq, Eq)]
 pub struct Part {
     pub start: usize,
     pub length: usize,
 }
 
+impl Part {
+    fn new(start: usize, length: usize) -> Part
+        ensures { result ≡ record { start = start; length = length } }
+    {
+        Part { start, length }
+    }
+}
+
 // The parts of an identcode, in their order.
-#[derive(Clone, Copy)]
+#[derive(Clone, Copy, Debug, PartialEq, Eq)]
 pub struct Parts {
     // Country of origin or partner.
     pub origin: Part,
@@ -36,98 +45,67 @@ pub struct Parts {
     pub check: Part,
 }
 
-// How far digits reach, and their sum, each times its weight.
-#[derive(Clone, Copy)]
-struct Walk {
-    wrong: usize,
-    sum: u32,
-}
-
 // Checks an identcode.
+#[tactic(auto, using(crate::proofs::Identcodes::checks))]
 pub fn check_identcode(code: &[u8]) -> Result<(), Refusal>
     ensures { result ≡ checked_identcode code.now }
 {
     if code.len() != 22 {
-        return Err(Refusal {
-            why: Reason::WrongLength,
-            place: 0,
-        });
+        return Err(Refusal::new(Reason::WrongLength, 0));
     }
-    let walk = weigh(code);
-    if walk.wrong < 22 {
-        return Err(Refusal {
-            why: Reason::WrongSymbol,
-            place: walk.wrong,
-        });
-    }
-    if walk.sum % 10 == 0 {
+    let sum = weigh(code)?;
+    if sum % 10 == 0 {
         return Ok(());
     }
-    Err(Refusal {
-        why: Reason::WrongCheck,
-        place: 21,
-    })
+    Err(Refusal::new(Reason::WrongCheck, 21))
 }
 
 // Reads the six parts of an identcode that passes.
+#[tactic(auto, unfolding(crate::specs::Identcode::parts_answer))]
 pub fn read_identcode(code: &[u8]) -> Result<Parts, Refusal>
     ensures { result ≡ parts_answer code.now }
 {
-    let answer = check_identcode(code);
-    match answer {
-        Ok(()) => Ok(Parts {
-            origin: part_at(0, 2),
-            customer: part_at(2, 5),
-            sequence: part_at(7, 8),
-            product: part_at(15, 2),
-            destination: part_at(17, 4),
-            check: part_at(21, 1),
-        }),
-        Err(refusal) => Err(refusal),
-    }
+    check_identcode(code)?;
+    Ok(Parts {
+        origin: Part::new(0, 2),
+        customer: Part::new(2, 5),
+        sequence: Part::new(7, 8),
+        product: Part::new(15, 2),
+        destination: Part::new(17, 4),
+        check: Part::new(21, 1),
+    })
 }
 
 // Issues the identcode that has these 21 digits: they and their check digit are written at the output's start.
+#[tactic(auto, using(crate::proofs::Identcodes::issues, check_characters::proofs::Issuing::issued_with), unfolding(check_characters::specs::Answer::issued_to))]
 pub fn issue_identcode(body: &[u8], output: &mut [u8]) -> Result<usize, Refusal>
     ensures { IssuesIdentcode body.now output.old result output.new }
 {
     if body.len() != 21 {
-        return Err(Refusal {
-            why: Reason::WrongLength,
-            place: 0,
-        });
+        return Err(Refusal::new(Reason::WrongLength, 0));
     }
-    let walk = weigh(body);
-    if walk.wrong < 21 {
-        return Err(Refusal {
-            why: Reason::WrongSymbol,
-            place: walk.wrong,
-        });
-    }
-    let check = check_digit(walk.sum);
-    check_characters::issue(body, check, output)
+    let sum = weigh(body)?;
+    check_characters::issue(body, check_digit(sum), output)
 }
 
-// Walks over digits to the first symbol that is no digit, or the end.
-fn weigh(digits: &[u8]) -> Walk
+// The sum of digits, each times its weight; the first symbol that is none is refused.
+#[tactic(auto, using(check_characters::proofs::Walks::walks, crate::proofs::Identcodes::weighings))]
+fn weigh(digits: &[u8]) -> Result<u32, Refusal>
     requires { length digits.now ≤ 22 }
-    ensures { (result.wrong ≡ wrong_in_identcode digits.now)
-        × (result.sum ≡ weighed (take result.wrong digits.now)) }
+    ensures { result ≡ walked allowed_in_identcode digits.now (weighed digits.now) }
 {
-    let mut sum: u32 = 0;
-    let mut i: usize = 0;
-    while i < digits.len() {
-        let b = digits[i];
+    let mut sum = 0;
+    for (i, &b) in digits.iter().enumerate() {
         if !text::is_digit(b) {
-            return Walk { wrong: i, sum: sum };
+            return Err(Refusal::new(Reason::WrongSymbol, i));
         }
         sum += weight_at(i) * ((b - b'0') as u32);
-        i += 1;
     }
-    Walk { wrong: i, sum: sum }
+    Ok(sum)
 }
 
 // The weight at a place.
+#[tactic(auto, unfolding(crate::specs::Identcode::weight_at))]
 fn weight_at(i: usize) -> u32
     ensures { result ≡ weight_at i }
 {
@@ -138,22 +116,9 @@ fn weight_at(i: usize) -> u32
 }
 
 // The check digit that goes with a sum.
+#[tactic(auto, using(crate::proofs::Identcodes::digit_is))]
 fn check_digit(sum: u32) -> u8
     ensures { result ≡ check_digit sum }
 {
-    let left = (sum % 10) as u8;
-    if left == 0 {
-        return b'0';
-    }
-    b'0' + (10 - left)
-}
-
-// A part that starts here and has so many digits.
-fn part_at(start: usize, length: usize) -> Part
-    ensures { result ≡ record { start = start; length = length } }
-{
-    Part {
-        start: start,
-        length: length,
-    }
+    b'0' + (10 - (sum % 10) as u8) % 10
 }

@@ -1,38 +1,45 @@
--- A list of countries read pair by pair: the pair here, and those behind it.
-use Prim.Native.Nat.{ℕ, ◌+◌, ◌-◌, ◌≤◌, ◌<◌}
+-- A list of countries read pair by pair.
+use Prim.Native.Nat.{ℕ}
 use mathlib.Core.Path.{◌≡◌, refl, sym, ap, ◌∙◌}
-use mathlib.Core.Bool.{Bool, true, false, ◌||◌}
-use mathlib.Core.List.{List, [], ◌∷◌}
+use mathlib.Core.Bool.{◌||◌}
+use mathlib.Core.List.{List, [], ◌∷◌, ◌++◌}
 use native.Mathlib.Omega.{arith}
-use lib.ListN.{length, take, drop, length-drop}
-use lib.Seq.{drop-drop}
+use lib.ListN.{length, length-append}
+use Rattle.std.proofs.lemmas.Iterator.{YieldsList}
+use Rattle.std.specs.Iterator.{AlwaysYields}
+use Rattle.std.specs.List.{list_any}
+use Rattle.std.specs.Slice.Iter.{chunks_exact_rest, chunks_exact_size, chunks_exact_steps}
+use Rattle.std.specs.declared.slice.ChunksExact.{ChunksExact}
 use Rattle.text.specs.Scan.{same}
 use Rattle.countries.specs.List.{is_listed}
 
-first_pair : (s country : List ℕ) → 2 ≤ length s → is_listed s country ≡ (same (take 2 s) country || is_listed (drop 2 s) country)
-first_pair [] country h = absurd (omega arith)
-first_pair (a ∷ []) country h = absurd (omega arith)
-first_pair (a ∷ b ∷ s) country h = refl
+abbrev pub pairs_of : List ℕ → List (List ℕ)
+pairs_of [] = []
+pairs_of (a ∷ []) = []
+pairs_of (a ∷ b ∷ more) = (a ∷ b ∷ []) ∷ pairs_of more
 
-no_pair : (s country : List ℕ) → length s < 2 → is_listed s country ≡ false
-no_pair [] country h = refl
-no_pair (a ∷ []) country h = refl
-no_pair (a ∷ b ∷ s) country h = absurd (omega arith)
+pub any_pair : (s country : List ℕ) → list_any (λ pair. same pair country) (pairs_of s) ≡ is_listed s country
+any_pair [] country = refl
+any_pair (a ∷ []) country = refl
+any_pair (a ∷ b ∷ more) country = ap (λ t. same (a ∷ b ∷ []) country || t) (any_pair more country)
 
--- a loop at the place i, and what the pairs from there on settle
-module _ (s country : List ℕ) (i : ℕ) (z : Bool) (f : is_listed (drop i s) country ≡ z) where
-  module _ (h : 2 ≤ length s - i) (t : Bool) (e : t ≡ same (take (i + 2 - i) (drop i s)) country) where
-    pair_here : z ≡ (t || is_listed (drop (i + 2) s) country)
-    pair_here =
-        let two : i + 2 - i ≡ 2 = omega arith in
-        let pair : t ≡ same (take 2 (drop i s)) country = e ∙ ap (λ (n : ℕ). same (take n (drop i s)) country) two in
-        sym f ∙ first_pair (drop i s) country (omega (arith, length-drop i s)) ∙ rw (← pair, drop-drop 2 i s)
+front_two : (a b : ℕ) (more front rest : List ℕ) → a ∷ b ∷ more ≡ front ++ rest → length front ≡ 2 → (front ≡ a ∷ b ∷ []) × (rest ≡ more)
+front_two a b more [] rest e two = absurd (omega arith)
+front_two a b more (c ∷ []) rest e two = absurd (omega arith)
+front_two a b more (c ∷ d ∷ []) rest e two = (cc, cc)
+front_two a b more (c ∷ d ∷ f ∷ t) rest e two = absurd (omega arith)
 
-    pub listed_here : t ≡ true → true ≡ z
-    listed_here q = sym (rw q at pair_here)
+-- the library's chunks of two are the pairs
+given : (l : List ℕ) (s : ChunksExact ℕ) → chunks_exact_size s ≡ 2 → chunks_exact_rest s ≡ l →
+    AlwaysYields chunks_exact_steps (λ x. x.now) s (pairs_of l)
+given [] s two e = λ x j p. omega (arith, ap length (sym e ∙ p.1.0), length-append x.now (chunks_exact_rest j), p.1.1, two)
+given (a ∷ []) s two e = λ x j p. omega (arith, ap length (sym e ∙ p.1.0), length-append x.now (chunks_exact_rest j), p.1.1, two)
+given (a ∷ b ∷ more) s two e = (
+  λ j p. omega (arith, p.1.0, ap length e, two),
+  λ x j p. let f = front_two a b more x.now (chunks_exact_rest j) (sym e ∙ p.1.0) (p.1.1 ∙ two) in
+      (f.0, given more j (p.0 ∙ two) f.1),
+)
 
-    pub listed_on : t ≡ false → is_listed (drop (i + 2) s) country ≡ z
-    listed_on q = sym (rw q at pair_here)
-
-  pub listed_none : length s - i < 2 → false ≡ z
-  listed_none h = sym (no_pair (drop i s) country (omega (arith, length-drop i s))) ∙ f
+pub pairs_given : {s : ChunksExact ℕ} (l : List ℕ) → chunks_exact_size s ≡ 2 → chunks_exact_rest s ≡ l →
+    YieldsList chunks_exact_steps (λ x. x.now) s (pairs_of l)
+pairs_given {s} l two e = record { runs = given l s two e }

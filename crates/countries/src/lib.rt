@@ -5,6 +5,7 @@ ghost use Rattle.std.specs.Prelude.{◌≡◌};
 ghost use Rattle.countries.specs.List.{is_paired, is_listed};
 
 // Whether the list is one of pairs: its length is not odd.
+#[tactic(auto, unfolding(crate::specs::List::is_paired))]
 pub fn is_paired(countries: &[u8]) -> bool
     ensures { result ≡ is_paired countries.now }
 {
@@ -15,12 +16,7 @@ pub fn is_paired(countries: &[u8]) -> bool
 pub fn is_listed(countries: &[u8], country: &[u8]) -> bool
     ensures { result ≡ is_listed countries.now country.now }
 {
-    let mut i: usize = 0;
-    while 2 <= countries.len() - i {
-        if text::equal(&countries[i..i + 2], country) {
-            return true;
-        }
-        i += 2;
-    }
-    false
+    countries
+        .chunks_exact(2)
+        .any(|pair| text::equal(pair, country))
 }

@@ -10,7 +10,7 @@ use Rattle.check_characters.specs.Day.{day_answers, zeros, day_answer, answers_a
 use Rattle.check_characters.proofs.Days.{day_answered}
 use Rattle.refused.specs.Day.{RefusedDay}
 use Rattle.refused.proofs.Days as days
-use Rattle.peliranopi.specs.Told.{passed_told}
+use Rattle.peliranopi.specs.Told.{value_told}
 use Rattle.peliranopi.specs.Calls.{DayTells}
 use Rattle.demands.specs.Day.{DayExactly, EachAsAlone, ZerosCounted, NoNumbers, DayInPieces}
 use Rattle.std.specs.Prelude.{Result, Ok, Err}
@@ -28,7 +28,7 @@ module _ (numbers answers after : List ℕ) (passed place : ℕ) (p : DayTells n
   unfolding answers_after
   told_answered = go (day_answer numbers (length answers)) refl p.0.0 p.1 p.2
     where
-      go : (a : Result ℕ Refusal) → a ≡ day_answer numbers (length answers) → 0 ≡ number_told (verdict_on a) → passed ≡ passed_told a →
+      go : (a : Result ℕ Refusal) → a ≡ day_answer numbers (length answers) → 0 ≡ number_told (verdict_on a) → passed ≡ value_told a →
           after ≡ answers_after a numbers answers → ChecksDay numbers answers (Ok passed) after
       go (Ok count) e n q r = (ap Ok q ∙ e, r)
       go (Err refusal) e n q r = absurd (not_zero refusal (days.day_refuses numbers answers after refusal e) n)

@@ -1,7 +1,7 @@
 -- Forms that are checks: their tests, and what an identcode's form tells of its bytes.
 use Prim.Native.Nat.{ℕ}
-use mathlib.Core.Path.{◌≡◌, refl, ap, ◌∙◌}
-use mathlib.Core.Bool.{Bool, true, false, false≢true}
+use mathlib.Core.Path.{◌≡◌, refl}
+use mathlib.Core.Bool.{true, false, false≢true}
 use mathlib.Core.List.{List}
 use lib.Dec.{eqb}
 use lib.ListN.{length}
@@ -15,10 +15,6 @@ use Rattle.check_digits.proofs.Identcodes.{code_digit, accepted_whole}
 use Rattle.fields.specs.Form.{accepted, is_identcode}
 use Rattle.std.specs.Prelude.{⊤, Result, Ok, Err}
 use Rattle.refusal.specs.declared.Refusal.{Refusal}
-
--- a test of a check's answer is a test of the answer's definition
-pub check_told : (a definition : Result ⊤ Refusal) (t : Bool) → a ≡ definition → t ≡ accepted a → t ≡ accepted definition
-check_told a definition t e q = q ∙ ap accepted e
 
 pub accepted_is : (a : Result ⊤ Refusal) → accepted a ≡ true → a ≡ Ok tt
 accepted_is (Ok _) e = refl

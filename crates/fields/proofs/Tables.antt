@@ -1,74 +1,57 @@
--- The code's table is the paper's, and no field lies past it.
-use Prim.Native.Nat.{ℕ, ◌+◌, ◌*◌, ◌/◌, ◌%◌, ◌<◌}
+-- The code's tables are the paper's, and no field lies past them.
+use Prim.Native.Nat.{ℕ, suc, ◌<◌, ◌≤◌}
 use mathlib.Core.Path.{◌≡◌, refl, sym, ap, ◌∙◌}
-use mathlib.Core.Bool.{Bool, true, false, ◌&&◌, not, false≢true}
+use mathlib.Core.Bool.{Bool, true, false, ◌&&◌, ◌||◌, not}
 use mathlib.Core.List.{List, [], ◌∷◌}
 use mathlib.Core.Logic.{⊎_elim}
 use native.Mathlib.Omega.{arith}
 use lib.Dec.{leb, eqb}
-use lib.ListN.{get_or}
-use borrow.Author.Tests.{leb-true, lt-leb, eq-eqb, ne_eqb}
-use Rattle.std.specs.Prelude.{if◌then◌else◌}
+use lib.ListN.{get_or, get_or-map}
+use denote.Bor.{Bor}
+use borrow.Author.Tests.{leb-true, lt-leb, ne_eqb}
+use Rattle.std.specs.Prelude.{if◌then◌else◌, map}
+use Rattle.std.proofs.lemmas.Bool.Decides.{nat_tests}
+use Rattle.std.proofs.lemmas.List.{get_or_past}
+use Rattle.text.specs.Scan.{among}
 use Rattle.text.specs.Tabled.{tabled}
-use Rattle.text.proofs.Numbers.{eq_or_ne}
+use Rattle.text.proofs.Numbers.{le_or_lt}
 use Rattle.text.proofs.Choices.{and_left, and_right}
-use Rattle.text.proofs.Tables.{tabled_at}
-use Rattle.records.specs.Record.{row_of, record_at, one_of}
-use Rattle.fields.specs.Profile.{Asked, anything, only, But, always, instead, narrowed, width_of, Row, names, row_in, no_field}
-use Rattle.fields.specs.Profile.{by, profile, meets, width_in_table, is_required, has_form}
-use Rattle.fields.specs.Form.{is_cash}
-use Rattle.records.specs.Version.{is_seven}
+use Rattle.text.proofs.Tables.{tabled_at, tabled_long}
+use Rattle.forms.specs.Shape.{all_digits, digits, capitals, customer, bic, mail, purpose_text}
+use Rattle.forms.specs.Amount.{amount}
+use Rattle.forms.specs.Date.{date_time}
+use Rattle.forms.specs.Feature.{is_feature}
+use Rattle.records.specs.Record.{head_of, row_of}
+use Rattle.records.specs.Version.{is_seven, is_version}
 use Rattle.records.specs.declared.version.Version.{Version}
 use Rattle.records.specs.declared.version.Version.TheVariants.{Five, Seven}
 use Rattle.records.specs.declared.record.Record.{Record}
 use Rattle.records.specs.declared.record.Record.TheVariants.{Header, Sender, Shipment, Parcel, Product, Feature}
-use Rattle.records.proofs.Records.{at_row}
+use Rattle.fields.specs.Form.{Form, post_code, is_cash, reference, is_iban, is_identcode}
+use Rattle.fields.specs.Profile.{But, always, instead, narrowed, Row, row_in, no_field, profile, meets, width_in_table, width_of, is_required, has_form}
 
--- a table of six records, five lines of ten fields each, each entry what a rule gives it
-abbrev pub table : {A : Type 0} → (ℕ → ℕ → A) → List (List (List A))
-table rule = tabled (λ row. tabled (λ ten. tabled (λ one. rule row (ten * 10 + one)) 0 10) 0 5) 0 6
+-- two rules that agree on the numbers below 50
+agree : {A : Type 0} (f g : ℕ → A) (d : A) (n : ℕ) → tabled f 0 50 ≡ tabled g 0 50 → n < 50 → f n ≡ g n
+agree f g d n e h = sym (tabled_at f 50 n d h) ∙ ap (λ (t : List _). get_or t n d) e ∙ tabled_at g 50 n d h
 
-pub table_at : {A : Type 0} (rule : ℕ → ℕ → A) (d : A) (row n : ℕ) → row < 6 → n < 50 →
-    get_or (get_or (get_or (table rule) row []) (n / 10) []) (n % 10) d ≡ rule row n
-table_at rule d row n l h =
-    let back : n / 10 * 10 + n % 10 ≡ n = omega arith in
-    ap (λ (t : List (List _)). get_or (get_or t (n / 10) []) (n % 10) d)
-    (tabled_at (λ row. tabled (λ ten. tabled (λ one. rule row (ten * 10 + one)) 0 10) 0 5) 6 row [] l)
-    ∙ ap (λ (t : List _). get_or t (n % 10) d) (tabled_at (λ ten. tabled (λ one. rule row (ten * 10 + one)) 0 10) 5 (n / 10) [] (omega arith))
-    ∙ tabled_at (λ one. rule row (n / 10 * 10 + one)) 10 (n % 10) d (omega arith)
-    ∙ ap (rule row) back
+-- past the last field of a record
+abbrev rows_end : List Row → ℕ → Bool
+rows_end [] m = true
+rows_end (row ∷ rows) m = leb row.last m && rows_end rows m
 
--- from a row to its record
-module _ (version : Version) (kind : Record) (row n : ℕ) (er : row ≡ row_of kind) where
-  to_record : record_at row ≡ kind
-  to_record = ap record_at er ∙ at_row kind
-
-  pub width_there : (w byte : ℕ) → w ≡ byte → byte ≡ width_in_table (profile version (record_at row)) n → w ≡ width_in_table (profile version kind) n
-  width_there w byte ew e = ew ∙ e ∙ ap (λ (k : Record). width_in_table (profile version k) n) to_record
-
--- an arm of a match is a case of the rule
-pub width_in : (version case : Version) (kind : Record) (n w : ℕ) → version ≡ case → w ≡ width_in_table (profile case kind) n →
-    w ≡ width_in_table (profile version kind) n
-width_in version case kind n w e f = rw e f
-
--- past the last field of every record
-abbrev rows_end : List Row → Bool
-rows_end [] = true
-rows_end (row ∷ rows) = leb row.last 49 && rows_end rows
-
-past_rows : (rows : List Row) (n : ℕ) → rows_end rows ≡ true → 49 < n → row_in rows n ≡ no_field
-past_rows [] n e h = refl
-past_rows (row ∷ rows) n e h = rw (off (leb row.first n)) (past_rows rows n (and_right (leb row.last 49) (rows_end rows) e) h)
+past_rows : (rows : List Row) (m n : ℕ) → rows_end rows m ≡ true → m < n → row_in rows n ≡ no_field
+past_rows [] m n e h = refl
+past_rows (row ∷ rows) m n e h = rw (off (leb row.first n)) (past_rows rows m n (and_right (leb row.last m) (rows_end rows m) e) h)
   where
     off : (t : Bool) → (t && leb n row.last) ≡ false
-    off true = lt-leb n row.last (omega (arith, leb-true row.last 49 (and_left (leb row.last 49) (rows_end rows) e)))
+    off true = lt-leb n row.last (omega (arith, leb-true row.last m (and_left (leb row.last m) (rows_end rows m) e)))
     off false = refl
 
-pub no_width : (version : Version) (kind : Record) (n : ℕ) → 49 < n → width_in_table (profile version kind) n ≡ 0
-unfolding width_in_table profile
-no_width version kind n h = ap (λ (r : Row). r.width) (past_rows (profile version kind) n (ends kind) h)
+past : (version : Version) (kind : Record) (n : ℕ) → (head_of kind).most < n → row_in (profile version kind) n ≡ no_field
+unfolding profile
+past version kind n h = past_rows (profile version kind) (head_of kind).most n (ends kind) h
   where
-    ends : (kind : Record) → rows_end (profile version kind) ≡ true
+    ends : (kind : Record) → rows_end (profile version kind) (head_of kind).most ≡ true
     ends Header = refl
     ends Sender = refl
     ends Shipment = refl
@@ -76,181 +59,262 @@ no_width version kind n h = ap (λ (r : Row). r.width) (past_rows (profile versi
     ends Product = refl
     ends Feature = refl
 
--- a number that is none of the fields whose rows have a mark
-abbrev Beside : Bool → Type 0 → Type 0 → Type 0
-Beside false here more = more
-Beside true here more = here × more
+most_le : (kind : Record) → (head_of kind).most ≤ 40
+most_le Header = omega arith
+most_le Sender = omega arith
+most_le Shipment = omega arith
+most_le Parcel = omega arith
+most_le Product = omega arith
+most_le Feature = omega arith
 
-abbrev pub Unmarked : (Row → Bool) → ℕ → List Row → Type 0
-Unmarked mark n [] = Unit {0}
-Unmarked mark n (row ∷ rows) = Beside (mark row) (n ≡ row.first → ⊥) (Unmarked mark n rows)
+-- the widths of a record, from that of its number 0 to that of its last field
+abbrev widths : Version → Record → List ℕ
+widths version kind = tabled (width_in_table (profile version kind)) 0 (suc (head_of kind).most)
 
--- no span of more than one field has the mark
-abbrev pub single : (Row → Bool) → List Row → Bool
-single mark [] = true
-single mark (row ∷ rows) = (if mark row then leb row.last row.first else true) && single mark rows
-
-unmarked : (mark : Row → Bool) (rows : List Row) (n : ℕ) → mark no_field ≡ false → single mark rows ≡ true → Unmarked mark n rows →
-    mark (row_in rows n) ≡ false
-unmarked mark [] n z s h = z
-unmarked mark (row ∷ rows) n z s h =
-    go (names row n) (mark row) refl refl (and_left (if mark row then leb row.last row.first else true) (single mark rows) s)
-    (unmarked mark rows n z (and_right (if mark row then leb row.last row.first else true) (single mark rows) s)) h
+width_there : (version : Version) (kind : Record) (n : ℕ) → get_or (widths version kind) n 0 ≡ width_in_table (profile version kind) n
+unfolding width_in_table
+width_there version kind n = ⊎_elim there none (le_or_lt n (head_of kind).most)
   where
-    go : (t m : Bool) → names row n ≡ t → mark row ≡ m → (if m then leb row.last row.first else true) ≡ true →
-        (Unmarked mark n rows → mark (row_in rows n) ≡ false) → Beside m (n ≡ row.first → ⊥) (Unmarked mark n rows) →
-        mark (if t then row else row_in rows n) ≡ false
-    go false false et em es more h = more h
-    go false true et em es more h = more h.1
-    go true false et em es more h = em
-    go true true et em es more h =
-        let l = leb-true row.first n (and_left (leb row.first n) (leb n row.last) et) in
-        let m = leb-true n row.last (and_right (leb row.first n) (leb n row.last) et) in
-        absurd (h.0 (omega (arith, l, m, leb-true row.last row.first es)))
+    there : n ≤ (head_of kind).most → get_or (widths version kind) n 0 ≡ width_in_table (profile version kind) n
+    there h = tabled_at (width_in_table (profile version kind)) (suc (head_of kind).most) n 0 (omega arith)
 
-abbrev formed : Asked → Bool
-formed anything = false
-formed (only form) = true
+    none : (head_of kind).most < n → get_or (widths version kind) n 0 ≡ width_in_table (profile version kind) n
+    none h = get_or_past (widths version kind) n 0 (omega (arith, tabled_long (width_in_table (profile version kind)) 0 (suc (head_of kind).most)))
+        ∙ sym (ap (λ (row : Row). row.width) (past version kind n h))
 
-pub no_duty : (rows : List Row) (n : ℕ) → single (λ row. row.duty) rows ≡ true → Unmarked (λ row. row.duty) n rows →
-    false ≡ is_required rows n
-unfolding is_required
-no_duty rows n s h = sym (unmarked (λ row. row.duty) rows n refl s h)
-
--- in neither version
-pub never_duty : (version : Version) (kind : Record) (n : ℕ) → single (λ row. row.duty) (profile Five kind) ≡ true →
-    Unmarked (λ row. row.duty) n (profile Five kind) → single (λ row. row.duty) (profile Seven kind) ≡ true →
-    Unmarked (λ row. row.duty) n (profile Seven kind) → false ≡ is_required (profile version kind) n
-never_duty Five kind n s h t k = no_duty (profile Five kind) n s h
-never_duty Seven kind n s h t k = no_duty (profile Seven kind) n t k
-
-pub no_form : (rows : List Row) (n : ℕ) (beside f : List ℕ) → single (λ row. formed row.form) rows ≡ true →
-    Unmarked (λ row. formed row.form) n rows → true ≡ has_form rows n beside f
-unfolding has_form
-no_form rows n beside f s h = go (row_in rows n).form (unmarked (λ row. formed row.form) rows n refl s h)
+-- the code's table of a version: a row for each record
+pub width_laid : (version case : Version) (kind : Record) (table : List (Bor (List ℕ))) (row n : ℕ) (d : Bor (List ℕ)) → version ≡ case →
+    row ≡ row_of kind →
+    map (λ r. r.now) table ≡ widths case Header ∷ widths case Sender ∷ widths case Shipment ∷ widths case Parcel ∷ widths case Product
+    ∷ widths case Feature ∷ [] →
+    get_or (get_or table row d).now n 0 ≡ width_in_table (profile version kind) n
+width_laid version case kind table row n d ev er e =
+    let here : (get_or table row d).now ≡ widths case kind =
+    sym (get_or-map (λ (r : Bor (List ℕ)). r.now) table row d) ∙ ap (λ (t : List (List ℕ)). get_or t row d.now) e ∙ go kind er in
+    ap (λ (l : List ℕ). get_or l n 0) here ∙ width_there case kind n ∙ ap (λ (v : Version). width_in_table (profile v kind) n) (sym ev)
   where
-    go : (a : Asked) → formed a ≡ false → true ≡ meets a beside f
-    go anything e = refl
-    go (only form) e = let z : ◌≡◌ {A = ℕ} 0 1 = cc in absurd (omega arith)
+    go : (k : Record) → row ≡ row_of k → get_or (widths case Header ∷ widths case Sender ∷ widths case Shipment ∷ widths case Parcel
+        ∷ widths case Product ∷ widths case Feature ∷ []) row d.now ≡ widths case k
+    go Header r = rw r
+    go Sender r = rw r
+    go Shipment r = rw r
+    go Parcel r = rw r
+    go Product r = rw r
+    go Feature r = rw r
 
--- an arm of a match is a row of the profile
-pub duty_arm : (rows : List Row) (n case : ℕ) (t : Bool) → n ≡ case → t ≡ (row_in rows case).duty → t ≡ is_required rows n
-unfolding is_required
-duty_arm rows n case t e f = rw e f
+-- the fields that the code lets be required
+abbrev duty : Version → Record → ℕ → Bool
+duty version Header n = among n (1 ∷ 3 ∷ 4 ∷ 6 ∷ []) || (not (is_seven version) && among n (2 ∷ 5 ∷ []))
+duty version Sender n = among n (1 ∷ 5 ∷ 6 ∷ 7 ∷ 9 ∷ 11 ∷ [])
+duty version Shipment n = among n (16 ∷ 20 ∷ 21 ∷ 22 ∷ 24 ∷ 26 ∷ [])
+duty version Parcel n = eqb n 1 || (is_seven version && eqb n 4)
+duty version Product n = eqb n 1
+duty version Feature n = eqb n 1
 
-pub form_arm : (rows : List Row) (n case : ℕ) (beside f : List ℕ) (t : Bool) → n ≡ case → t ≡ meets (row_in rows case).form beside f →
-    t ≡ has_form rows n beside f
-unfolding has_form
-form_arm rows n case beside f t e g = rw e g
-
--- what both versions say alike
-pub alike : {A : Type 0} (version : Version) (a : A) → a ≡ by version a a
-alike Five a = refl
-alike Seven a = refl
-
--- whether a duty of one version alone holds
-pub five_only : (version : Version) (t : Bool) → t ≡ is_seven version → not t ≡ by version true false
-five_only Five t e = rw e
-five_only Seven t e = rw e
-
-pub seven_only : (version : Version) (t : Bool) → t ≡ is_seven version → t ≡ by version false true
-seven_only Five t e = e
-seven_only Seven t e = e
-
-pub required_as : (version : Version) (kind case : Record) (n : ℕ) (t : Bool) → kind ≡ case → t ≡ is_required (profile version case) n →
-    t ≡ is_required (profile version kind) n
-required_as version kind case n t e f = rw e f
-
-pub required_in_each : (version : Version) (kind case : Record) (n : ℕ) (t : Bool) → kind ≡ case →
-    ((each : Version) → t ≡ is_required (profile each case) n) → t ≡ is_required (profile version kind) n
-required_in_each version kind case n t e f = required_as version kind case n t e (f version)
-
-pub form_as : (version : Version) (kind case : Record) (n : ℕ) (beside f : List ℕ) (t : Bool) → kind ≡ case →
-    t ≡ has_form (profile version case) n beside f → t ≡ has_form (profile version kind) n beside f
-form_as version kind case n beside f t e g = rw e g
-
-pub form_in_each : (version : Version) (kind case : Record) (n : ℕ) (beside f : List ℕ) (t : Bool) → kind ≡ case →
-    ((each : Version) → t ≡ has_form (profile each case) n beside f) → t ≡ has_form (profile version kind) n beside f
-form_in_each version kind case n beside f t e g = form_as version kind case n beside f t e (g version)
-
--- a record of which only the first field is a duty
-first_duty : (rows : List Row) (n : ℕ) → true ≡ is_required rows 1 → ((n ≡ 1 → ⊥) → false ≡ is_required rows n) → eqb n 1 ≡ is_required rows n
-first_duty rows n here other = ⊎_elim
-    (λ (e : n ≡ 1). rw (eq-eqb n 1 e, e) here)
-    (λ h. rw (ne_eqb n 1 h) (other h))
-    (eq_or_ne n 1)
-
-pub only_first : (version : Version) (kind case : Record) (n : ℕ) → kind ≡ case → one_of case (Product ∷ Feature ∷ []) ≡ true →
-    eqb n 1 ≡ is_required (profile version kind) n
+duty_is : (version : Version) (kind : Record) (n : ℕ) → is_required (profile version kind) n ≡ duty version kind n
 unfolding profile is_required
-only_first version kind case n e o = rw e (go version case o)
+duty_is version kind n = ⊎_elim (λ h. agree (is_required (profile version kind)) (duty version kind) false n (same version kind) (omega arith))
+    (λ h. ap (λ (row : Row). row.duty) (past version kind n (omega (arith, most_le kind))) ∙ none version kind h) (le_or_lt n 40)
   where
-    go : (v : Version) (k : Record) → one_of k (Product ∷ Feature ∷ []) ≡ true → eqb n 1 ≡ is_required (profile v k) n
-    go Five Product o = first_duty (profile Five Product) n refl (λ h. no_duty (profile Five Product) n refl (h, tt))
-    go Seven Product o = first_duty (profile Seven Product) n refl (λ h. no_duty (profile Seven Product) n refl (h, tt))
-    go Five Feature o = first_duty (profile Five Feature) n refl (λ h. no_duty (profile Five Feature) n refl (h, tt))
-    go Seven Feature o = first_duty (profile Seven Feature) n refl (λ h. no_duty (profile Seven Feature) n refl (h, tt))
-    go v Header o = let z : ◌≡◌ {A = ℕ} 0 1 = cc in absurd (omega arith)
-    go v Sender o = let z : ◌≡◌ {A = ℕ} 0 1 = cc in absurd (omega arith)
-    go v Shipment o = let z : ◌≡◌ {A = ℕ} 0 1 = cc in absurd (omega arith)
-    go v Parcel o = let z : ◌≡◌ {A = ℕ} 0 1 = cc in absurd (omega arith)
+    same : (v : Version) (k : Record) → tabled (is_required (profile v k)) 0 50 ≡ tabled (duty v k) 0 50
+    same v Sender = refl
+    same v Shipment = refl
+    same Five Feature = refl
+    same Seven Feature = refl
+    same Five Header = refl
+    same Seven Header = refl
+    same Five Parcel = refl
+    same Seven Parcel = refl
+    same Five Product = refl
+    same Seven Product = refl
 
--- a width without an exception
-abbrev has_but : But → Bool
-has_but always = false
-has_but (instead width test) = true
+    none : (v : Version) (k : Record) → 40 < n → false ≡ duty v k n
+    none v Sender h = grind (arith, nat_tests)
+    none v Shipment h = grind (arith, nat_tests)
+    none v Product h = grind (arith, nat_tests)
+    none v Feature h = grind (arith, nat_tests)
+    none Five Header h = grind (arith, nat_tests)
+    none Seven Header h = grind (arith, nat_tests)
+    none Five Parcel h = grind (arith, nat_tests)
+    none Seven Parcel h = grind (arith, nat_tests)
 
-pub no_but : (rows : List Row) (n : ℕ) (beside : List ℕ) (w : ℕ) → w ≡ width_in_table rows n → single (λ row. has_but row.but) rows ≡ true →
-    Unmarked (λ row. has_but row.but) n rows → w ≡ width_of rows n beside
-unfolding width_of
-no_but rows n beside w e s h = e ∙ go (row_in rows n).but (unmarked (λ row. has_but row.but) rows n refl s h)
+-- the forms that the code tests
+abbrev form : Version → Record → ℕ → Form
+form version Header n beside f =
+    if eqb n 1 then customer f
+    else if among n (3 ∷ 4 ∷ []) then date_time f
+    else if eqb n 5 then digits 4 f
+    else if eqb n 6 then is_version version f
+    else true
+form version Sender n beside f =
+    if eqb n 5 then capitals 2 f
+    else if eqb n 6 then post_code beside f
+    else true
+form version Shipment n beside f =
+    if among n (1 ∷ 2 ∷ []) then all_digits f
+    else if among n (7 ∷ 20 ∷ []) then capitals 2 f
+    else if among n (8 ∷ 21 ∷ []) then post_code beside f
+    else not (eqb n 39)
+form version Parcel n beside f = if eqb n 1 then is_identcode f else true
+form version Product n beside f = true
+form version Feature n beside f =
+    if eqb n 1 then is_feature f
+    else if eqb n 2 then reference beside f
+    else if eqb n 3 then amount f
+    else if eqb n 4 then capitals 3 f
+    else if eqb n 6 then is_iban f
+    else if eqb n 7 then bic f
+    else if eqb n 8 then purpose_text f
+    else if eqb n 9 then mail f
+    else true
+
+form_is : (version : Version) (kind : Record) (n : ℕ) (beside f : List ℕ) → has_form (profile version kind) n beside f ≡ form version kind n beside f
+unfolding profile has_form
+form_is version kind n beside f =
+    ⊎_elim
+    (λ h. agree (λ (m : ℕ). has_form (profile version kind) m beside f) (λ (m : ℕ). form version kind m beside f) false n (same kind) (omega arith))
+    (λ h. ap (λ (row : Row). meets row.form beside f) (past version kind n (omega (arith, most_le kind))) ∙ none kind h) (le_or_lt n 40)
   where
-    go : (b : But) → has_but b ≡ false → width_in_table rows n ≡ narrowed b (width_in_table rows n) beside
-    go always f = refl
-    go (instead width test) f = let z : ◌≡◌ {A = ℕ} 0 1 = cc in absurd (omega arith)
+    same : (k : Record) → tabled (λ (m : ℕ). has_form (profile version k) m beside f) 0 50 ≡ tabled (λ (m : ℕ). form version k m beside f) 0 50
+    same Header = refl
+    same Sender = refl
+    same Shipment = refl
+    same Parcel = refl
+    same Product = refl
+    same Feature = refl
 
--- only field 2 of a 060 line has another width, and only in version 5
-pub other_number : (version : Version) (kind : Record) (n : ℕ) (beside : List ℕ) (w : ℕ) → w ≡ width_in_table (profile version kind) n →
-    (n ≡ 2 → ⊥) → w ≡ width_of (profile version kind) n beside
+    none : (k : Record) → 40 < n → true ≡ form version k n beside f
+    none Header h = grind (arith, nat_tests)
+    none Sender h = grind (arith, nat_tests)
+    none Shipment h = grind (arith, nat_tests)
+    none Parcel h = grind (arith, nat_tests)
+    none Product h = refl
+    none Feature h = grind (arith, nat_tests)
+
+-- the fields whose width depends on the one beside them
+abbrev but : Version → Record → ℕ → But
+but Seven kind n = always
+but Five Header n = always
+but Five Sender n = always
+but Five Shipment n = always
+but Five Parcel n = always
+but Five Product n = always
+but Five Feature n = if eqb n 2 then instead 35 is_cash else always
+
+but_is : (version : Version) (kind : Record) (n : ℕ) → (row_in (profile version kind) n).but ≡ but version kind n
 unfolding profile
-other_number version Sender n beside w e h = no_but (profile version Sender) n beside w e refl tt
-other_number version Shipment n beside w e h = no_but (profile version Shipment) n beside w e refl tt
-other_number Five Header n beside w e h = no_but (profile Five Header) n beside w e refl tt
-other_number Seven Header n beside w e h = no_but (profile Seven Header) n beside w e refl tt
-other_number Five Parcel n beside w e h = no_but (profile Five Parcel) n beside w e refl tt
-other_number Seven Parcel n beside w e h = no_but (profile Seven Parcel) n beside w e refl tt
-other_number Five Product n beside w e h = no_but (profile Five Product) n beside w e refl tt
-other_number Seven Product n beside w e h = no_but (profile Seven Product) n beside w e refl tt
-other_number Five Feature n beside w e h = no_but (profile Five Feature) n beside w e refl (h, tt)
-other_number Seven Feature n beside w e h = no_but (profile Seven Feature) n beside w e refl tt
+but_is version kind n =
+    ⊎_elim (λ h. agree (λ (m : ℕ). (row_in (profile version kind) m).but) (but version kind) always n (same version kind) (omega arith))
+    (λ h. ap (λ (row : Row). row.but) (past version kind n (omega (arith, most_le kind))) ∙ none version kind h) (le_or_lt n 40)
+  where
+    same : (v : Version) (k : Record) → tabled (λ (m : ℕ). (row_in (profile v k) m).but) 0 50 ≡ tabled (but v k) 0 50
+    same Seven Header = refl
+    same Seven Sender = refl
+    same Seven Shipment = refl
+    same Seven Parcel = refl
+    same Seven Product = refl
+    same Seven Feature = refl
+    same Five Header = refl
+    same Five Sender = refl
+    same Five Shipment = refl
+    same Five Parcel = refl
+    same Five Product = refl
+    same Five Feature = refl
 
-pub width_as : (version : Version) (kind case : Record) (n : ℕ) (beside : List ℕ) (w v : ℕ) → w ≡ width_in_table (profile version kind) n →
-    kind ≡ case → n ≡ 2 → v ≡ narrowed (row_in (profile version case) 2).but w beside → v ≡ width_of (profile version kind) n beside
-unfolding width_of
-width_as version kind case n beside w v ew ek en e = e ∙ rw (ew, ek, en)
+    none : (v : Version) (k : Record) → 40 < n → always ≡ but v k n
+    none Seven k h = refl
+    none Five Header h = refl
+    none Five Sender h = refl
+    none Five Shipment h = refl
+    none Five Parcel h = refl
+    none Five Product h = refl
+    none Five Feature h = rw (ne_eqb n 2 (omega arith))
 
-pub width_always : (version : Version) (w : ℕ) (beside : List ℕ) → w ≡ narrowed (by version always always) w beside
-width_always version w beside = ap (λ (b : But). narrowed b w beside) (alike version always)
+module _ (version : Version) (kind : Record) (n : ℕ) (beside : List ℕ) where
+  plain : but version kind n ≡ always → width_of (profile version kind) n beside ≡ width_in_table (profile version kind) n
+  unfolding width_of
+  plain e = ap (λ (b : But). narrowed b (width_in_table (profile version kind) n) beside) (but_is version kind n ∙ e)
 
--- the width of field 2 of a 060 line, by the cases that the code meets
-module _ (version : Version) (s : Bool) (es : s ≡ is_seven version) (w : ℕ) (beside : List ℕ) where
-  pub reference_seven : s ≡ true → w ≡ narrowed (by version (instead 35 is_cash) always) w beside
-  reference_seven e = go version (sym es ∙ e)
+  pub cash_width : version ≡ Five → kind ≡ Feature → n ≡ 2 →
+      width_of (profile version kind) n beside ≡ (if is_cash beside then 35 else width_in_table (profile version kind) n)
+  unfolding width_of
+  cash_width v k e =
+      let here : but version kind n ≡ instead 35 is_cash = rw (v, k, e) in
+      ap (λ (b : But). narrowed b (width_in_table (profile version kind) n) beside)
+      (but_is version kind n ∙ here)
+
+  pub other_number : (n ≡ 2 → ⊥) → width_of (profile version kind) n beside ≡ width_in_table (profile version kind) n
+  other_number h = plain (go version kind)
     where
-      go : (v : Version) → is_seven v ≡ true → w ≡ narrowed (by v (instead 35 is_cash) always) w beside
-      go Five q = absurd (false≢true q)
-      go Seven q = refl
+      go : (v : Version) (k : Record) → but v k n ≡ always
+      go Seven k = refl
+      go Five Header = refl
+      go Five Sender = refl
+      go Five Shipment = refl
+      go Five Parcel = refl
+      go Five Product = refl
+      go Five Feature = rw (ne_eqb n 2 h)
 
-  module _ (five : s ≡ false) (t : Bool) (et : t ≡ is_cash beside) where
-    in_five : (m : ℕ) → m ≡ (if is_cash beside then 35 else w) → m ≡ narrowed (by version (instead 35 is_cash) always) w beside
-    in_five m e = go version (sym es ∙ five)
-      where
-        go : (v : Version) → is_seven v ≡ false → m ≡ narrowed (by v (instead 35 is_cash) always) w beside
-        go Five q = e
-        go Seven q = absurd (false≢true (sym q))
+  pub other_record : (kind ≡ Feature → ⊥) → width_of (profile version kind) n beside ≡ width_in_table (profile version kind) n
+  other_record h = plain (go version kind h)
+    where
+      go : (v : Version) (k : Record) → (k ≡ Feature → ⊥) → but v k n ≡ always
+      go Seven k h = refl
+      go Five Header h = refl
+      go Five Sender h = refl
+      go Five Shipment h = refl
+      go Five Parcel h = refl
+      go Five Product h = refl
+      go Five Feature h = absurd (h refl)
 
-    pub reference_cash : t ≡ true → 35 ≡ narrowed (by version (instead 35 is_cash) always) w beside
-    reference_cash e = in_five 35 (simp (← et, e))
+  pub other_version : (version ≡ Five → ⊥) → width_of (profile version kind) n beside ≡ width_in_table (profile version kind) n
+  other_version h = plain (go version h)
+    where
+      go : (v : Version) → (v ≡ Five → ⊥) → but v kind n ≡ always
+      go Seven h = refl
+      go Five h = absurd (h refl)
 
-    pub reference_free : t ≡ false → w ≡ narrowed (by version (instead 35 is_cash) always) w beside
-    reference_free e = in_five w (simp (← et, e))
+-- by record, as the code meets them
+module _ (version : Version) (kind : Record) (n : ℕ) where
+  pub header_duty : kind ≡ Header → is_required (profile version kind) n ≡ duty version Header n
+  header_duty e = rw e (duty_is version Header n)
+
+  pub sender_duty : kind ≡ Sender → is_required (profile version kind) n ≡ duty version Sender n
+  sender_duty e = rw e (duty_is version Sender n)
+
+  pub shipment_duty : kind ≡ Shipment → is_required (profile version kind) n ≡ duty version Shipment n
+  shipment_duty e = rw e (duty_is version Shipment n)
+
+  pub parcel_duty : kind ≡ Parcel → is_required (profile version kind) n ≡ duty version Parcel n
+  parcel_duty e = rw e (duty_is version Parcel n)
+
+  pub product_duty : kind ≡ Product → is_required (profile version kind) n ≡ duty version Product n
+  product_duty e = rw e (duty_is version Product n)
+
+  pub feature_duty : kind ≡ Feature → is_required (profile version kind) n ≡ duty version Feature n
+  feature_duty e = rw e (duty_is version Feature n)
+
+  module _ (beside f : List ℕ) where
+    pub header_form : kind ≡ Header → has_form (profile version kind) n beside f ≡ form version Header n beside f
+    header_form e = rw e (form_is version Header n beside f)
+
+    pub sender_form : kind ≡ Sender → has_form (profile version kind) n beside f ≡ form version Sender n beside f
+    sender_form e = rw e (form_is version Sender n beside f)
+
+    pub shipment_form : kind ≡ Shipment → has_form (profile version kind) n beside f ≡ form version Shipment n beside f
+    shipment_form e = rw e (form_is version Shipment n beside f)
+
+    pub parcel_form : kind ≡ Parcel → has_form (profile version kind) n beside f ≡ form version Parcel n beside f
+    parcel_form e = rw e (form_is version Parcel n beside f)
+
+    pub product_form : kind ≡ Product → has_form (profile version kind) n beside f ≡ true
+    product_form e = rw e (form_is version Product n beside f)
+
+    pub feature_form : kind ≡ Feature → has_form (profile version kind) n beside f ≡ form version Feature n beside f
+    feature_form e = rw e (form_is version Feature n beside f)
+
+pub ruleset width_rules = (cash_width, other_number, other_record, other_version)
+
+pub ruleset duties = (header_duty, sender_duty, shipment_duty, parcel_duty, product_duty, feature_duty)
+
+pub ruleset form_rules = (header_form, sender_form, shipment_form, parcel_form, product_form, feature_form)

@@ -6,6 +6,7 @@ use line::field_in;
 use records::Version;
 
 // The version whose rules hold for the file.
+#[tactic(auto, using(crate::proofs::Versions::version_there))]
 pub fn version_of(file: &[u8]) -> Version
     ensures { result ≡ version_of file.now }
 {
@@ -13,13 +14,13 @@ pub fn version_of(file: &[u8]) -> Version
 }
 
 // The version that the text of a first line names: 7 only on a header that says so.
+#[tactic(auto, using(crate::proofs::Versions::no_header, crate::proofs::Versions::header_seven, crate::proofs::Versions::header_other))]
 fn version_in(line: &[u8]) -> Version
     ensures { result ≡ version_in line.now }
 {
-    if !text::equal(field_in(line, 0), b"010") {
-        return Version::Five;
-    }
-    if records::is_version(Version::Seven, field_in(line, 6)) {
+    if text::equal(field_in(line, 0), b"010")
+        && records::is_version(Version::Seven, field_in(line, 6))
+    {
         return Version::Seven;
     }
     Version::Five

@@ -6,13 +6,11 @@ use native.Mathlib.Numerals.{add-one}
 use native.Mathlib.Omega.{arith}
 use mir.Syntax.{w32}
 use mir.Val.{Fits}
+use Rattle.text.proofs.Decimals.{number_on_lem, number_ends}
 
 -- a bound on what i bytes write
 abbrev pub Bounded : ℕ → ℕ → Type 0
 Bounded n i = n + 23 ≤ 23 * 10 ^ i
-
-pub bounded_none : Bounded 0 0
-bounded_none = omega arith
 
 module _ (n i : ℕ) (h : Bounded n i) where
   pub bounded_on : (d : ℕ) → d ≤ 207 → Bounded (10 * n + d) (i + 1)
@@ -26,3 +24,6 @@ module _ (n i : ℕ) (h : Bounded n i) where
 
   pub next_fits : (m d : ℕ) → i < m → m ≤ 6 → d ≤ 207 → Fits w32 (10 * n + d)
   next_fits m d l k r = omega (arith, few m l k)
+
+-- the steps of the loop over the digits
+pub ruleset number_steps = (tens_fit, next_fits, bounded_on, number_on_lem, number_ends)

@@ -12,65 +12,49 @@ use crate::decimal::number;
 use crate::shape::{all_digits, is_digits};
 
 // Whether s is an amount.
+#[tactic(auto, using(crate::proofs::Amounts::parts_fit), unfolding(crate::specs::Amount::amount))]
 pub fn is_amount(s: &[u8]) -> bool
     ensures { result ≡ amount s.now }
 {
-    if !is_pointed(s) {
-        return false;
-    }
-    if has_leading_zero(s) {
-        return false;
-    }
-    1 <= cents_in(s)
+    is_pointed(s) && !has_leading_zero(s) && 1 <= cents_in(s)
 }
 
 // The cents of an amount, 0 for anything else.
+#[tactic(auto, using(crate::proofs::Amounts::parts_fit))]
 pub fn cents_of(s: &[u8]) -> u64
     ensures { result ≡ (if amount s.now then cents s.now else 0) }
 {
-    if !is_amount(s) {
-        return 0;
-    }
-    cents_in(s)
+    if is_amount(s) { cents_in(s) } else { 0 }
 }
 
 // Whether s is 1 to 6 digits, a point and two digits.
+#[tactic(auto, unfolding(crate::specs::Amount::pointed))]
 fn is_pointed(s: &[u8]) -> bool
     ensures { result ≡ pointed s.now }
 {
-    if s.len() < 4 {
-        return false;
-    }
-    if 9 < s.len() {
+    if !matches!(s.len(), 4..=9) {
         return false;
     }
     let point = s.len() - 3;
-    if !all_digits(&s[0..point]) {
-        return false;
-    }
-    if s[point] != b'.' {
-        return false;
-    }
-    is_digits(&s[point + 1..], 2)
+    all_digits(&s[..point]) && s[point] == b'.' && is_digits(&s[point + 1..], 2)
 }
 
 // Whether another digit follows a leading zero.
+#[tactic(auto, unfolding(crate::specs::Amount::leading_zero))]
 fn has_leading_zero(s: &[u8]) -> bool
     ensures { result ≡ leading_zero s.now }
 {
-    if s.len() < 5 {
-        return false;
-    }
-    s[0] == b'0'
+    5 <= s.len() && s[0] == b'0'
 }
 
 // The cents where the lengths are known to be right.
+#[tactic(auto, unfolding(crate::specs::Amount::cents))]
 fn cents_in(s: &[u8]) -> u64
     requires { (4 ≤ length s.now) × (length s.now ≤ 9) }
     ensures { result ≡ cents s.now }
 {
     let point = s.len() - 3;
-    let whole = number(&s[0..point]);
+    let whole = number(&s[..point]);
     let hundredths = number(&s[point + 1..]);
-    100 * (whole as u64) + (hundredths as u64)
+    100 * u64::from(whole) + u64::from(hundredths)
 }

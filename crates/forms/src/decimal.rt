@@ -3,15 +3,14 @@ ghost use Rattle.std.specs.Prelude.{◌≡◌, ◌≤◌, length};
 ghost use Rattle.text.specs.Decimal.{worth, number};
 
 // At most six digits, so that the number fits.
+#[tactic(auto, using(crate::proofs::Decimals::number_steps))]
 pub fn number(s: &[u8]) -> u32
     requires { length s.now ≤ 6 }
     ensures { result ≡ number s.now }
 {
-    let mut n: u32 = 0;
-    let mut i: usize = 0;
-    while i < s.len() {
-        n = 10 * n + value(s[i]);
-        i += 1;
+    let mut n = 0;
+    for &b in s {
+        n = 10 * n + value(b);
     }
     n
 }
@@ -20,8 +19,5 @@ pub fn number(s: &[u8]) -> u32
 fn value(b: u8) -> u32
     ensures { (result ≡ worth b) × (result ≤ 207) }
 {
-    if b < b'0' {
-        return 0;
-    }
-    (b - b'0') as u32
+    u32::from(b.saturating_sub(b'0'))
 }

@@ -1,5 +1,5 @@
 // Feature codes: which there are.
-ghost use Rattle.std.specs.Prelude.{◌≡◌, ◌<◌, get_or};
+ghost use Rattle.std.specs.Prelude.{◌≡◌};
 ghost use Rattle.text.specs.Scan.{among};
 ghost use Rattle.forms.specs.Feature.{feature_codes, is_feature, code_of};
 
@@ -12,43 +12,25 @@ const CODES: [u32; 30] = [
 ];
 
 // Whether s is a feature code.
+#[tactic(auto, using(crate::proofs::Features::number_fits), unfolding(crate::specs::Feature::is_feature))]
 pub fn is_feature(s: &[u8]) -> bool
     ensures { result ≡ is_feature s.now }
 {
-    if !is_digits(s, 3) {
-        return false;
-    }
-    is_code(number(s))
+    is_digits(s, 3) && is_code(number(s))
 }
 
 // The number of a feature code, 0 for anything else.
+#[tactic(auto, using(crate::proofs::Features::number_fits), unfolding(crate::specs::Feature::code_of))]
 pub fn code_of(s: &[u8]) -> u32
     ensures { result ≡ code_of s.now }
 {
-    if !is_feature(s) {
-        return 0;
-    }
-    number(s)
+    if is_feature(s) { number(s) } else { 0 }
 }
 
 // Whether there is a feature with this code.
+#[tactic(auto, unfolding(crate::specs::Feature::feature_codes))]
 fn is_code(code: u32) -> bool
     ensures { result ≡ among code feature_codes }
 {
-    let mut i: usize = 0;
-    while i < 30 {
-        if code == code_at(i) {
-            return true;
-        }
-        i += 1;
-    }
-    false
-}
-
-// The codes in the paper's order, counted from 0.
-fn code_at(i: usize) -> u32
-    requires { i < 30 }
-    ensures { result ≡ get_or feature_codes i 0 }
-{
-    CODES[i]
+    CODES.contains(&code)
 }

@@ -6,6 +6,7 @@ ghost use Rattle.forms.specs.Shape.{all_digits, digits, capitals, customer, bic,
 use text::Class;
 
 // Whether every byte is a digit.
+#[tactic(auto, unfolding(crate::specs::Shape::all_digits))]
 pub fn all_digits(s: &[u8]) -> bool
     ensures { result ≡ all_digits s.now }
 {
@@ -13,62 +14,48 @@ pub fn all_digits(s: &[u8]) -> bool
 }
 
 // Whether s is n digits.
+#[tactic(auto, unfolding(crate::specs::Shape::digits))]
 pub fn is_digits(s: &[u8], n: usize) -> bool
     ensures { result ≡ digits n s.now }
 {
-    if s.len() != n {
-        return false;
-    }
-    all_digits(s)
+    s.len() == n && all_digits(s)
 }
 
 // Whether s is so many capitals.
+// Kept: beside `is_digits`, a line each over `text::all_in`. One function that is told the class would be no plainer.
+#[tactic(auto, unfolding(crate::specs::Shape::capitals))]
 pub fn is_capitals(s: &[u8], count: usize) -> bool
     ensures { result ≡ capitals count s.now }
 {
-    if s.len() != count {
-        return false;
-    }
-    text::all_in(Class::Capital, s)
+    s.len() == count && text::all_in(Class::Capital, s)
 }
 
 // Whether s is a customer number.
+#[tactic(auto, unfolding(crate::specs::Shape::customer))]
 pub fn is_customer(s: &[u8]) -> bool
     ensures { result ≡ customer s.now }
 {
-    if !is_digits(s, 10) {
-        return false;
-    }
-    text::equal(&s[0..2], b"00")
+    is_digits(s, 10) && s.starts_with(b"00")
 }
 
 // Whether s is a BIC.
+#[tactic(auto, unfolding(crate::specs::Shape::bic))]
 pub fn is_bic(s: &[u8]) -> bool
     ensures { result ≡ bic s.now }
 {
-    if s.len() == 8 {
-        return text::all_in(Class::Symbol, s);
-    }
-    if s.len() == 11 {
-        return text::all_in(Class::Symbol, s);
-    }
-    false
+    matches!(s.len(), 8 | 11) && text::all_in(Class::Symbol, s)
 }
 
 // Whether s is an e-mail address.
+#[tactic(auto, unfolding(crate::specs::Shape::mail))]
 pub fn is_mail(s: &[u8]) -> bool
     ensures { result ≡ mail s.now }
 {
-    if text::count_of(b'@', s) != 1 {
-        return false;
-    }
-    if s[0] == b'@' {
-        return false;
-    }
-    s[s.len() - 1] != b'@'
+    text::count_of(b'@', s) == 1 && s[0] != b'@' && s[s.len() - 1] != b'@'
 }
 
 // Whether s may stand in a payment purpose.
+#[tactic(auto, unfolding(crate::specs::Shape::purpose_text))]
 pub fn is_purpose(s: &[u8]) -> bool
     ensures { result ≡ purpose_text s.now }
 {

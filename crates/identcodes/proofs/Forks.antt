@@ -1,12 +1,11 @@
 -- The words of forks: what one is put together from is read out of it again, and where it leads a code.
-use Prim.Native.Nat.{ℕ, ◌+◌, ◌/◌, ◌%◌, ◌<◌, ◌≤◌}
+use Prim.Native.Nat.{ℕ, ◌+◌, ◌<◌, ◌≤◌}
 use mathlib.Core.Path.{◌≡◌}
 use mathlib.Core.Bool.{Bool, true, false}
 use mathlib.Core.List.{List}
 use native.Mathlib.Omega.{arith}
 use lib.Dec.{ltb}
 use lib.ListN.{get_or}
-use borrow.Author.Tests.{lt-ltb, le-ltb}
 use Rattle.std.specs.Prelude.{if◌then◌else◌}
 use Rattle.identcodes.specs.Tree.{fork, digit_of, byte_of, pair_of, leads_to}
 
@@ -26,16 +25,6 @@ module _ (digit byte pair : ℕ) (hb : byte < 256) (hp : pair < 65536) where
   pub fork_is : 1 ≤ byte → 65536 ≤ fork digit byte pair
   unfolding fork
   fork_is h = omega arith
-
--- where a fork leads, as the code finds it
-module _ (fork word asked : ℕ) (code : List ℕ) (e : word ≡ fork) (ea : asked ≡ get_or code (word / 16777216) 0) where
-  pub lead_first : asked < word / 65536 % 256 → word % 65536 ≡ leads_to fork code
-  unfolding digit_of byte_of pair_of
-  lead_first h = rw (← e, ← ea, lt-ltb asked (word / 65536 % 256) h)
-
-  pub lead_second : word / 65536 % 256 ≤ asked → word % 65536 + 1 ≡ leads_to fork code
-  unfolding digit_of byte_of pair_of
-  lead_second h = rw (← e, ← ea, le-ltb asked (word / 65536 % 256) h)
 
 -- a fork leads to one of its pair
 pub lead_pair : (word : ℕ) (code : List ℕ) → (pair_of word ≤ leads_to word code) × (leads_to word code ≤ pair_of word + 1)

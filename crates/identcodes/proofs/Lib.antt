@@ -4,5 +4,4 @@ pub mod Slots
 pub mod Parting
 pub mod Answers
 pub mod Growing
-pub mod Finding
 pub mod Example

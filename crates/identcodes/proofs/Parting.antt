@@ -8,13 +8,13 @@ use native.Mathlib.Omega.{arith}
 use lib.Dec.{leb, ltb, eqb}
 use lib.ListN.{length, get_or, set, length-set}
 use lib.Seq.{get_or-set_same, get_or-set_other}
-use borrow.Author.Tests.{lt-ltb, le-ltb, le-leb, lt-leb, leb-true, leb-false, ltb-true, ltb-false, eq-eqb, ne_eqb, eqb-true, eqb-false}
+use borrow.Author.Tests.{le-leb, lt-leb, leb-true, leb-false, ltb-true, ltb-false, eq-eqb, ne_eqb, eqb-true, eqb-false}
 use Rattle.std.specs.Prelude.{if◌then◌else◌}
 use Rattle.text.specs.Scan.{same}
 use Rattle.text.proofs.Choices.{true_or_false}
 use Rattle.text.proofs.Numbers.{le_or_lt, eq_or_ne}
 use Rattle.forms.specs.Shape.{digits}
-use Rattle.identcodes.specs.Tree.{identcode_at, fork, digit_of, byte_of, pair_of, leads_to, slot_from, words_of, slot_of, planted, parted}
+use Rattle.identcodes.specs.Tree.{identcode_at, digit_of, byte_of, pair_of, leads_to, slot_from, words_of, slot_of, planted}
 use Rattle.identcodes.proofs.Slots.{Sound, Tree, lead_on, comes_to}
 
 -- the words of the pair, and the fork where the leaf was
@@ -41,22 +41,6 @@ module _ (tree : List ℕ) (slot pair x y word : ℕ) (hs : slot < pair) (hp : p
       get_or-set_other (set (set tree pair x) (pair + 1) y) slot i word 0 n
       ∙ get_or-set_other (set tree pair x) (pair + 1) i y 0 (λ e. omega arith)
       ∙ get_or-set_other tree pair i x 0 (λ e. omega arith)
-
--- the same, as the code writes it
-pub planted_is : (tree : List ℕ) (slot pair x y word : ℕ) (first second after : List ℕ) → first ≡ set tree pair x →
-    second ≡ set first (pair + 1) y → after ≡ set second slot word → after ≡ planted tree slot pair x y word
-planted_is tree slot pair x y word first second after e1 e2 e3 = rw (e3, e2, e1)
-
-module _ (tree : List ℕ) (slot pair digit earlier here at : ℕ) (after : List ℕ) (word leaf : ℕ) (el : leaf ≡ get_or tree slot 0) where
-  pub parted_first : earlier < here → word ≡ fork digit here pair → after ≡ planted tree slot pair leaf at word →
-      after ≡ parted tree slot pair digit earlier here at
-  unfolding parted
-  parted_first h ew ea = ea ∙ rw (el, ew, lt-ltb earlier here h)
-
-  pub parted_second : here ≤ earlier → word ≡ fork digit earlier pair → after ≡ planted tree slot pair at leaf word →
-      after ≡ parted tree slot pair digit earlier here at
-  unfolding parted
-  parted_second h ew ea = ea ∙ rw (el, ew, le-ltb earlier here h)
 
 -- where a code comes that came to k
 abbrev pub afterwards : ℕ → ℕ → List ℕ → ℕ → ℕ

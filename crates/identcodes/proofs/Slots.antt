@@ -6,7 +6,7 @@ use mathlib.Core.List.{List}
 use native.Mathlib.Omega.{arith}
 use lib.Dec.{leb}
 use lib.ListN.{get_or}
-use borrow.Author.Tests.{le-leb, lt-leb, leb-true, leb-false}
+use borrow.Author.Tests.{le-leb, leb-true, leb-false}
 use Rattle.std.specs.Prelude.{if◌then◌else◌}
 use Rattle.forms.specs.Shape.{digits}
 use Rattle.identcodes.specs.Tree.{identcode_at, pair_of, leads_to, slot_from, words_of}
@@ -47,23 +47,9 @@ module _ (s : List ℕ) (parcels : ℕ) (tree : List ℕ) (g : Tree s parcels tr
           more (leads_to (get_or tree slot 0) code) l.1 (omega (arith, l.0))
       go false e more = (h, leb-false 65536 (get_or tree slot 0) e)
 
--- the loop, with so many turns left: each premise is a fact that it has
-module _ (tree code : List ℕ) (slot left z : ℕ) (inv : slot_from left tree code slot ≡ z) where
-  pub slot_done : left ≤ 0 → slot ≡ z
-  slot_done h = let none : left ≡ 0 = omega arith in sym (ap (λ (n : ℕ). slot_from n tree code slot) none) ∙ inv
-
-  module _ (some : 0 < left) (word : ℕ) (ew : word ≡ get_or tree slot 0) where
-    turn : left ≡ suc (left - 1)
-    turn = omega arith
-
-    pub slot_leaf : word < 65536 → slot ≡ z
-    slot_leaf h =
-        let leaf : get_or tree slot 0 < 65536 = omega arith in
-        sym (ap (λ (n : ℕ). slot_from n tree code slot) turn ∙ rw (lt-leb 65536 (get_or tree slot 0) leaf)) ∙ inv
-
-    pub slot_on : 65536 ≤ word → (next : ℕ) → next ≡ leads_to word code → slot_from (left - 1) tree code next ≡ z
-    slot_on h next en =
-        let fork : 65536 ≤ get_or tree slot 0 = omega arith in
-        ap (slot_from (left - 1) tree code) (en ∙ ap (λ (w : ℕ). leads_to w code) ew)
-        ∙ sym (ap (λ (n : ℕ). slot_from n tree code slot) turn ∙ rw (le-leb 65536 (get_or tree slot 0) fork))
-        ∙ inv
+-- one turn of the loop, at a fork
+pub slot_on : (tree code : List ℕ) (turns turn slot : ℕ) → turn < turns → 65536 ≤ get_or tree slot 0 →
+    slot_from (turns - (turn + 1)) tree code (leads_to (get_or tree slot 0) code) ≡ slot_from (turns - turn) tree code slot
+slot_on tree code turns turn slot h fork =
+    let more : turns - turn ≡ suc (turns - (turn + 1)) = omega arith in
+    sym (ap (λ (n : ℕ). slot_from n tree code slot) more ∙ rw (le-leb 65536 (get_or tree slot 0) fork))

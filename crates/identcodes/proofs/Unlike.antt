@@ -16,34 +16,26 @@ use Rattle.text.proofs.Numbers.{eq_or_ne}
 use Rattle.text.proofs.Scans.{same_eq, same_refl}
 use Rattle.identcodes.specs.Tree.{unlike_from, unlike_at}
 
--- the loop: x and y are the two codes' digits at i
-pub unlike_first : (a b : List ℕ) → unlike_from (22 - 0) a b 0 ≡ unlike_at a b
-unfolding unlike_at
-unlike_first a b = refl
+-- one turn of the loop, where the digits are alike
+pub unlike_on : (a b : List ℕ) (i : ℕ) → i < 22 → get_or a i 0 ≡ get_or b i 0 →
+    unlike_from (22 - (i + 1)) a b (i + 1) ≡ unlike_from (22 - i) a b i
+unlike_on a b i h e =
+    let left = 22 - (i + 1) in
+    let turn : 22 - i ≡ suc left = omega arith in
+    let next : i + 1 ≡ suc i = omega arith in
+    ap (unlike_from left a b) next
+    ∙ sym (ap (λ (n : ℕ). unlike_from n a b i) turn ∙ rw (eq-eqb (get_or a i 0) (get_or b i 0) e))
 
-module _ (a b : List ℕ) (i z x y : ℕ) (h : i < 22) (ex : x ≡ get_or a i 0) (ey : y ≡ get_or b i 0) (f : unlike_from (22 - i) a b i ≡ z) where
-  abbrev left : ℕ
-  left = 22 - (i + 1)
+-- and where they are unlike, and behind the last
+pub unlike_stops : (a b : List ℕ) (i : ℕ) → i < 22 → (get_or a i 0 ≡ get_or b i 0 → ⊥) → unlike_from (22 - i) a b i ≡ i
+unlike_stops a b i h n =
+    let turn : 22 - i ≡ suc (22 - (i + 1)) = omega arith in
+    ap (λ (n : ℕ). unlike_from n a b i) turn ∙ rw (ne_eqb (get_or a i 0) (get_or b i 0) n)
 
-  turn : 22 - i ≡ suc left
-  turn = omega arith
+pub unlike_none : (a b : List ℕ) (i : ℕ) → 22 ≤ i → unlike_from (22 - i) a b i ≡ i
+unlike_none a b i h = let none : 22 - i ≡ 0 = omega arith in ap (λ (n : ℕ). unlike_from n a b i) none
 
-  pub unlike_on : x ≡ y → unlike_from (22 - (i + 1)) a b (i + 1) ≡ z
-  unlike_on e =
-      let next : i + 1 ≡ suc i = omega arith in
-      ap (unlike_from left a b) next
-      ∙ sym (ap (λ (n : ℕ). unlike_from n a b i) turn ∙ rw (eq-eqb (get_or a i 0) (get_or b i 0) (sym ex ∙ e ∙ ey)))
-      ∙ f
-
-  pub unlike_stops : (x ≡ y → ⊥) → i ≡ z
-  unlike_stops n =
-      sym (ap (λ (n : ℕ). unlike_from n a b i) turn ∙ rw (ne_eqb (get_or a i 0) (get_or b i 0) (λ q. n (ex ∙ q ∙ sym ey)))) ∙ f
-
-pub unlike_none : (a b : List ℕ) (i z : ℕ) → 22 ≤ i → i ≤ 22 → unlike_from (22 - i) a b i ≡ z → 22 ≡ z
-unlike_none a b i z h l f =
-    let none : 22 - i ≡ 0 = omega arith in
-    let end : 22 ≡ i = omega arith in
-    end ∙ sym (ap (λ (n : ℕ). unlike_from n a b i) none) ∙ f
+pub ruleset unlike_steps = (unlike_on, unlike_stops, unlike_none)
 
 -- the codes are alike at all digits, or unlike at the one that was found
 abbrev Told : ℕ → List ℕ → List ℕ → ℕ → ℕ → Type 0

@@ -1,5 +1,5 @@
-pub mod Parts
 pub mod Splits
+pub mod Parts
 pub mod Plain
 pub mod Walking
 pub mod Passing

@@ -1,58 +1,46 @@
 -- The walk over the fields, one turn of it.
-use Prim.Native.Nat.{ℕ, suc, ◌+◌, ◌-◌, ◌≤◌, ◌<◌}
-use mathlib.Core.Path.{◌≡◌, sym, ap, ◌∙◌}
-use mathlib.Core.List.{List}
+use Prim.Native.Nat.{ℕ, suc, ◌+◌}
+use mathlib.Core.Path.{◌≡◌, refl, sym, ap, ◌∙◌}
+use mathlib.Core.List.{List, [], ◌∷◌}
 use native.Mathlib.Numerals.{add-one}
 use native.Mathlib.Omega.{arith}
-use lib.ListN.{length, take, drop}
+use lib.ListN.{length, drop, get_or}
 use Rattle.refusal.specs.declared.Reason.{Reason}
+use Rattle.refusal.specs.declared.Refusal.{Refusal}
 use Rattle.refusal.specs.Table.{because}
 use Rattle.fields.specs.Profile.{Row}
 use Rattle.fields.specs.Field.{tested}
-use Rattle.line.specs.Parts.{name_of, fields_of, field_end}
+use Rattle.line.specs.Parts.{split, name_of, fields_of}
 use Rattle.line.specs.Walk.{on_test, walk}
-use Rattle.line.proofs.Parts.{rest, rest_none, rest_step, part_long, end_least, name_there, fields_there}
-use Rattle.std.specs.Prelude.{⊤, Result, Ok, Err}
-use Rattle.refusal.specs.declared.Refusal.{Refusal}
+use Rattle.std.specs.Prelude.{⊤, Result, Ok, Err, MatchResult, IsErrAnd}
 
--- what is left of the walk at a place, with the part in front of it from the place beside on, is the whole
-abbrev pub Left : List Row → List ℕ → ℕ → ℕ → ℕ → ℕ → Result ⊤ Refusal → Type 0
-Left rows line at number beside start whole = walk rows number (at + start) (take (start - 1 - beside) (drop beside line))
-    (rest line start) ≡ whole
+pub walk_starts : (rows : List Row) (line beside : List ℕ) (parts : List (List ℕ)) (at : ℕ) → split line ≡ beside ∷ parts →
+    walk rows 1 (at + length beside + 1) beside parts ≡ walk rows 1 (at + length (name_of line) + 1) (name_of line) (fields_of line)
+walk_starts rows line beside parts at e =
+    ap (λ (ps : List (List ℕ)). walk rows 1 (at + length (get_or ps 0 []) + 1) (get_or ps 0 []) (drop 1 ps)) (sym e)
 
-module _ (rows : List Row) (line : List ℕ) (at name : ℕ) (en : name ≡ length (name_of line)) where
-  pub walk_starts : Left rows line at 1 0 (name + 1) (walk rows 1 (at + length (name_of line) + 1) (name_of line) (fields_of line))
-  walk_starts =
-      let e : at + (name + 1) ≡ at + length (name_of line) + 1 = omega arith in
-      ap (λ (m : ℕ). walk rows 1 m (take (name + 1 - 1 - 0) (drop 0 line)) (rest line (name + 1))) e
-      ∙ ap (λ (b : List ℕ). walk rows 1 (at + length (name_of line) + 1) b (rest line (name + 1))) (name_there line name en)
-      ∙ ap (λ (fs : List (List ℕ)). walk rows 1 (at + length (name_of line) + 1) (name_of line) fs) (fields_there line name en)
+module _ (rows : List Row) (n place : ℕ) (beside field : List ℕ) (parts more : List (List ℕ)) (whole : Result ⊤ Refusal) (e : parts ≡ field ∷ more)
+    (still : walk rows n place beside parts ≡ whole) where
+  turn : on_test (tested rows n beside field) place (walk rows (suc n) (place + length field + 1) field more) ≡ whole
+  turn = ap (walk rows n place beside) (sym e) ∙ still
 
-module _ (rows : List Row) (line : List ℕ) (at number beside start : ℕ) (whole : Result ⊤ Refusal)
-    (left : Left rows line at number beside start whole) where
-  pub walk_done : length line < start → Ok tt ≡ whole
-  walk_done h = sym (ap (walk rows number (at + start) (take (start - 1 - beside) (drop beside line))) (rest_none line start h)) ∙ left
+  pub walk_stops : (why : Reason) → tested rows n beside field ≡ Err why → Err (because why place) ≡ whole
+  walk_stops why t = rw t at turn
 
-  module _ (end : ℕ) (t : Result ⊤ Reason) (h : start ≤ length line) (ee : end ≡ field_end line start)
-      (et : t ≡ tested rows number (take (start - 1 - beside) (drop beside line)) (take (end - start) (drop start line))) where
-    turn : on_test t (at + start) (walk rows (suc number) (at + start + length (take (end - start) (drop start line)) + 1)
-        (take (end - start) (drop start line)) (rest line (end + 1))) ≡ whole
-    turn =
-        rw (et, ee)
-        (sym (ap (walk rows number (at + start) (take (start - 1 - beside) (drop beside line))) (rest_step line start h)) ∙ left)
+  pub walk_on : tested rows n beside field ≡ Ok tt → walk rows (n + 1) (place + (length field + 1)) field more ≡ whole
+  walk_on t =
+      let there : place + (length field + 1) ≡ place + length field + 1 = omega arith in
+      let on : walk rows (suc n) (place + length field + 1) field more ≡ whole = rw t at turn in
+      ap (λ (m : ℕ). walk rows m (place + (length field + 1)) field more) (add-one n)
+      ∙ ap (λ (p : ℕ). walk rows (suc n) p field more) there ∙ on
 
-    pub walk_stops : (why : Reason) → t ≡ Err why → Err (because why (at + start)) ≡ whole
-    walk_stops why e = rw e at turn
+-- the reason of a refusal that `map_err` placed
+pub placed_by : (t : Result ⊤ Reason) (m : Result ⊤ Refusal) (refusal : Refusal) (gives : Reason → Refusal → Type 0) →
+    MatchResult t (λ x. m ≡ Ok x) (λ why. IsErrAnd m (gives why)) → m ≡ Err refusal → (why : Reason) × (t ≡ Err why) × gives why refusal
+placed_by (Ok x) m refusal gives h e = let bad : ◌≡◌ {A = Result ⊤ Refusal} (Ok x) (Err refusal) = sym h ∙ e in cc
+placed_by (Err why) m refusal gives h e = (why, refl, rw e at h)
 
-    pub walk_on : t ≡ Ok tt → Left rows line at (number + 1) start (end + 1) whole
-    walk_on e =
-        let f = take (end - start) (drop start line) in
-        let long : length (take (end - start) (drop start line)) ≡ end - start = rw ee (part_long line start h) in
-        let place : at + (end + 1) ≡ at + start + length (take (end - start) (drop start line)) + 1 =
-        omega (arith, long, ee, end_least line start h) in
-        let same : end + 1 - 1 - start ≡ end - start = omega arith in
-        let on : walk rows (suc number) (at + start + length f + 1) f (rest line (end + 1)) ≡ whole = rw e at turn in
-        ap (λ (n : ℕ). walk rows n (at + (end + 1)) (take (end + 1 - 1 - start) (drop start line)) (rest line (end + 1))) (add-one number)
-        ∙ ap (λ (p : ℕ). walk rows (suc number) p (take (end + 1 - 1 - start) (drop start line)) (rest line (end + 1))) place
-        ∙ ap (λ (m : ℕ). walk rows (suc number) (at + start + length f + 1) (take m (drop start line)) (rest line (end + 1))) same
-        ∙ on
+pub placed_ok : (t : Result ⊤ Reason) (m : Result ⊤ Refusal) (x : ⊤) (gives : Reason → Refusal → Type 0) →
+    MatchResult t (λ x. m ≡ Ok x) (λ why. IsErrAnd m (gives why)) → m ≡ Ok x → t ≡ Ok tt
+placed_ok (Ok _) m x gives h e = refl
+placed_ok (Err why) m x gives h e = absurd (rw e at h)

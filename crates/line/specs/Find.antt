@@ -1,6 +1,6 @@
 -- Document 01, "One field adds a field number, then 15 for 0 or above the count, and answers start and length."
 use Rattle.std.specs.Prelude.{ℕ, ◌+◌, ◌||◌, List, ltb, eqb, length, if◌then◌else◌, Result, Ok, Err}
-use Rattle.refusal.specs.Table.{because, verdict_of, Verdict}
+use Rattle.refusal.specs.Table.{because}
 use Rattle.refusal.specs.declared.Reason.TheVariants.{NotThere}
 use Rattle.fields.specs.Profile.{Rules, profile}
 use Rattle.records.specs.Version.{version_numbered, under_version}
@@ -9,11 +9,6 @@ use Rattle.line.specs.Line.{text_at, alone, line_answer}
 use Rattle.line.specs.declared.read.Line.{Line}
 use Rattle.line.specs.declared.find.Span.{Span}
 use Rattle.refusal.specs.declared.Refusal.{Refusal}
-
--- the line's refusal, handed on
-abbrev pub handed_on : Result Line Refusal → Result Span Refusal
-handed_on (Ok line) = Err (because NotThere 0)
-handed_on (Err refusal) = Err refusal
 
 unfoldable pub in_line : Result Line Refusal → List ℕ → ℕ → ℕ → Result Span Refusal
 in_line (Err refusal) file offset n = Err refusal

@@ -3,7 +3,7 @@ use Rattle.std.specs.Prelude.{ℕ, ◌+◌, ◌-◌, Bool, not, List, ltb, lengt
 use Rattle.text.specs.Byte.{text_byte}
 use Rattle.text.specs.Quoted.{bytes}
 use Rattle.text.specs.Scan.{first_failing, same}
-use Rattle.refusal.specs.Table.{because, verdict_of, Verdict}
+use Rattle.refusal.specs.Table.{because}
 use Rattle.refusal.specs.declared.Reason.TheVariants.{FileTooLong, NoLineEnd, UnknownRecord, OutOfOrder, FieldCount, FeatureLacks}
 use Rattle.fields.specs.Profile.{Rules, profile}
 use Rattle.records.specs.Version.{version_numbered, under_version}

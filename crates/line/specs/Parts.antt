@@ -2,7 +2,6 @@
 -- from 1 after it."
 use Rattle.std.specs.Prelude.{ℕ, zero, suc, ◌+◌, ◌-◌, Bool, not, List, [], ◌∷◌, eqb, length, drop, get_or, if◌then◌else◌}
 use Rattle.text.specs.Quoted.{byte}
-use Rattle.text.specs.Scan.{first_failing}
 
 abbrev pub semicolon : ℕ → Bool
 semicolon b = eqb b (byte ";")
@@ -45,9 +44,6 @@ start_in (part ∷ parts) (suc n) = length part + 1 + start_in parts n
 abbrev pub start_of : List ℕ → ℕ → ℕ
 start_of line n = start_in (split line) n
 
--- where the part that starts here ends
+-- a byte of a part
 abbrev pub in_field : ℕ → Bool
 in_field b = not (semicolon b)
-
-abbrev pub field_end : List ℕ → ℕ → ℕ
-field_end line start = first_failing (λ _ b. in_field b) start (drop start line)

@@ -2,32 +2,20 @@
 ghost use Rattle.std.specs.Prelude.{◌≡◌, ◌+◌, ◌≤◌, length};
 ghost use Rattle.line.specs.Parts.{start_of, part_at};
 
-use crate::scan::field_end;
-
 // The part with this number; no bytes where the line has no such part.
 pub fn field_in(line: &[u8], number: usize) -> &[u8]
     ensures { result.now ≡ part_at line.now number }
 {
-    let start = start_of(line, number);
-    if line.len() < start {
-        return &line[0..0];
-    }
-    let end = field_end(line, start);
-    &line[start..end]
+    line.split(|&b| b == b';').nth(number).unwrap_or(&[])
 }
 
 // Where the part with this number starts; past the line where it has no such part.
 pub fn start_of(line: &[u8], number: usize) -> usize
     ensures { (result ≡ start_of line.now number) × (result ≤ length line.now + 1) }
 {
-    let mut start: usize = 0;
-    let mut i: usize = 0;
-    while i < number {
-        if line.len() < start {
-            return start;
-        }
-        start = field_end(line, start) + 1;
-        i += 1;
+    let mut start = 0;
+    for part in line.split(|&b| b == b';').take(number) {
+        start += part.len() + 1;
     }
     start
 }

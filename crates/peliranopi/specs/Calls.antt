@@ -15,7 +15,7 @@ use Rattle.file.specs.File.{judged, list_of}
 use Rattle.writer.specs.Write.{record_numbered, between, write_answer, written_to}
 use Rattle.purpose.specs.Purpose.{purpose_answer, purpose_of, list_after, output_after}
 use Rattle.peliranopi.specs.Told.{lines_told, parcels_told, cents_told, record_told, count_told, next_told, start_told, length_told}
-use Rattle.peliranopi.specs.Told.{written_told, purpose_told, issued_told, kind_told, carry_told, passed_told, parts_told}
+use Rattle.peliranopi.specs.Told.{value_told, kind_told, parts_told}
 use Rattle.refusal.specs.declared.Refusal.{Refusal}
 
 -- what every call tells: its number, and the place
@@ -48,7 +48,7 @@ abbrev pub WriteTells : ℕ → ℕ → List ℕ → List ℕ → List ℕ → �
 WriteTells version kind text ends output fill number bytes place after =
     let answer = write_answer version kind text ends (length output) fill in
     Tells (verdict_on answer) number place
-    × (bytes ≡ written_told answer)
+    × (bytes ≡ value_told answer)
     × (after ≡ written_to answer (record_numbered kind) (between text ends) output fill)
 
 -- writing the purpose of the line with a number, with what is lent
@@ -56,7 +56,7 @@ abbrev pub PurposeTells : List ℕ → ℕ → Lent → List ℕ → ℕ → ℕ
 PurposeTells file line lent output number bytes place list after =
     let answer = purpose_answer file line lent (length output) in
     Tells (verdict_on answer) number place
-    × (bytes ≡ purpose_told answer)
+    × (bytes ≡ value_told answer)
     × (list ≡ list_after answer lent.words (judged file lent).starts)
     × (after ≡ output_after answer (purpose_of file line lent) output)
 
@@ -70,12 +70,12 @@ NumberTells symbols number kind place =
 abbrev pub DayTells : List ℕ → List ℕ → ℕ → ℕ → ℕ → List ℕ → Type 0
 DayTells numbers answers number passed place after =
     let answer = day_answer numbers (length answers) in
-    Tells (verdict_on answer) number place × (passed ≡ passed_told answer) × (after ≡ answers_after answer numbers answers)
+    Tells (verdict_on answer) number place × (passed ≡ value_told answer) × (after ≡ answers_after answer numbers answers)
 
 -- issuing a number with its check: what the answer tells, and the output then
 abbrev pub IssuedTells : Result ℕ Refusal → List ℕ → ℕ → List ℕ → ℕ → ℕ → ℕ → List ℕ → Type 0
 IssuedTells answer body check output number bytes place after =
-    Tells (verdict_on answer) number place × (bytes ≡ issued_told answer) × (after ≡ issued_to answer body check output)
+    Tells (verdict_on answer) number place × (bytes ≡ value_told answer) × (after ≡ issued_to answer body check output)
 
 abbrev pub IssueTells : List ℕ → List ℕ → ℕ → ℕ → ℕ → List ℕ → Type 0
 IssueTells body output number bytes place after =
@@ -85,7 +85,7 @@ IssueTells body output number bytes place after =
 abbrev pub CarryTells : ℕ → ℕ → ℕ → ℕ → ℕ → Type 0
 CarryTells carry key number next place =
     let answer = next_carry carry key in
-    Tells (verdict_on answer) number place × (next ≡ carry_told answer)
+    Tells (verdict_on answer) number place × (next ≡ value_told answer)
 
 -- checking an IBAN
 abbrev pub IbanTells : List ℕ → ℕ → ℕ → Type 0

@@ -55,18 +55,10 @@ abbrev pub length_told : Result Span Refusal → ℕ
 length_told (Ok span) = span.long
 length_told (Err refusal) = 0
 
--- of what is written: "how many bytes were written"
-abbrev pub written_told : Result ℕ Refusal → ℕ
-written_told (Ok n) = n
-written_told (Err refusal) = 0
-
-abbrev pub purpose_told : Result ℕ Refusal → ℕ
-purpose_told (Ok n) = n
-purpose_told (Err refusal) = 0
-
-abbrev pub issued_told : Result ℕ Refusal → ℕ
-issued_told (Ok n) = n
-issued_told (Err refusal) = 0
+-- of what is written or issued, "how many bytes were written"; of a key, the carry after it; of a day's numbers, "the count of zeros"
+abbrev pub value_told : Result ℕ Refusal → ℕ
+value_told (Ok n) = n
+value_told (Err refusal) = 0
 
 -- of a number: "the length (15 or 28) telling the kind"
 abbrev pub kind_number : Kind → ℕ
@@ -76,16 +68,6 @@ kind_number Label = 2
 abbrev pub kind_told : Result Kind Refusal → ℕ
 kind_told (Ok kind) = kind_number kind
 kind_told (Err refusal) = 0
-
--- of a key: the carry after it
-abbrev pub carry_told : Result ℕ Refusal → ℕ
-carry_told (Ok carry) = carry
-carry_told (Err refusal) = 0
-
--- of a day's numbers: "the count of zeros"
-abbrev pub passed_told : Result ℕ Refusal → ℕ
-passed_told (Ok passed) = passed
-passed_told (Err refusal) = 0
 
 -- of an identcode: where each of its six parts starts, and how many digits it has, twelve numbers in the parts' order
 abbrev pub as_numbers : Parts → List ℕ

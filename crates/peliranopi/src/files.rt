@@ -17,20 +17,10 @@ pub fn peliranopi_judge(
         lines.new parcels.new cents.new place.new list.new }
 {
     let answer = file::judge(file, countries, list);
-    match answer {
-        Ok(totals) => {
-            *lines = totals.lines;
-            *parcels = totals.parcels;
-            *cents = totals.cents;
-            tell::accepted(place)
-        }
-        Err(refusal) => {
-            *lines = 0;
-            *parcels = 0;
-            *cents = 0;
-            tell::refused(refusal, place)
-        }
-    }
+    *lines = answer.map_or(0, |totals| totals.lines);
+    *parcels = answer.map_or(0, |totals| totals.parcels);
+    *cents = answer.map_or(0, |totals| totals.cents);
+    tell::told(answer, place)
 }
 
 pub fn peliranopi_write_purpose(
@@ -46,14 +36,6 @@ pub fn peliranopi_write_purpose(
         output.old result written.new place.new list.new output.new }
 {
     let answer = purpose::write_purpose(file, countries, line, list, output);
-    match answer {
-        Ok(bytes) => {
-            *written = bytes;
-            tell::accepted(place)
-        }
-        Err(refusal) => {
-            *written = 0;
-            tell::refused(refusal, place)
-        }
-    }
+    *written = answer.unwrap_or(0);
+    tell::told(answer, place)
 }

@@ -1,12 +1,11 @@
 // The calls on DPD numbers and their carry, IBANs and identcodes.
-ghost use Rattle.refusal.specs.Table.{verdict_on};
 ghost use Rattle.std.specs.Prelude.{◌≡◌};
-ghost use Rattle.peliranopi.specs.Told.{kind_number, issued_told, as_numbers};
+ghost use Rattle.refusal.specs.Table.{verdict_on};
+ghost use Rattle.peliranopi.specs.Told.{value_told, parts_told, as_numbers};
 ghost use Rattle.peliranopi.specs.Calls.{Tells, NumberTells, IssueTells, CarryTells, IbanTells, IdentcodeTells, PartsTells};
 ghost use Rattle.peliranopi.specs.Calls.{DayTells, IssueIdentcodeTells};
 
 use crate::tell;
-use check_characters::Kind;
 use check_digits::Parts;
 use refusal::Refusal;
 
@@ -14,16 +13,8 @@ pub fn peliranopi_check_number(symbols: &[u8], kind: &mut u32, place: &mut usize
     ensures { NumberTells symbols.now result kind.new place.new }
 {
     let answer = check_characters::check_number(symbols);
-    match answer {
-        Ok(which) => {
-            *kind = kind_number(which);
-            tell::accepted(place)
-        }
-        Err(refusal) => {
-            *kind = 0;
-            tell::refused(refusal, place)
-        }
-    }
+    *kind = answer.map_or(0, |kind| kind as u32);
+    tell::told(answer, place)
 }
 
 pub fn peliranopi_check_numbers(
@@ -35,16 +26,8 @@ pub fn peliranopi_check_numbers(
     ensures { DayTells numbers.now answers.old result passed.new place.new answers.new }
 {
     let answer = check_characters::check_numbers(numbers, answers);
-    match answer {
-        Ok(count) => {
-            *passed = count;
-            tell::accepted(place)
-        }
-        Err(refusal) => {
-            *passed = 0;
-            tell::refused(refusal, place)
-        }
-    }
+    *passed = answer.unwrap_or(0);
+    tell::told(answer, place)
 }
 
 pub fn peliranopi_issue_number(
@@ -62,28 +45,20 @@ pub fn peliranopi_next_carry(carry: u32, key: u8, next: &mut u32, place: &mut us
     ensures { CarryTells carry key result next.new place.new }
 {
     let answer = check_characters::next_carry(carry, key);
-    match answer {
-        Ok(after) => {
-            *next = after;
-            tell::accepted(place)
-        }
-        Err(refusal) => {
-            *next = 0;
-            tell::refused(refusal, place)
-        }
-    }
+    *next = answer.unwrap_or(0);
+    tell::told(answer, place)
 }
 
 pub fn peliranopi_check_iban(symbols: &[u8], place: &mut usize) -> u32
     ensures { IbanTells symbols.now result place.new }
 {
-    tell_checked(check_characters::check_iban(symbols), place)
+    tell::told(check_characters::check_iban(symbols), place)
 }
 
 pub fn peliranopi_check_identcode(code: &[u8], place: &mut usize) -> u32
     ensures { IdentcodeTells code.now result place.new }
 {
-    tell_checked(check_digits::check_identcode(code), place)
+    tell::told(check_digits::check_identcode(code), place)
 }
 
 // The header has the twelve numbers as a struct of six parts.
@@ -91,16 +66,8 @@ pub fn peliranopi_read_identcode(code: &[u8], parts: &mut [usize; 12], place: &m
     ensures { PartsTells code.now result parts.new place.new }
 {
     let answer = check_digits::read_identcode(code);
-    match answer {
-        Ok(found) => {
-            *parts = as_numbers(found);
-            tell::accepted(place)
-        }
-        Err(refusal) => {
-            *parts = [0; 12];
-            tell::refused(refusal, place)
-        }
-    }
+    *parts = numbers_of(answer);
+    tell::told(answer, place)
 }
 
 pub fn peliranopi_issue_identcode(
@@ -115,29 +82,21 @@ pub fn peliranopi_issue_identcode(
     tell_issued(check_digits::issue_identcode(body, output), written, place)
 }
 
-// What checking a number tells.
-fn tell_checked(answer: Result<(), Refusal>, place: &mut usize) -> u32
-    ensures { Tells (verdict_on answer) result place.new }
-{
-    match answer {
-        Ok(()) => tell::accepted(place),
-        Err(refusal) => tell::refused(refusal, place),
-    }
-}
-
 // What issuing a number tells.
 fn tell_issued(answer: Result<usize, Refusal>, written: &mut usize, place: &mut usize) -> u32
-    ensures { Tells (verdict_on answer) result place.new × (written.new ≡ issued_told answer) }
+    ensures { Tells (verdict_on answer) result place.new × (written.new ≡ value_told answer) }
+{
+    *written = answer.unwrap_or(0);
+    tell::told(answer, place)
+}
+
+// The twelve numbers of an answer; 0 where the code is refused.
+fn numbers_of(answer: Result<Parts, Refusal>) -> [usize; 12]
+    ensures { result ≡ parts_told answer }
 {
     match answer {
-        Ok(bytes) => {
-            *written = bytes;
-            tell::accepted(place)
-        }
-        Err(refusal) => {
-            *written = 0;
-            tell::refused(refusal, place)
-        }
+        Ok(parts) => as_numbers(parts),
+        Err(_) => [0; 12],
     }
 }
 
@@ -159,14 +118,4 @@ fn as_numbers(parts: Parts) -> [usize; 12]
         parts.check.start,
         parts.check.length,
     ]
-}
-
-// The number that stands for a kind.
-fn kind_number(kind: Kind) -> u32
-    ensures { result ≡ kind_number kind }
-{
-    match kind {
-        Kind::Tracking => 1,
-        Kind::Label => 2,
-    }
 }

@@ -1,22 +1,21 @@
 // What every call tells: its number, and the place behind a pointer.
-ghost use Rattle.std.specs.Prelude.{◌≡◌};
-ghost use Rattle.refusal.specs.Table.{number_of};
+ghost use Rattle.refusal.specs.Table.{verdict_on};
+ghost use Rattle.peliranopi.specs.Calls.{Tells};
 
 use refusal::Refusal;
 
-// Accepted: 0, and no place.
-pub fn accepted(place: &mut usize) -> u32
-    ensures { (result ≡ 0) × (place.new ≡ 0) }
+// Accepted: 0, and no place. Refused: the refusal's number, and its place.
+pub fn told<T: Copy>(answer: Result<T, Refusal>, place: &mut usize) -> u32
+    ensures { Tells (verdict_on answer) result place.new }
 {
-    *place = 0;
-    0
-}
-
-// Refused: the number, and the place.
-pub fn refused(refusal: Refusal, place: &mut usize) -> u32
-    ensures { (result ≡ number_of refusal.why) × (place.new ≡ refusal.place) }
-{
-    *place = refusal.place;
-    let why = refusal.why;
-    refusal::number(why)
+    match answer {
+        Ok(_) => {
+            *place = 0;
+            0
+        }
+        Err(refusal) => {
+            *place = refusal.place;
+            refusal::number(refusal.why)
+        }
+    }
 }

@@ -3,22 +3,15 @@ ghost use Rattle.std.specs.Prelude.{◌≡◌, get_or};
 ghost use Rattle.purpose.specs.At.{field_at, filled_at, is_typed};
 
 // Where the line with this number starts; 0 where the list has no such line.
+#[tactic(auto, using(text::proofs::Scans::read_past))]
 pub fn offset_of(starts: &[u32], number: usize) -> usize
     ensures { result ≡ get_or starts.now number 0 }
 {
-    if starts.len() <= number {
-        return 0;
-    }
-    wide(starts[number])
-}
-
-fn wide(word: u32) -> usize
-    ensures { result ≡ word }
-{
-    word as usize
+    starts.get(number).map_or(0, |&start| start as usize)
 }
 
 // The part with this number of the line that starts here: the record type for 0, else the field.
+#[tactic(auto, using(crate::proofs::Starting::part_told))]
 pub fn field_at(file: &[u8], offset: usize, number: usize) -> &[u8]
     ensures { result.now ≡ field_at file.now offset number }
 {
@@ -26,6 +19,7 @@ pub fn field_at(file: &[u8], offset: usize, number: usize) -> &[u8]
 }
 
 // Whether a line of this type starts here.
+#[tactic(auto, using(text::proofs::Scans::same_as), unfolding(crate::specs::At::is_typed))]
 pub fn is_typed(file: &[u8], offset: usize, name: &[u8]) -> bool
     ensures { result ≡ is_typed file.now offset name.now }
 {
@@ -33,6 +27,7 @@ pub fn is_typed(file: &[u8], offset: usize, name: &[u8]) -> bool
 }
 
 // Whether the field with this number of the line that starts here is filled.
+#[tactic(auto, using(crate::proofs::Starting::filled_told))]
 pub fn is_filled_at(file: &[u8], offset: usize, number: usize) -> bool
     ensures { result ≡ filled_at file.now offset number }
 {

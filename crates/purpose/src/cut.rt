@@ -11,6 +11,7 @@ use crate::source::Source;
 pub const PURPOSE_LONG: usize = 35;
 
 // Writes the text that this source supplies, and answers how many bytes.
+#[tactic(auto, using(crate::proofs::Cutting::field_long, crate::proofs::Cutting::field_there, crate::proofs::Cutting::both_long, crate::proofs::Cutting::both_there))]
 pub fn write_source(file: &[u8], source: Source, output: &mut [u8]) -> usize
     requires { purpose_long ≤ length output.old }
     ensures { (result ≡ length (cut (source_text file.now source)))
@@ -27,6 +28,7 @@ pub fn write_source(file: &[u8], source: Source, output: &mut [u8]) -> usize
 }
 
 // Writes two texts with a slash between them.
+#[tactic(auto, using(crate::proofs::Cutting::joined_long, crate::proofs::Cutting::joined_there))]
 fn write_joined(output: &mut [u8], a: &[u8], b: &[u8]) -> usize
     requires { purpose_long ≤ length output.old }
     ensures { (result ≡ length (cut (a.now ++ bytes "/" ++ b.now)))
@@ -38,6 +40,7 @@ fn write_joined(output: &mut [u8], a: &[u8], b: &[u8]) -> usize
 }
 
 // Writes src from the place at on, as much of it as the first 35 bytes have room for, and answers where it ends.
+#[tactic(auto, using(crate::proofs::Cutting::piece_long, crate::proofs::Cutting::piece_fits, crate::proofs::Cutting::piece_there))]
 fn write_upto(output: &mut [u8], at: usize, src: &[u8]) -> usize
     requires { (at ≤ purpose_long) × (purpose_long ≤ length output.old) }
     ensures { (result ≡ at + length (take (purpose_long - at) src.now)) × (result ≤ purpose_long)

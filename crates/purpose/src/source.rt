@@ -5,7 +5,7 @@ ghost use Rattle.purpose.specs.Source.{is_cash_line, from_shipment, for_feature,
 use crate::at::{field_at, is_filled_at, is_typed, offset_of};
 use crate::shipment::{first_parcel, shipment_above};
 
-#[derive(Clone, Copy)]
+#[derive(Clone, Copy, Debug, PartialEq, Eq)]
 pub enum Source {
     // The field with this number of the line that starts at this offset.
     Field { offset: usize, number: usize },
@@ -14,31 +14,28 @@ pub enum Source {
 }
 
 // The source for the line with this number; the first words of the list, as many as the file has lines, hold where each starts.
+#[tactic(auto, using(crate::proofs::Seeking::past_lines, crate::proofs::Seeking::no_cash_line, crate::proofs::Seeking::cash_line))]
 pub fn find_source(file: &[u8], list: &[u32], lines: usize, number: usize) -> Option<Source>
     requires { lines ≤ length list.now }
     ensures { result ≡ source_of file.now (take lines list.now) number }
 {
     let starts = &list[..lines];
-    if starts.len() <= number {
-        return None;
-    }
-    if !is_cash_line(file, offset_of(starts, number)) {
+    if starts.len() <= number || !is_cash_line(file, offset_of(starts, number)) {
         return None;
     }
     Some(for_feature(file, starts, number))
 }
 
 // Whether a 060 line with the code 006 starts here.
+#[tactic(auto, using(text::proofs::Choices::test_fails, text::proofs::Choices::test_holds, text::proofs::Scans::same_as), unfolding(crate::specs::Source::is_cash_line))]
 fn is_cash_line(file: &[u8], offset: usize) -> bool
     ensures { result ≡ is_cash_line file.now offset }
 {
-    if !is_typed(file, offset, b"060") {
-        return false;
-    }
-    text::equal(field_at(file, offset, 1), b"006")
+    is_typed(file, offset, b"060") && text::equal(field_at(file, offset, 1), b"006")
 }
 
 // The source for a cash line: its own field first, then its shipment's.
+#[tactic(auto, using(crate::proofs::Seeking::own_field, crate::proofs::Seeking::from_above))]
 fn for_feature(file: &[u8], starts: &[u32], number: usize) -> Source
     requires { number < length starts.now }
     ensures { result ≡ for_feature file.now starts.now number }
@@ -53,6 +50,7 @@ fn for_feature(file: &[u8], starts: &[u32], number: usize) -> Source
 }
 
 // The source in a shipment: the lines of the shipment and of its first parcel start here.
+#[tactic(auto, using(text::proofs::Choices::takes_then, text::proofs::Choices::takes_else), unfolding(crate::specs::Source::from_shipment))]
 fn from_shipment(file: &[u8], shipment: usize, parcel: usize) -> Source
     ensures { result ≡ from_shipment file.now shipment parcel }
 {

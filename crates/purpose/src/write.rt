@@ -8,6 +8,7 @@ use refusal::{Reason, Refusal};
 
 // Writes the purpose of the line with this number at the output's start. Written, the list is as for the whole file; otherwise all
 // its words are 0 and the output is as it was.
+#[tactic(auto, using(crate::proofs::Answering::lines_fit, crate::proofs::Answering::file_answer, crate::proofs::Answering::file_list, crate::proofs::Answering::not_there, crate::proofs::Answering::too_short, crate::proofs::Answering::was_written, crate::proofs::Answering::cleared, crate::proofs::Answering::text_there))]
 pub fn write_purpose(
     file: &[u8],
     countries: &[u8],
@@ -18,26 +19,14 @@ pub fn write_purpose(
     ensures { Purposes file.now line (record { countries = countries.now; words = length list.old })
         output.old result list.new output.new }
 {
-    let answer = file::judge(file, countries, list);
-    match answer {
-        Ok(totals) => {
-            let sourced = source::find_source(file, list, totals.lines, line);
-            let Some(source) = sourced else {
-                file::clear(list);
-                return Err(Refusal {
-                    why: Reason::NotThere,
-                    place: 0,
-                });
-            };
-            if output.len() < PURPOSE_LONG {
-                file::clear(list);
-                return Err(Refusal {
-                    why: Reason::OutputTooShort,
-                    place: 0,
-                });
-            }
-            Ok(cut::write_source(file, source, output))
-        }
-        Err(refusal) => Err(refusal),
+    let totals = file::judge(file, countries, list)?;
+    let Some(source) = source::find_source(file, list, totals.lines, line) else {
+        file::clear(list);
+        return Err(Refusal::new(Reason::NotThere, 0));
+    };
+    if output.len() < PURPOSE_LONG {
+        file::clear(list);
+        return Err(Refusal::new(Reason::OutputTooShort, 0));
     }
+    Ok(cut::write_source(file, source, output))
 }

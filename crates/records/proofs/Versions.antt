@@ -1,23 +1,13 @@
 -- The versions by cases.
 use Prim.Native.Nat.{ℕ}
 use mathlib.Core.Path.{◌≡◌, refl, ◌∙◌}
-use mathlib.Core.Bool.{Bool}
-use mathlib.Core.List.{List}
 use borrow.Author.Tests.{ne_eqb}
-use Rattle.text.specs.Scan.{same}
 use Rattle.refusal.specs.Table.{because}
 use Rattle.refusal.specs.declared.Refusal.{Refusal}
 use Rattle.refusal.specs.declared.Reason.TheVariants.{UnknownVersion}
-use Rattle.records.specs.Version.{numeral, version_numbered, under_version, UnderVersion}
+use Rattle.records.specs.Version.{version_numbered, under_version, UnderVersion}
 use Rattle.records.specs.declared.version.Version.{Version}
 use Rattle.std.specs.Prelude.{Option, Some, None}
-
--- an arm of a match is a case of the rule
-pub numeral_as : (version case : Version) (f : List ℕ) (t : Bool) → version ≡ case → t ≡ same f (numeral case) → t ≡ same f (numeral version)
-numeral_as version case f t e g = rw e g
-
-pub told_as : (n case : ℕ) (told : Option Version) → n ≡ case → told ≡ version_numbered case → told ≡ version_numbered n
-told_as n case told e f = rw e f
 
 pub told_neither : (n : ℕ) → (n ≡ 5 → ⊥) → (n ≡ 7 → ⊥) → None ≡ version_numbered n
 unfolding version_numbered

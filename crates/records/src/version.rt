@@ -2,7 +2,7 @@
 ghost use Rattle.std.specs.Prelude.{◌≡◌};
 ghost use Rattle.records.specs.Version.{is_version, version_numbered};
 
-#[derive(Clone, Copy)]
+#[derive(Clone, Copy, Debug, PartialEq, Eq)]
 pub enum Version {
     // Document 01's field rules.
     Five,
@@ -11,6 +11,7 @@ pub enum Version {
 }
 
 // The version that a number names.
+#[tactic(auto, unfolding(crate::specs::Version::version_numbered))]
 pub fn version_numbered(number: u32) -> Option<Version>
     ensures { result ≡ version_numbered number }
 {
@@ -22,6 +23,7 @@ pub fn version_numbered(number: u32) -> Option<Version>
 }
 
 // Whether a field is this version's numeral.
+#[tactic(auto, unfolding(crate::specs::Version::is_version))]
 pub fn is_version(version: Version, field: &[u8]) -> bool
     ensures { result ≡ is_version version field.now }
 {

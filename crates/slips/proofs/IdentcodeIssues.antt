@@ -88,9 +88,9 @@ sound_issued s out after answer g room h =
     answered : answer ≡ Ok (length s)
     answered =
         h.0
-        ∙ sym (identcode_right (body_of s) (length out) long (wrong_in_identcode (body_of s)) refl (Ok (length (body_of s) + 1))
-        (omega (arith, long, all_shaped allowed_in_identcode (body_of s) (front_shaped allowed_in_identcode s (length s - 1) g.shaped)))
-        (room_there (length (body_of s)) (length out) (omega (arith, long, g.long))))
+        ∙ identcode_right (body_of s) (length out) long
+        (all_shaped allowed_in_identcode (body_of s) (front_shaped allowed_in_identcode s (length s - 1) g.shaped))
+        ∙ sym (room_there (length (body_of s)) (length out) (omega (arith, long, g.long)))
         ∙ ap Ok (omega (arith, long, g.long))
 
     last : check_digit_of (body_of s) ≡ get_or s (length s - 1) 0

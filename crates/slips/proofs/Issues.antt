@@ -85,8 +85,8 @@ module _ (body : List ℕ) where
       rw v (omega (arith, r.low, r.high))
 
 check_stands : (k : Kind) (i b : ℕ) → i + 1 ≡ length_of k → symbol b ≡ true → allowed_in_number k i b ≡ true
-check_stands Tracking i b e s = sym (tracking_check Tracking i b (symbol b) refl (omega arith) (omega arith) refl) ∙ s
-check_stands Label i b e s = sym (label_check Label i b (symbol b) refl (omega arith) (omega arith) refl) ∙ s
+check_stands Tracking i b e s = tracking_check i b (omega arith) ∙ s
+check_stands Label i b e s = label_check i b (omega arith) ∙ s
 
 with_check : (k : Kind) (body : List ℕ) → length body + 1 ≡ length_of k → Shaped (allowed_in_number k) body →
     SoundNumber k (body ++ (check_of body ∷ []))
@@ -135,9 +135,8 @@ sound_issued k s out after answer g room h = (answered, rw answered at h.1 ∙ w
     answered =
         h.0
         ∙ issues_as k (body_of s) (length out) (whole ∙ g.long)
-        ∙ sym (issue_right k (body_of s) (length out) (wrong_in_number k (body_of s)) refl (Ok (length (body_of s) + 1))
-        (all_shaped (allowed_in_number k) (body_of s) shaped) (whole ∙ g.long)
-        (room_there (length (body_of s)) (length out) (omega (arith, whole))))
+        ∙ issue_right k (body_of s) (length out) (all_shaped (allowed_in_number k) (body_of s) shaped) (whole ∙ g.long)
+        ∙ sym (room_there (length (body_of s)) (length out) (omega (arith, whole)))
         ∙ ap Ok whole
 
     last : check_of (body_of s) ≡ get_or s (length s - 1) 0

@@ -72,13 +72,11 @@ digit_symbol b e = rw e
 
 pub symbol_of_lem : (k : Kind) (i b : ℕ) → i < length_of k → allowed_in_number k i b ≡ true → symbol b ≡ true
 symbol_of_lem Tracking i b h e =
-    ⊎_elim (λ l. tracking_check Tracking i b (symbol b) refl l h refl
-    ∙ e) (λ l. digit_symbol b (tracking_digit Tracking i b (digit b) refl l refl ∙ e)) (le_or_lt 14 i)
+    ⊎_elim (λ l. sym (tracking_check i b (omega arith)) ∙ e) (λ l. digit_symbol b (sym (tracking_digit i b l) ∙ e)) (le_or_lt 14 i)
 symbol_of_lem Label i b h e =
     ⊎_elim
-    (λ m. ⊎_elim (λ l. label_check Label i b (symbol b) refl l h refl
-    ∙ e) (λ l. digit_symbol b (label_digit Label i b (digit b) refl m l refl ∙ e)) (le_or_lt 27 i))
-    (λ l. label_symbol Label i b (symbol b) refl l refl ∙ e)
+    (λ m. ⊎_elim (λ l. sym (label_check i b (omega arith)) ∙ e) (λ l. digit_symbol b (sym (label_digit i b m l) ∙ e)) (le_or_lt 27 i))
+    (λ l. sym (label_symbol i b l) ∙ e)
     (le_or_lt 7 i)
 
 -- the value of a symbol, with the range that its class gives it

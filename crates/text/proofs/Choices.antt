@@ -1,10 +1,10 @@
 -- Tests and choices taken apart, for any answer.
-use Prim.Native.Nat.{ℕ, ◌≤◌, ◌<◌}
+use Prim.Native.Nat.{ℕ}
 use mathlib.Core.Path.{◌≡◌, refl, sym, ◌∙◌}
 use mathlib.Core.Bool.{Bool, true, false, not, ◌&&◌, ◌||◌, true≢false, false≢true}
 use mathlib.Core.Logic.{◌⊎◌, inl, inr}
-use lib.Dec.{leb, eqb}
-use borrow.Author.Tests.{le-leb, lt-leb, eq-eqb, ne_eqb, not-true, not-false}
+use lib.Dec.{eqb}
+use borrow.Author.Tests.{eq-eqb, ne_eqb, not-true, not-false}
 use Rattle.std.specs.Prelude.{if◌then◌else◌}
 
 pub and_left : (a b : Bool) → (a && b) ≡ true → a ≡ true
@@ -63,31 +63,8 @@ module _ (c : Bool) where
   pub test_holds : (u t a : Bool) → t ≡ a → not t ≡ false → u ≡ c → u ≡ (a && c)
   test_holds u t a e q f = let g : a ≡ true = sym e ∙ not-false t q in simp g f
 
-  pub test_refuses : (t a : Bool) → t ≡ a → t ≡ true → false ≡ (not a && c)
-  test_refuses t a e q = let g : a ≡ true = sym e ∙ q in simp g
-
-  pub test_spares : (u t a : Bool) → t ≡ a → t ≡ false → u ≡ c → u ≡ (not a && c)
-  test_spares u t a e q f = let g : a ≡ false = sym e ∙ q in simp g f
-
-  module _ (a b : ℕ) where
-    pub le_fails : b < a → false ≡ (leb a b && c)
-    le_fails h = simp (lt-leb a b)
-
-    pub le_holds : (u : Bool) → a ≤ b → u ≡ c → u ≡ (leb a b && c)
-    le_holds u h f = simp (le-leb a b) f
-
-    pub eq_fails : (a ≡ b → ⊥) → false ≡ (eqb a b && c)
-    eq_fails n = simp (ne_eqb a b n)
-
-    pub eq_holds : (u : Bool) → a ≡ b → u ≡ c → u ≡ (eqb a b && c)
-    eq_holds u e f = simp (eq-eqb a b e) f
-
 pub test_held : (t a : Bool) → t ≡ a → not t ≡ false → a ≡ true
 test_held t a e q = sym e ∙ not-false t q
-
--- a number that was told to be x, compared
-pub le_told : (a n x : ℕ) → n ≡ x → leb a n ≡ leb a x
-le_told a n x e = rw e
 
 -- a choice, as the code that makes it meets it: the test t or the comparison of two numbers, and x the answer of the arm taken
 module _ {A : Type 0} (x a b : A) where
@@ -97,12 +74,6 @@ module _ {A : Type 0} (x a b : A) where
 
     pub takes_else : t ≡ false → x ≡ b → x ≡ (if c then a else b)
     takes_else q f = let g : c ≡ false = sym e ∙ q in rw g f
-
-    pub not_takes_then : not t ≡ false → x ≡ a → x ≡ (if c then a else b)
-    not_takes_then q f = takes_then (not-false t q) f
-
-    pub not_takes_else : not t ≡ true → x ≡ b → x ≡ (if c then a else b)
-    not_takes_else q f = takes_else (not-true t q) f
 
   module _ (m n : ℕ) where
     pub eq_takes_then : m ≡ n → x ≡ a → x ≡ (if eqb m n then a else b)
@@ -118,9 +89,3 @@ module _ (c : Bool) where
 
   pub or_next : (u t a : Bool) → t ≡ a → t ≡ false → u ≡ c → u ≡ (a || c)
   or_next u t a e q f = let g : a ≡ false = sym e ∙ q in simp g f
-
-  pub eq_or_here : (m n : ℕ) → m ≡ n → true ≡ (eqb m n || c)
-  eq_or_here m n e = simp (eq-eqb m n e)
-
-  pub eq_or_next : (u : Bool) (m n : ℕ) → (m ≡ n → ⊥) → u ≡ c → u ≡ (eqb m n || c)
-  eq_or_next u m n e f = simp (ne_eqb m n e) f

@@ -1,7 +1,7 @@
 -- A loop over a run that asks a test of each byte, for any test: the steps of the loop, and what the whole tells of each byte.
 use Prim.Native.Nat.{ℕ, zero, suc, ◌+◌, ◌≤◌, ◌<◌}
 use mathlib.Core.Path.{◌≡◌, refl, sym, ap, ◌∙◌}
-use mathlib.Core.Bool.{Bool, true, false, not, false≢true}
+use mathlib.Core.Bool.{Bool, true, false, not, ◌&&◌, false≢true}
 use mathlib.Core.Logic.{⊎_elim}
 use mathlib.Core.List.{List, [], ◌∷◌}
 use native.Mathlib.Nat.{add-zero, add-suc, suc-add, not-suc-le-zero, le_of_suc-le-suc}
@@ -10,10 +10,11 @@ use native.Mathlib.Omega.{arith}
 use lib.ListN.{length, drop, get_or, drop_of_length-le}
 use lib.Seq.{drop-cons}
 use lib.Dec.{eqb}
-use borrow.Author.Tests.{not-true, not-false, eq-eqb, ne_eqb, eqb-true}
-use Rattle.std.specs.Prelude.{cond, count_by, if◌then◌else◌}
+use borrow.Author.Tests.{not-true, not-false, eq-eqb, eqb-true}
+use Rattle.std.specs.Prelude.{cond, count_by, zip, if◌then◌else◌}
+use Rattle.std.specs.List.{list_all}
 use Rattle.std.proofs.lemmas.List.Sums.{sum_by-cons}
-use Rattle.text.specs.Scan.{first_failing, all, count, among, paired, same}
+use Rattle.text.specs.Scan.{first_failing, all, count, paired, same}
 use Rattle.text.proofs.Choices.{and_left, and_right, and_both, true_or_false}
 
 -- a loop at the place i that has walked over what lies in front of it: each premise is a fact that the loop has
@@ -75,34 +76,12 @@ pub count_as : (ok : ℕ → Bool) (s : List ℕ) → count_by ok s ≡ count ok
 count_as ok [] = refl
 count_as ok (b ∷ s) = sum_by-cons (λ x. cond (ok x) 1 0) b s ∙ ap (λ n. cond (ok b) 1 0 + n) (count_as ok s)
 
--- whether one of them is a
-module _ (a : ℕ) (s : List ℕ) (i : ℕ) (z : Bool) where
-  pub among_on : i < length s → (a ≡ get_or s i 0 → ⊥) → among a (drop i s) ≡ z → among a (drop (i + 1) s) ≡ z
-  among_on h n f = rw add-one (sym (rw (drop-cons s i 0, ne_eqb a (get_or s i 0) n)) ∙ f)
-
-  pub among_here : i < length s → a ≡ get_or s i 0 → among a (drop i s) ≡ z → true ≡ z
-  among_here h e f = sym (rw (drop-cons s i 0, eq-eqb a (get_or s i 0) e)) ∙ f
-
-  pub among_ends : length s ≤ i → among a (drop i s) ≡ z → false ≡ z
-  among_ends h f = sym (rw (drop_of_length-le s)) ∙ f
-
--- two runs of one length side by side
-module _ (ok : ℕ → ℕ → Bool) (a b : List ℕ) (l : length a ≡ length b) (i : ℕ) (z : Bool) where
-  pub pair_on :
-      (t : Bool) → i < length a → t ≡ ok (get_or a i 0) (get_or b i 0) → not t ≡ false → paired ok (drop i a) (drop i b) ≡ z →
-      paired ok (drop (i + 1) a) (drop (i + 1) b) ≡ z
-  pair_on t h e q f =
-      let g : ok (get_or a i 0) (get_or b i 0) ≡ true = sym e ∙ not-false t q in
-      rw add-one (sym (rw (drop-cons a i 0 h, drop-cons b i 0 (omega arith), g)) ∙ f)
-
-  pub pair_stops :
-      (t : Bool) → i < length a → t ≡ ok (get_or a i 0) (get_or b i 0) → not t ≡ true → paired ok (drop i a) (drop i b) ≡ z → false ≡ z
-  pair_stops t h e q f =
-      let g : ok (get_or a i 0) (get_or b i 0) ≡ false = sym e ∙ not-true t q in
-      sym (rw (drop-cons a i 0 h, drop-cons b i 0 (omega arith), g)) ∙ f
-
-  pub pair_ends : length a ≤ i → paired ok (drop i a) (drop i b) ≡ z → true ≡ z
-  pair_ends h f = let k : length b ≤ i = omega arith in sym (rw (drop_of_length-le a h, drop_of_length-le b k)) ∙ f
+-- two runs of one length side by side, as the library walks over both
+pub pairs_as : (ok : ℕ → ℕ → Bool) (a b : List ℕ) → length a ≡ length b → list_all (λ (p : ℕ × ℕ). ok p.0 p.1) (zip a b) ≡ paired ok a b
+pairs_as ok [] [] l = refl
+pairs_as ok [] (y ∷ b) l = absurd (omega arith)
+pairs_as ok (x ∷ a) [] l = absurd (omega arith)
+pairs_as ok (x ∷ a) (y ∷ b) l = ap (λ t. ok x y && t) (pairs_as ok a b (omega arith))
 
 pub pair_lengths : (ok : ℕ → ℕ → Bool) (a b : List ℕ) → paired ok a b ≡ true → length a ≡ length b
 pair_lengths ok [] [] e = refl

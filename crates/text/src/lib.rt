@@ -8,6 +8,7 @@ ghost use Rattle.text.specs.Scan.{all, count, among, same, in_line, line_feed};
 ghost use Rattle.text.specs.Placed.{placed, written};
 
 // The classes that a form asks of every byte.
+// Kept: a name and not a closure, for a contract can say which class it is, and a form's call reads as the form does.
 #[derive(Clone, Copy, Debug, PartialEq, Eq)]
 pub enum Class {
     Digit,
@@ -38,6 +39,7 @@ fn is_in(class: Class, b: u8) -> bool
 }
 
 // Whether a byte is one of 0 to 9.
+// Kept: this, `is_capital` and `is_small` are a range each; one function that is given the ends would be no plainer.
 pub fn is_digit(b: u8) -> bool
     ensures { result ≡ digit b }
 {

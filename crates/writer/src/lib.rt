@@ -2,6 +2,7 @@
 #![tactic(auto)]
 
 mod put;
+mod run;
 mod test;
 mod write;
 

@@ -7,6 +7,3 @@ use Rattle.purpose.proofs.shipment.first_parcel.Given as goal
 
 abbrev pub invariant-loop-i : goal.invariant-loop-i
 invariant-loop-i l = (l.i ≤ length l.starts) × (first_parcel l.file (drop l.i l.starts) ≡ first_parcel l.file (drop (l.shipment + 1) l.starts))
-
-abbrev pub decreases-loop-i : goal.decreases-loop-i
-decreases-loop-i l = length l.starts - l.i

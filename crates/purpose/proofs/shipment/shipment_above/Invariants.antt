@@ -6,6 +6,3 @@ use Rattle.purpose.proofs.shipment.shipment_above.Given as goal
 
 abbrev pub invariant-loop-i : goal.invariant-loop-i
 invariant-loop-i l = (l.i ≤ l.number) × (shipment_above l.file l.starts l.i ≡ shipment_above l.file l.starts l.number)
-
-abbrev pub decreases-loop-i : goal.decreases-loop-i
-decreases-loop-i l = l.i

@@ -5,7 +5,4 @@ use Rattle.writer.proofs.Puts.{Putting}
 use Rattle.writer.proofs.put.put_fields.Given as goal
 
 abbrev pub invariant-loop-i : goal.invariant-loop-i
-invariant-loop-i l = Putting l.initial.room l.text l.ends l.room l.start l.i
-
-abbrev pub decreases-loop-i : goal.decreases-loop-i
-decreases-loop-i l = length l.ends - l.i
+invariant-loop-i l = Putting l.initial.room l.run.text.now l.run.ends.now l.room l.start l.i
