@@ -41,8 +41,8 @@ waiting_answers [] = []
 waiting_answers (b ∷ line) = map line_answer (whole_lines ((b ∷ line) ++ (10 ∷ [])))
 
 -- what a turn does: it goes on, with at most 17 bytes that wait, or the input has ended, and what waits is answered, and the counts are said
-abbrev pub Turned : Option (List ℕ) → Option (List ℕ) → Option (List ℕ) → Option (List ℕ) → List ℕ → Tally → Result (Option Bench) Error → List ℕ
-    → Type 0
+abbrev pub Turned : Option (List ℕ) → Option (List ℕ) → Option (List ℕ) → Option (List ℕ) → List ℕ → Tally → Result (Option Bench) Error
+    → List ℕ → Type 0
 Turned input output input' output' waiting before (Ok (Some bench)) buffer =
     (bench.waiting ≤ 17) × Turns input output input' output' waiting before bench buffer
 Turned input output input' output' waiting before (Ok None) buffer =
