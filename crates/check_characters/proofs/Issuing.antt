@@ -78,4 +78,6 @@ module _ (body : List ℕ) (room : ℕ) where
   unfolding issue_answer
   issue_label n e = simp (ne_eqb (length body) 14, eq-eqb (length body) 27)
 
-pub ruleset issues = (issue_refused, issue_walked, check_walked)
+pub ruleset issues = (issue_refused, issue_walked, check_walked, issued_with)
+
+pub ruleset writings = (room_short, room_there, issue_written)

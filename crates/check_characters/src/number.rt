@@ -88,7 +88,7 @@ pub fn check_as(steps: &Steps, kind: Kind, symbols: &[u8]) -> Result<Kind, Refus
 }
 
 // Issues a number from a body that is one symbol shorter than its kind.
-#[tactic(auto, using(crate::proofs::Issuing::issues, crate::proofs::Issuing::issued_with), unfolding(crate::specs::Answer::issued_to))]
+#[tactic(auto, using(crate::proofs::Issuing::issues), unfolding(crate::specs::Answer::issued_to))]
 fn issue_as(kind: Kind, body: &[u8], output: &mut [u8]) -> Result<usize, Refusal>
     requires { length body.now + 1 ≡ length_of kind }
     ensures told { result ≡ issue_as kind body.now (length output.old) }
