@@ -111,13 +111,8 @@ impl Model for Steps {
 impl Steps {
     // A constant is laid out anew wherever it is read, and that takes as long as the steps of a number: so it is done once in a call.
     #[tactic(auto, unfolding(crate::specs::Steps::steps, crate::specs::Mod37::step))]
-<<<<<<< HEAD
-    pub(crate) fn laid_out() -> Steps
-        ensures { result.entries ≡ steps }
-=======
     pub fn laid_out() -> Steps
         ensures { result ≡ steps }
->>>>>>> 64fc0f7106a166cb0a236176981cd65dfa826c80
     {
         Steps { entries: STEPS }
     }
