@@ -7,6 +7,8 @@ use lib.ListN.{get_or}
 use Rattle.text.proofs.Tables.{tabled_at}
 use Rattle.check_characters.specs.Mod37.{step}
 use Rattle.check_characters.specs.Steps.{steps, entry_for}
+use Rattle.check_characters.proofs.Symbols.{value_le}
+use Rattle.check_characters.proofs.Carries.{step_carry}
 
 module _ (c v : ℕ) (low : 1 ≤ c) (high : c ≤ 36) (small : v < 36) where
   pub entry_inside : entry_for c v < 1296
@@ -22,3 +24,5 @@ module _ (c v : ℕ) (low : 1 ≤ c) (high : c ≤ 36) (small : v < 36) where
   -- read from a table that was lent
   pub entry_read : (table : List ℕ) → table ≡ steps → get_or table (entry_for c v) 0 ≡ step c v
   entry_read table e = ap (λ (t : List ℕ). get_or t (entry_for c v) 0) e ∙ entry_step
+
+pub ruleset entries = (entry_inside, entry_read, step_carry, value_le)

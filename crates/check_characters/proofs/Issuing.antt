@@ -5,23 +5,23 @@ use mathlib.Core.List.{List, ◌++◌}
 use native.Mathlib.Omega.{arith}
 use native.Mathlib.Nat.{zero-add}
 use native.Mathlib.Numerals.{add-one}
-use lib.Dec.{eqb, ltb}
+use lib.Dec.{ltb}
 use lib.ListN.{length, drop, set}
 use lib.Seq.{drop-cons, set-append_seam}
-use borrow.Author.Tests.{eqb-true, eqb-false, eq-eqb, ne_eqb, lt-ltb, le-ltb, le-leb}
-use Rattle.refusal.specs.declared.Reason.TheVariants.{OutputTooShort, WrongLength}
+use borrow.Author.Tests.{eq-eqb, ne_eqb, lt-ltb, le-ltb, le-leb}
+use Rattle.refusal.specs.declared.Reason.TheVariants.{OutputTooShort}
 use Rattle.refusal.specs.Table.{because, verdict_on}
 use Rattle.refusal.proofs.Verdicts.{no_pass}
 use Rattle.text.specs.Placed.{placed}
-use Rattle.text.proofs.Choices.{came_then, came_else, choice}
+use Rattle.text.proofs.Choices.{came_else}
 use Rattle.check_characters.specs.Answer.{walked, room_for, issued_to}
-use Rattle.check_characters.specs.Number.{length_of, kind_of, allowed_in_number, wrong_in_number, issue_as, issue_answer}
+use Rattle.check_characters.specs.Number.{length_of, allowed_in_number, wrong_in_number, issue_as, issue_answer}
 use Rattle.check_characters.specs.Symbol.{symbol_of}
 use Rattle.check_characters.specs.Mod37.{carry, closes, first_value, check_of}
 use Rattle.check_characters.proofs.Walks.{walked_refused, walked_whole}
 use Rattle.check_characters.specs.declared.number.Kind.{Kind}
 use Rattle.check_characters.specs.declared.number.Kind.TheVariants.{Tracking, Label}
-use Rattle.std.specs.Prelude.{if◌then◌else◌, Result, Ok, Err, Some, None}
+use Rattle.std.specs.Prelude.{Result, Ok, Err}
 use Rattle.refusal.specs.declared.Refusal.{Refusal}
 
 module _ (n room : ℕ) where
@@ -69,15 +69,6 @@ module _ (k : Kind) (body : List ℕ) (room : ℕ) where
     unfolding check_of
     check_walked = ap (λ x. symbol_of (first_value (closes x) 0 36)) (walked_whole (allowed_in_number k) body (carry body) c e).1
 
--- the kind that a length tells
-pub kind_long : (n : ℕ) (k : Kind) → kind_of n ≡ Some k → n ≡ length_of k
-unfolding kind_of
-kind_long n k e =
-    choice (eqb n 15) (Some Tracking) (if eqb n 28 then Some Label else None) (Some k) (λ t f. let g : k ≡ Tracking = cc in rw g (eqb-true n 15 t))
-    (λ t f.
-    let a = came_then (eqb n 28) (Some Label) None (Some k) (λ z. cc) f in
-    let g : k ≡ Label = cc in rw g (eqb-true n 28 a.0)) e
-
 module _ (body : List ℕ) (room : ℕ) where
   pub issue_tracking : length body ≡ 14 → issue_answer body room ≡ issue_as Tracking body room
   unfolding issue_answer
@@ -87,22 +78,6 @@ module _ (body : List ℕ) (room : ℕ) where
   unfolding issue_answer
   issue_label n e = simp (ne_eqb (length body) 14, eq-eqb (length body) 27)
 
-  pub issue_length : (length body ≡ 14 → ⊥) → (length body ≡ 27 → ⊥) → issue_answer body room ≡ Err (because WrongLength 0)
-  unfolding issue_answer
-  issue_length n m = simp (ne_eqb (length body) 14, ne_eqb (length body) 27)
+pub ruleset issues = (issue_refused, issue_walked, check_walked, issued_with)
 
-  pub issue_known : (k : Kind) → kind_of (length body + 1) ≡ Some k → issue_answer body room ≡ issue_as k body room
-  issue_known Tracking e = issue_tracking (omega (arith, kind_long (length body + 1) Tracking e))
-  issue_known Label e =
-      let n : length body + 1 ≡ 28 = kind_long (length body + 1) Label e in issue_label (λ m. omega arith) (omega arith)
-
-  pub issue_unknown : kind_of (length body + 1) ≡ None → issue_answer body room ≡ Err (because WrongLength 0)
-  unfolding kind_of
-  issue_unknown e =
-      let a = came_else (eqb (length body + 1) 15) (Some Tracking) (if eqb (length body + 1) 28 then Some Label else None) None (λ z. cc) e in
-      let b = came_else (eqb (length body + 1) 28) (Some Label) None None (λ z. cc) a.1 in
-      issue_length (λ m. eqb-false (length body + 1) 15 a.0 (omega arith)) (λ m. eqb-false (length body + 1) 28 b.0 (omega arith))
-
-pub ruleset issues = (issue_refused, issue_walked, check_walked)
-
-pub ruleset kinds = (kind_long, issue_known, issue_unknown)
+pub ruleset writings = (room_short, room_there, issue_written)

@@ -5,7 +5,7 @@ use mathlib.Core.Bool.{Bool, false}
 use mathlib.Core.List.{List, [], ◌∷◌, ◌++◌}
 use native.Mathlib.Nat.{add-zero, add-suc, not-suc-le-zero, le_of_suc-le-suc}
 use native.Mathlib.Omega.{arith}
-use lib.ListN.{length, get_or, replicate}
+use lib.ListN.{get_or, replicate}
 use Rattle.text.specs.Byte.{digit, symbol}
 use Rattle.check_characters.specs.Number.{shape_of, length_of, allowed_in_number}
 use Rattle.check_characters.specs.declared.number.Kind.{Kind}
@@ -23,11 +23,6 @@ run_past : (n i : ℕ) (p : Test) (rest : List Test) (d : Test) → get_or (repl
 run_past zero i p rest d = rw add-zero
 run_past (suc n) i p rest d = rw (add-suc i n) (run_past n i p rest d)
 
-past : (tests : List Test) (i : ℕ) (d : Test) → length tests ≤ i → get_or tests i d ≡ d
-past [] i d h = refl
-past (p ∷ tests) zero d h = absurd (not-suc-le-zero h)
-past (p ∷ tests) (suc i) d h = past tests i d (le_of_suc-le-suc h)
-
 module _ (i b : ℕ) where
   pub tracking_digit : i < 14 → allowed_in_number Tracking i b ≡ digit b
   unfolding shape_of allowed_in_number
@@ -36,10 +31,6 @@ module _ (i b : ℕ) where
   pub tracking_check : i ≡ 14 → allowed_in_number Tracking i b ≡ symbol b
   unfolding shape_of allowed_in_number
   tracking_check e = rw e
-
-  pub tracking_past : 15 ≤ i → allowed_in_number Tracking i b ≡ false
-  unfolding shape_of allowed_in_number
-  tracking_past h = ap (λ (f : Test). f b) (past (shape_of Tracking) i (λ _. false) h)
 
   pub label_symbol : i < 7 → allowed_in_number Label i b ≡ symbol b
   unfolding shape_of allowed_in_number
@@ -58,13 +49,9 @@ module _ (i b : ℕ) where
   unfolding shape_of allowed_in_number
   label_check e = rw e
 
-  pub label_past : 28 ≤ i → allowed_in_number Label i b ≡ false
-  unfolding shape_of allowed_in_number
-  label_past h = ap (λ (f : Test). f b) (past (shape_of Label) i (λ _. false) h)
-
 -- a number of a kind has a last symbol
 pub has_last : (k : Kind) (n : ℕ) → n ≡ length_of k → 1 ≤ n
 has_last Tracking n e = omega arith
 has_last Label n e = omega arith
 
-pub ruleset stands = (tracking_digit, tracking_check, tracking_past, label_symbol, label_digit, label_check, label_past)
+pub ruleset stands = (tracking_digit, tracking_check, label_symbol, label_digit, label_check)

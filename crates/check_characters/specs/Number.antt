@@ -8,7 +8,7 @@
 -- The carry of all but the check is 31 (`example_label`), and 31 + 6 leaves 1 modulo 36: it passes. With the check 7 it is refused by
 -- 18 at 27, with a small letter by 17 at that letter, and without its check by 16 at 0. src/number.rt has the carries of a tracking
 -- number, symbol by symbol (`example_tracking`).
-use Rattle.std.specs.Prelude.{ℕ, ◌-◌, ◌≡◌, Bool, false, List, [], ◌∷◌, ◌++◌, eqb, ltb, length, get_or, replicate, if◌then◌else◌, Result, Ok, Err, Option, Some, None}
+use Rattle.std.specs.Prelude.{ℕ, ◌-◌, ◌≡◌, Bool, false, List, [], ◌∷◌, ◌++◌, eqb, ltb, length, get_or, replicate, if◌then◌else◌, Result, Ok, Err}
 use Rattle.text.specs.Byte.{digit, symbol}
 use Rattle.text.specs.Scan.{first_failing}
 use Rattle.refusal.specs.declared.Reason.TheVariants.{WrongLength, WrongSymbol, WrongCheck}
@@ -29,10 +29,6 @@ shape_of Label = replicate 7 symbol ++ replicate 14 digit ++ replicate 3 digit +
 abbrev pub length_of : Kind → ℕ
 length_of Tracking = 15
 length_of Label = 28
-
--- the kind that a length tells
-unfoldable pub kind_of : ℕ → Option Kind
-kind_of n = if eqb n (length_of Tracking) then Some Tracking else if eqb n (length_of Label) then Some Label else None
 
 -- whether a byte may stand at the place i of a number
 unfoldable pub allowed_in_number : Kind → ℕ → ℕ → Bool

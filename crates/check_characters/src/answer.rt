@@ -5,7 +5,7 @@ ghost use Rattle.check_characters.specs.Answer.{room_for, issued_to};
 use refusal::{Reason, Refusal};
 
 // Writes body and check at the output's start, where there is room for them.
-#[tactic(auto, using(crate::proofs::Issuing::room_short, crate::proofs::Issuing::room_there, crate::proofs::Issuing::issue_written), unfolding(crate::specs::Answer::issued_to))]
+#[tactic(auto, using(crate::proofs::Issuing::writings), unfolding(crate::specs::Answer::issued_to))]
 pub fn issue(body: &[u8], check: u8, output: &mut [u8]) -> Result<usize, Refusal>
     ensures { (result ≡ room_for (length body.now + 1) (length output.old))
         × (output.new ≡ issued_to result body.now check output.old) }

@@ -38,6 +38,7 @@ fn check_each(numbers: &[u8], answers: &mut [u8])
 }
 
 // The byte of an answer: 0, or the refusal's number.
+// Kept: no From says this conversion, since neither Result nor u8 is a type of this crate.
 fn answer_byte(answer: Result<Kind, Refusal>) -> u8
     ensures { result ≡ number_told (verdict_on answer) }
 {

@@ -9,8 +9,8 @@
 //
 // First 36 + 0 leaves 0, read as 36; twice that is 72, which leaves 35. Then 35 + 9 leaves 8, and twice that is 16. At the end the
 // check's value makes 22 + value leave 1 modulo 36: it is 15, the value of `F`. Twice 1 is 2, the carry behind it.
-ghost use Rattle.std.specs.Prelude.{◌≡◌, ◌+◌, length};
-ghost use Rattle.check_characters.specs.Number.{length_of, kind_of, allowed_in_number, checked_as, checked_number};
+ghost use Rattle.std.specs.Prelude.{◌≡◌, ◌+◌, ◌<◌, ◌≤◌, length};
+ghost use Rattle.check_characters.specs.Number.{length_of, allowed_in_number, checked_as, checked_number};
 ghost use Rattle.check_characters.specs.Number.{issue_as, Issues};
 ghost use Rattle.check_characters.specs.Answer.{walked, issued_to};
 ghost use Rattle.check_characters.specs.Mod37.{carry, check_of};
@@ -28,53 +28,49 @@ pub enum Kind {
 }
 
 impl Kind {
-    // The kind of the numbers that have so many symbols.
-    #[tactic(auto, unfolding(crate::specs::Number::kind_of))]
-    fn of_length(n: usize) -> Option<Kind>
-        ensures { result ≡ kind_of n }
-    {
-        match n {
-            15 => Some(Kind::Tracking),
-            28 => Some(Kind::Label),
-            _ => None,
-        }
-    }
-
     // Whether the byte b may stand at the place i of a number.
     #[tactic(auto, using(crate::proofs::Shapes::stands))]
     fn allows(self, i: usize, b: u8) -> bool
+        requires { i < length_of self }
         ensures { result ≡ allowed_in_number self i b }
     {
-        match (self, i) {
-            (Kind::Tracking, 0..14) => text::is_digit(b),
-            (Kind::Tracking, 14) => text::is_symbol(b),
-            (Kind::Label, 0..7 | 27) => text::is_symbol(b),
-            (Kind::Label, 7..27) => text::is_digit(b),
-            _ => false,
+        match self {
+            Kind::Tracking => match i {
+                0..14 => text::is_digit(b),
+                _ => text::is_symbol(b),
+            },
+            Kind::Label => match i {
+                0..7 => text::is_symbol(b),
+                7..27 => text::is_digit(b),
+                _ => text::is_symbol(b),
+            },
         }
     }
 }
 
 // Checks a tracking number or a label code; the length tells which.
-#[tactic(auto, unfolding(crate::specs::Number::kind_of, crate::specs::Number::checked_number))]
+#[tactic(auto, unfolding(crate::specs::Number::checked_number))]
 pub fn check_number(symbols: &[u8]) -> Result<Kind, Refusal>
     ensures { result ≡ checked_number symbols.now }
 {
-    let Some(kind) = Kind::of_length(symbols.len()) else {
-        return Err(Refusal::new(Reason::WrongLength, 0));
-    };
-    check_as(&Steps::laid_out(), kind, symbols)
+    let steps = Steps::laid_out();
+    match symbols.len() {
+        15 => check_as(&steps, Kind::Tracking, symbols),
+        28 => check_as(&steps, Kind::Label, symbols),
+        _ => Err(Refusal::new(Reason::WrongLength, 0)),
+    }
 }
 
 // Issues the number that has this body: body and check are written at the output's start.
-#[tactic(auto, using(crate::proofs::Issuing::kinds), unfolding(crate::specs::Answer::issued_to))]
+#[tactic(auto, unfolding(crate::specs::Number::issue_answer, crate::specs::Answer::issued_to))]
 pub fn issue_number(body: &[u8], output: &mut [u8]) -> Result<usize, Refusal>
     ensures { Issues body.now output.old result output.new }
 {
-    let Some(kind) = Kind::of_length(body.len() + 1) else {
-        return Err(Refusal::new(Reason::WrongLength, 0));
-    };
-    issue_as(kind, body, output)
+    match body.len() {
+        14 => issue_as(Kind::Tracking, body, output),
+        27 => issue_as(Kind::Label, body, output),
+        _ => Err(Refusal::new(Reason::WrongLength, 0)),
+    }
 }
 
 // Checks a number that has the length of its kind. Its check is walked over like the other symbols: it makes the sum leave 1 modulo 36, so
@@ -92,7 +88,7 @@ pub fn check_as(steps: &Steps, kind: Kind, symbols: &[u8]) -> Result<Kind, Refus
 }
 
 // Issues a number from a body that is one symbol shorter than its kind.
-#[tactic(auto, using(crate::proofs::Issuing::issues, crate::proofs::Issuing::issued_with), unfolding(crate::specs::Answer::issued_to))]
+#[tactic(auto, using(crate::proofs::Issuing::issues), unfolding(crate::specs::Answer::issued_to))]
 fn issue_as(kind: Kind, body: &[u8], output: &mut [u8]) -> Result<usize, Refusal>
     requires { length body.now + 1 ≡ length_of kind }
     ensures told { result ≡ issue_as kind body.now (length output.old) }
@@ -102,9 +98,12 @@ fn issue_as(kind: Kind, body: &[u8], output: &mut [u8]) -> Result<usize, Refusal
     answer::issue(body, carry.closing(), output)
 }
 
-// Walks over symbols that may stand in a number of this kind, and takes the carry along; the first that may not is refused.
+// Walks over symbols that may stand in a number of this kind, and takes the carry along; the first that may not is refused. It goes into
+// its callers, so that the walk over each of a day's numbers has one kind and one length.
+#[inline(always)]
 #[tactic(auto, using(crate::proofs::Walks::walks, crate::proofs::Carries::carry_next))]
 fn walk(steps: &Steps, kind: Kind, symbols: &[u8]) -> Result<Carry, Refusal>
+    requires { length symbols.now ≤ length_of kind }
     ensures { result ≡ walked (allowed_in_number kind) symbols.now (carry symbols.now) }
 {
     let mut carry = Carry::start();

@@ -13,6 +13,7 @@ ghost use Rattle.check_characters.specs.Steps.{steps};
 
 use crate::carry::Carry;
 use crate::symbol;
+use std::marker::Model;
 
 const STEPS: [u8; 1296] = [
     2, // carry 1
@@ -94,18 +95,30 @@ const STEPS: [u8; 1296] = [
 #[derive(Drop)]
 pub struct Steps {
     entries: [u8; 1296],
-    ghost by_the_step: { entries ≡ steps },
+}
+
+impl Model for Steps {
+    ghost use Rattle.std.specs.Prelude.{ℕ, ◌≡◌, List};
+    ghost use Rattle.check_characters.specs.Steps.{steps};
+
+    ghost Value = { List ℕ };
+
+    ghost view = { λ s. s.entries };
+
+    ghost invariant = { λ s. s.entries ≡ steps };
 }
 
 impl Steps {
     // A constant is laid out anew wherever it is read, and that takes as long as the steps of a number: so it is done once in a call.
     #[tactic(auto, unfolding(crate::specs::Steps::steps, crate::specs::Mod37::step))]
-    pub fn laid_out() -> Steps {
+    pub fn laid_out() -> Steps
+        ensures { result ≡ steps }
+    {
         Steps { entries: STEPS }
     }
 
     // The carry after one more symbol, as the table has it.
-    #[tactic(auto, using(crate::proofs::Entries::entry_inside, crate::proofs::Entries::entry_read, crate::proofs::Symbols::value_le, crate::proofs::Carries::step_carry))]
+    #[tactic(auto, using(crate::proofs::Entries::entries))]
     pub fn next(&self, carry: Carry, b: u8) -> Carry
         ensures { result ≡ step carry (value_of b) }
     {

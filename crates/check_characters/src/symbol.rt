@@ -7,11 +7,13 @@ ghost use Rattle.check_characters.specs.Symbol.{value_of, symbol_of};
 pub fn value(b: u8) -> u8
     ensures { result ≡ value_of b }
 {
-    match b {
-        b'0'..=b'9' => b - b'0',
-        b'A'..=b'Z' => b - b'A' + 10,
-        _ => 0,
+    if text::is_digit(b) {
+        return b - b'0';
     }
+    if text::is_capital(b) {
+        return b - b'A' + 10;
+    }
+    0
 }
 
 // The symbol of a value.

@@ -28,6 +28,7 @@ use Rattle.check_digits.specs.Identcode.{allowed_in_identcode, wrong_in_identcod
 use Rattle.check_digits.specs.Identcode.{weighed_from, weighed, check_digit, check_digit_of, passes}
 use Rattle.check_digits.specs.Identcode.{checked_identcode, issue_identcode_answer}
 use Rattle.check_characters.proofs.Symbols.{value_digit, low_symbol}
+use Rattle.check_characters.proofs.Issuing.{issued_with}
 
 module _ (i : ℕ) where
   pub weight_three : i % 2 ≡ 0 → 3 ≡ weight_at i
@@ -183,4 +184,4 @@ module _ (body : List ℕ) (room : ℕ) where
       pub identcode_check : check_digit sum ≡ check_digit_of body
       identcode_check = ap check_digit (walked_whole allowed_in_identcode body (weighed body) sum e).1
 
-pub ruleset issues = (identcode_length, identcode_refused, identcode_walked, identcode_check)
+pub ruleset issues = (identcode_length, identcode_refused, identcode_walked, identcode_check, issued_with)

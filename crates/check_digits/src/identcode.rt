@@ -77,7 +77,7 @@ pub fn read_identcode(code: &[u8]) -> Result<Parts, Refusal>
 }
 
 // Issues the identcode that has these 21 digits: they and their check digit are written at the output's start.
-#[tactic(auto, using(crate::proofs::Identcodes::issues, check_characters::proofs::Issuing::issued_with), unfolding(check_characters::specs::Answer::issued_to))]
+#[tactic(auto, using(crate::proofs::Identcodes::issues), unfolding(check_characters::specs::Answer::issued_to))]
 pub fn issue_identcode(body: &[u8], output: &mut [u8]) -> Result<usize, Refusal>
     ensures { IssuesIdentcode body.now output.old result output.new }
 {

@@ -1,26 +1,15 @@
 -- A sender's contacts, by the cases that the code meets.
 use Prim.Native.Nat.{ℕ}
 use mathlib.Core.Path.{◌≡◌}
-use mathlib.Core.Bool.{Bool, true, false, not, and-true, and-false}
+use mathlib.Core.Bool.{Bool, true, false, not, and-false}
 use mathlib.Core.List.{List, []}
 use lib.ListN.{length, get_or}
-use borrow.Author.Tests.{not-true, not-false}
 use Rattle.text.proofs.Scans.{no_bytes}
 use Rattle.countries.specs.List.{is_listed}
 use Rattle.records.specs.Record.{◌is_a◌}
 use Rattle.records.specs.declared.record.Record.{Record}
 use Rattle.records.specs.declared.record.Record.TheVariants.{Shipment}
-use Rattle.line.specs.Need.{is_filled}
-use Rattle.file.specs.Contact.{has_contacts, contacts_behind, lacks_contact}
-
-module _ (parts : List (List ℕ)) (t : Bool) (et : t ≡ is_filled parts 12) where
-  pub no_phone : not t ≡ true → false ≡ has_contacts parts
-  unfolding has_contacts
-  no_phone e = rw (← et, not-true t e)
-
-  pub by_mail : not t ≡ false → (u : Bool) → u ≡ is_filled parts 13 → u ≡ has_contacts parts
-  unfolding has_contacts
-  by_mail e u eu = rw (← et, not-false t e, and-true (is_filled parts 13)) eu
+use Rattle.file.specs.Contact.{contacts_behind, lacks_contact}
 
 -- an arm of a match is a case of the rule
 pub contacts_as : (kind case : Record) (parts : List (List ℕ)) (before t : Bool) → kind ≡ case → t ≡ contacts_behind case parts before →
@@ -28,9 +17,6 @@ pub contacts_as : (kind case : Record) (parts : List (List ℕ)) (before t : Boo
 contacts_as kind case parts before t e f = rw e f
 
 module _ (parts : List (List ℕ)) (countries : List ℕ) (contacts : Bool) where
-  pub lacks_as : (kind case : Record) (t : Bool) → kind ≡ case → t ≡ lacks_contact case parts countries contacts →
-      t ≡ lacks_contact kind parts countries contacts
-  lacks_as kind case t e f = rw e f
 
   pub has_both : (kind : Record) → contacts ≡ true → false ≡ lacks_contact kind parts countries contacts
   unfolding lacks_contact

@@ -23,7 +23,7 @@ use Rattle.file.specs.Step.{told_by, parcels_in, behind, listed_so_far, step_ans
 use Rattle.file.specs.File.{Judged, begin, passed, ended, on_step, file_from, judged, list_of, Judges}
 use Rattle.records.specs.declared.version.Version.{Version}
 use Rattle.file.specs.declared.step.State.{State}
-use Rattle.file.specs.Identcode.{parcels_most, tree_words, Sown}
+use Rattle.file.specs.Identcode.{parcels_most, Sown}
 use Rattle.file.proofs.Cashing.{cash_below}
 use Rattle.file.proofs.Codes.{accepted_far}
 use Rattle.file.proofs.Sowing.{sown_none}
@@ -195,7 +195,3 @@ same_judged s countries m n e r list j = rw e at j
 pub clear_now : (words words₀ : List ℕ) → length words ≡ length words₀ → words ≡ replicate (length words₀) 0 →
     words ≡ replicate (length words) 0
 clear_now words words₀ long e = e ∙ ap (λ (k : ℕ). replicate k 0) (sym long)
-
--- the tree keeps its room
-pub room_kept : (codes codes₀ : List ℕ) → length codes ≡ length codes₀ → tree_words ≤ length codes₀ → tree_words ≤ length codes
-room_kept codes codes₀ long room = omega arith

@@ -1,31 +1,15 @@
--- The lent list: cleared word by word, and what a list holds behind its first words.
+-- The lent list: what a list holds behind its first words.
 use Prim.Native.Nat.{ℕ, suc, ◌+◌, ◌-◌, ◌≤◌, ◌<◌}
 use mathlib.Core.Path.{◌≡◌, refl, sym, ap, ◌∙◌}
 use mathlib.Core.Bool.{true, false}
-use mathlib.Core.List.{List, [], ◌∷◌, ◌++◌, append-nil}
+use mathlib.Core.List.{List, [], ◌∷◌, ◌++◌}
 use native.Mathlib.Numerals.{add-one}
 use native.Mathlib.Omega.{arith}
-use lib.ListN.{length, take, drop, set, get_or, replicate, length-take, length-replicate, replicate-append-replicate}
-use lib.ListN.{drop_of_length-le, take-append-drop}
-use lib.Seq.{drop-cons, set_at, append_snoc, drop-set-lt, take-suc-set}
+use lib.ListN.{length, take, drop, set, get_or, replicate, length-take}
+use lib.ListN.{take-append-drop}
+use lib.Seq.{drop-cons, drop-set-lt, take-suc-set}
 use borrow.Author.Tests.{lt-ltb, le-ltb, ltb-true, ltb-false}
 use Rattle.file.specs.Step.{listed_so_far, has_word}
-
--- the words passed are 0, the others as they were
-module _ (words₀ words : List ℕ) (i : ℕ) (e : words ≡ replicate i 0 ++ drop i words₀) (long : length words ≡ length words₀) where
-  pub clear_on : i < length words → set words i 0 ≡ replicate (i + 1) 0 ++ drop (i + 1) words₀
-  clear_on h =
-      ap (λ (w : List ℕ). set w i 0) (e ∙ ap (λ (w : List ℕ). replicate i 0 ++ w) (drop-cons words₀ i 0 (omega arith)))
-      ∙ set_at (replicate i 0) (get_or words₀ i 0) (drop (suc i) words₀) 0 i (length-replicate i 0)
-      ∙ sym (append_snoc (replicate i 0) 0 (drop (suc i) words₀))
-      ∙ ap (λ (w : List ℕ). w ++ drop (suc i) words₀) (replicate-append-replicate i 1 0)
-      ∙ ap (λ (k : ℕ). replicate (i + 1) 0 ++ drop k words₀) (sym (add-one i))
-
-  pub clear_done : i ≤ length words₀ → length words ≤ i → words ≡ replicate (length words₀) 0
-  clear_done l h =
-      let n : i ≡ length words₀ = omega arith in
-      e ∙ ap (λ (w : List ℕ). replicate i 0 ++ w) (drop_of_length-le words₀ {i = i} (omega arith)) ∙ append-nil (replicate i 0)
-      ∙ ap (λ (k : ℕ). replicate k 0) n
 
 -- a word for the next line
 pub word_left : (words lines : ℕ) → has_word words lines ≡ true → lines < words

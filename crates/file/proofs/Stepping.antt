@@ -13,7 +13,6 @@ use Rattle.refusal.specs.Table.{because}
 use Rattle.refusal.specs.declared.Refusal.{Refusal}
 use Rattle.forms.specs.Shape.{digits}
 use Rattle.identcodes.specs.Tree.{identcode_at}
-use Rattle.records.specs.declared.record.Record.{Record}
 use Rattle.records.specs.declared.record.Record.TheVariants.{Parcel}
 use Rattle.records.specs.declared.record.Due.TheVariants.{After}
 use Rattle.line.specs.Parts.{split}
@@ -176,7 +175,3 @@ stopped_listed list listed refusal next e = absurd (stopped e)
 pub was_accepted : (told : Told) (s : List ℕ) (at : ℕ) (a : Result Line Refusal) (line : Line) → a ≡ line_answer told s at → a ≡ Ok line →
     line_answer told s at ≡ Ok line
 was_accepted told s at a line ea el = sym ea ∙ el
-
--- an arm of a match is a case of the rule
-pub parcels_as : (kind case : Record) (n : ℕ) → kind ≡ case → n ≡ parcels_in case → n ≡ parcels_in kind
-parcels_as kind case n e f = rw e f

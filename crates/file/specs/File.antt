@@ -1,6 +1,6 @@
 -- Document 01, 'Whole file': the lines of a file, one after the other, and what the list then holds.
 use Rattle.std.specs.Prelude.{ℕ, zero, suc, ◌+◌, ◌-◌, ◌≡◌, true, not, List, [], ◌∷◌, ◌++◌, ltb, length, replicate, if◌then◌else◌, Result, Ok, Err}
-use Rattle.refusal.specs.Table.{because, verdict_of, Verdict}
+use Rattle.refusal.specs.Table.{because}
 use Rattle.refusal.specs.declared.Reason.TheVariants.{FileTooLong, FileEnds, CountriesOdd}
 use Rattle.countries.specs.List.{is_paired}
 use Rattle.records.specs.Record.{may_end}

@@ -36,7 +36,7 @@ pub fn judge(file: &[u8], countries: &[u8], list: &mut [u32]) -> Result<Totals, 
 }
 
 // The lines of a file that is not too long, with a list that is clear.
-#[tactic(auto, using(crate::proofs::Going::going_none, crate::proofs::Going::going_more, crate::proofs::Going::less_left, crate::proofs::Going::few_parcels, crate::proofs::Going::room_kept, crate::proofs::Going::stop_judged, crate::proofs::Going::due_judged, crate::proofs::Going::end_judged))]
+#[tactic(auto, using(crate::proofs::Going::going_none, crate::proofs::Going::going_more, crate::proofs::Going::less_left, crate::proofs::Going::few_parcels, crate::proofs::Going::stop_judged, crate::proofs::Going::due_judged, crate::proofs::Going::end_judged))]
 fn run(file: &[u8], countries: &[u8], list: &mut [u32]) -> Result<Totals, Refusal>
     requires { (length file.now ≤ file_limit) × (is_paired countries.now ≡ true) × (list.old ≡ replicate (length list.old) 0) }
     ensures { Judges file.now (record { countries = countries.now; words = length list.old })

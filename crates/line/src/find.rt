@@ -28,9 +28,14 @@ pub fn find_field(version: u32, file: &[u8], offset: usize, number: usize) -> Re
 fn find_under(version: Version, file: &[u8], offset: usize, number: usize) -> Result<Span, Refusal>
     ensures { result ≡ field_answer (profile version) file.now offset number }
 {
-    let line = read::judge_line(version, Due::Any, file, offset)?;
+    let not_there = Err(Refusal::new(Reason::NotThere, 0));
+    let answer = read::judge_line(version, Due::Any, file, offset);
+    // Kept: no `?`, for document 01 names the form of this place, `let else`.
+    let Ok(line) = answer else {
+        return answer.and(not_there);
+    };
     if number == 0 || line.count < number {
-        return Err(Refusal::new(Reason::NotThere, 0));
+        return not_there;
     }
     let text = &file[offset..line.next - 2];
     Ok(Span {

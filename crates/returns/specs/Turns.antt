@@ -11,13 +11,13 @@ use Rattle.returns.specs.declared.Bench.{Bench}
 use Rattle.returns.specs.declared.Told.{Told}
 
 -- the answers of all whole lines of a text are counted, each once, and the text goes on behind these
-abbrev pub Tells : List ℕ → Tally → Result Told Error → Type 0
+unfoldable pub Tells : List ℕ → Tally → Result Told Error → Type 0
 Tells text before telling =
     IfOk telling
     (λ told. (told.next ≡ bytes_of (whole_lines text)) × (told.counts ≡ tallied before (map line_answer (whole_lines text))))
 
 -- and they are printed, behind what was: an output whose bytes are known, before and after, has grown by them
-abbrev pub Says : List ℕ → Option (List ℕ) → Option (List ℕ) → Result Told Error → Type 0
+unfoldable pub Says : List ℕ → Option (List ℕ) → Option (List ℕ) → Result Told Error → Type 0
 Says text output after telling = OnOk telling (Appends output after (printed (map line_answer (whole_lines text))))
 
 -- the lines of the text are counted, and 17 bytes of the rest wait at the buffer's front: what `bench_answers` says of a piece
@@ -41,8 +41,8 @@ waiting_answers [] = []
 waiting_answers (b ∷ line) = map line_answer (whole_lines ((b ∷ line) ++ (10 ∷ [])))
 
 -- what a turn does: it goes on, with at most 17 bytes that wait, or the input has ended, and what waits is answered, and the counts are said
-abbrev pub Turned : Option (List ℕ) → Option (List ℕ) → Option (List ℕ) → Option (List ℕ) → List ℕ → Tally → Result (Option Bench) Error → List ℕ
-    → Type 0
+abbrev pub Turned : Option (List ℕ) → Option (List ℕ) → Option (List ℕ) → Option (List ℕ) → List ℕ → Tally → Result (Option Bench) Error
+    → List ℕ → Type 0
 Turned input output input' output' waiting before (Ok (Some bench)) buffer =
     (bench.waiting ≤ 17) × Turns input output input' output' waiting before bench buffer
 Turned input output input' output' waiting before (Ok None) buffer =

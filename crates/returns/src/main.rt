@@ -80,7 +80,7 @@ fn take_turn<R: Eprint, I: Read, W: Write>(
 }
 
 // Answers the whole lines, and keeps what stands behind the last of them.
-#[tactic(auto, using(crate::proofs::Leaving::leaves_on))]
+#[tactic(auto, using(crate::proofs::Leaving::leaves_on), unfolding(crate::specs::Turns::Tells, crate::specs::Turns::Says))]
 fn answer_more<R: Eprint, W: Write>(
     rt: &R,
     output: &mut W,
@@ -102,7 +102,7 @@ fn answer_more<R: Eprint, W: Write>(
 }
 
 // Bytes behind the last line feed are a last line; then the counts are said.
-#[tactic(auto, using(crate::proofs::Leaving::ends_on))]
+#[tactic(auto, using(crate::proofs::Leaving::ends_on), unfolding(crate::specs::Turns::Tells, crate::specs::Turns::Says))]
 fn answer_last<R: Eprint, W: Write>(
     rt: &R,
     output: &mut W,
@@ -123,6 +123,7 @@ fn answer_last<R: Eprint, W: Write>(
 }
 
 // Answers the whole lines of a text, up to 1,024 at a time.
+#[tactic(auto, unfolding(crate::specs::Turns::Tells, crate::specs::Turns::Says))]
 fn answer_whole<R: Eprint, W: Write>(
     rt: &R,
     output: &mut W,

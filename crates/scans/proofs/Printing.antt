@@ -57,6 +57,8 @@ module _ {answers before output : List ℕ} {fill i : ℕ} (p : Printing answers
         p.is ∙ ap (λ l. placed before 0 (printed l)) all,
       )
 
+pub ruleset printings = (printing_none, printing_long, printing_room, printing_done)
+
 -- with room or without
 module _ (answers output : List ℕ) where
   pub prints_none : length output / 3 < length answers → Prints answers output 0 output

@@ -62,7 +62,7 @@ pub fn keep(buffer: &mut [u8], from: usize, to: usize) -> usize
 }
 
 // Lays the numbers of the text's first lines out, 15 bytes after 15 bytes, and marks the lines that have one.
-#[tactic(auto, using(crate::proofs::Laying::laying_none, crate::proofs::Laying::laying_full, crate::proofs::Laying::laying_ends, crate::proofs::Laying::laying_inside, crate::proofs::Laying::laying_on))]
+#[tactic(auto, using(crate::proofs::Laying::laying_none, crate::proofs::Laying::laying_full))]
 fn lay_out(text: &[u8], room: usize, numbers: &mut [u8], marks: &mut [bool]) -> Answered
     requires { (15 * room ≤ length numbers.old) × (room ≤ length marks.old) }
     ensures { Lays text.now room result numbers.new marks.new }
@@ -120,7 +120,7 @@ fn overrule(marks: &[bool], answers: &mut [u8])
 }
 
 // Prints answers that have room.
-#[tactic(auto, using(crate::proofs::Printing::printing_none, crate::proofs::Printing::printing_long, crate::proofs::Printing::printing_room, crate::proofs::Printing::printing_on, crate::proofs::Printing::printing_done))]
+#[tactic(auto, using(crate::proofs::Printing::printings))]
 fn print_each(answers: &[u8], output: &mut [u8]) -> usize
     requires { length answers.now ≤ length output.old / 3 }
     ensures { (result ≡ length (printed answers.now)) × (result ≤ length output.new)

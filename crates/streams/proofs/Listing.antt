@@ -12,11 +12,13 @@ spaced (n ∷ rest) = codes " " ++ decimal n ++ spaced rest
 
 spaced_both : (a b : List ℕ) → spaced (a ++ b) ≡ spaced a ++ spaced b
 spaced_both [] b = refl
-spaced_both (n ∷ a) b = ap (λ l. codes " " ++ decimal n ++ l) (spaced_both a b) ∙ sym (append_assoc (codes " " ++ decimal n) (spaced a) (spaced b))
+spaced_both (n ∷ a) b =
+    ap (λ l. codes " " ++ decimal n ++ l) (spaced_both a b) ∙ sym (append_assoc (codes " " ++ decimal n) (spaced a) (spaced b))
 
 numbers_spaced : (a : List ℕ) → numbers a ≡ spaced a ++ (10 ∷ [])
 numbers_spaced [] = refl
-numbers_spaced (n ∷ a) = ap (λ l. codes " " ++ decimal n ++ l) (numbers_spaced a) ∙ sym (append_assoc (codes " " ++ decimal n) (spaced a) (10 ∷ []))
+numbers_spaced (n ∷ a) =
+    ap (λ l. codes " " ++ decimal n ++ l) (numbers_spaced a) ∙ sym (append_assoc (codes " " ++ decimal n) (spaced a) (10 ∷ []))
 
 -- where a line has room for them, the word and the first i numbers stand at its front
 pub record Listing (word values line : List ℕ) (fill i : ℕ) : Type 0 where

@@ -75,17 +75,7 @@ module _ {A : Type 0} (x a b : A) where
     pub takes_else : t ≡ false → x ≡ b → x ≡ (if c then a else b)
     takes_else q f = let g : c ≡ false = sym e ∙ q in rw g f
 
-  module _ (m n : ℕ) where
-    pub eq_takes_then : m ≡ n → x ≡ a → x ≡ (if eqb m n then a else b)
-    eq_takes_then e f = rw (eq-eqb m n e) f
-
-    pub eq_takes_else : (m ≡ n → ⊥) → x ≡ b → x ≡ (if eqb m n then a else b)
-    eq_takes_else e f = rw (ne_eqb m n e) f
-
 -- tests joined by or, as a row of early returns meets them: the first holds, or it fails and u is the answer of the rest
 module _ (c : Bool) where
-  pub or_here : (t a : Bool) → t ≡ a → t ≡ true → true ≡ (a || c)
-  or_here t a e q = let g : a ≡ true = sym e ∙ q in simp g
-
   pub or_next : (u t a : Bool) → t ≡ a → t ≡ false → u ≡ c → u ≡ (a || c)
   or_next u t a e q f = let g : a ≡ false = sym e ∙ q in simp g f

@@ -61,11 +61,3 @@ placed_on out at a b h =
     in
     placed_there (placed out at a) (at + length a) b (omega (arith, placed_long out at a))
     ∙ rw (placed_there out at a (omega arith), placed_there out at (a ++ b) (omega (arith, length-append a b)), t, d, n) (simp append_assoc)
-
--- a part of a run, as much of it as there is
-module _ (s : List ℕ) (at n : ℕ) where
-  pub clip_none : length s < at → [] ≡ take n (drop at s)
-  clip_none h = sym (ap (take n) (drop_of_length-le s {i = at} (omega arith)) ∙ take-nil n)
-
-  pub clip_whole : take (at + n - at) (drop at s) ≡ take n (drop at s)
-  clip_whole = let e : at + n - at ≡ n = omega arith in rw e

@@ -3,7 +3,7 @@ ghost use Rattle.std.specs.Prelude.{◌≡◌, true, false, length, IfSome, IfNo
 ghost use Rattle.writer.specs.Write.{ends_hold};
 
 #[derive(Clone, Copy)]
-pub struct FieldRun<'a> {
+pub(crate) struct FieldRun<'a> {
     pub text: &'a [u8],
     pub ends: &'a [usize],
     // The ends never fall, and the last is the text's length.
@@ -12,7 +12,7 @@ pub struct FieldRun<'a> {
 
 impl<'a> FieldRun<'a> {
     // The run of a text and its ends; none where these do not hold.
-    pub fn new(text: &'a [u8], ends: &'a [usize]) -> Option<Self>
+    pub(crate) fn new(text: &'a [u8], ends: &'a [usize]) -> Option<Self>
         ensures some { IfSome result (λ run. (run.text.now ≡ text.now) × (run.ends.now ≡ ends.now) × (ends_hold ends.now (length text.now) ≡ true)) }
         ensures none { IfNone result (ends_hold ends.now (length text.now) ≡ false) }
     {

@@ -1,5 +1,4 @@
 -- `step::one_line`: where the line stops the judge, and where it is listed.
-use Rattle.std.proofs.Common.{rules}
 use Rattle.file.proofs.Stepping.{contact_stops, line_listed}
 use Rattle.file.proofs.step.one_line.Goals as goal
 

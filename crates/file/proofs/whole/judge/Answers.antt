@@ -1,6 +1,6 @@
 -- `whole::judge`: a file that is too long, and a list of countries of odd length.
-use Rattle.std.proofs.Common.{rules, refl, length}
-use Rattle.file.proofs.Going.{long_judged, odd_judged, clear_now}
+use Rattle.std.proofs.Common.{rules, refl}
+use Rattle.file.proofs.Going.{long_judged, odd_judged}
 use Rattle.file.proofs.whole.judge.Goals as goal
 
 pub returns-then-file-gt-FILE_LIMIT : goal.returns-then-file-gt-FILE_LIMIT
