@@ -17,7 +17,6 @@ pub contacts_as : (kind case : Record) (parts : List (List ℕ)) (before t : Boo
 contacts_as kind case parts before t e f = rw e f
 
 module _ (parts : List (List ℕ)) (countries : List ℕ) (contacts : Bool) where
-
   pub has_both : (kind : Record) → contacts ≡ true → false ≡ lacks_contact kind parts countries contacts
   unfolding lacks_contact
   has_both kind e = rw (e, and-false (kind is_a Shipment))

@@ -12,6 +12,8 @@ use records::{Due, Record, Version};
 use refusal::{Reason, Refusal};
 
 // Where the judge is: the next line's offset, what the lines so far have, and what the next line's judge is told.
+// Kept: that its numbers are small stands in three contracts, and not in the type, for definitions and theorems (`behind`, `step_answer`)
+// speak of states of which it is not known.
 #[derive(Clone, Copy, Debug, PartialEq, Eq)]
 pub struct State {
     pub at: usize,

@@ -54,6 +54,7 @@ fn run(file: &[u8], countries: &[u8], list: &mut [u32]) -> Result<Totals, Refusa
         due: Due::First,
         contacts: true,
     };
+    // Kept: where the next line starts is known only once the one before is judged, so that no `for` can go over the lines.
     while state.at < file.len() {
         match step::one_line(file, countries, list, &mut codes, state) {
             Ok(next) => state = next,

@@ -8,6 +8,7 @@ use crate::at::field_at;
 use crate::source::Source;
 
 // The most bytes that a purpose has.
+// Kept: that the output has room for them stands in three contracts, for C lends the output (no array of 35 bytes is there).
 pub const PURPOSE_LONG: usize = 35;
 
 // Writes the text that this source supplies, and answers how many bytes.

@@ -6,5 +6,5 @@ pub returns : goal.returns
 returns c = (
   joined_long c.args.a.now c.args.b.now _ c.write_upto-slash.ensures.0 _ c.write_upto-second.ensures.0 _ c.write_upto.ensures.0,
   joined_there c.args.a.now c.args.b.now _ c.write_upto-slash.ensures.0 _ c.write_upto-second.ensures.0 _ _ c.write_upto-slash.ensures.2 _
-  c.write_upto-second.ensures.2 _ c.write_upto.ensures.2,
+      c.write_upto-second.ensures.2 _ c.write_upto.ensures.2,
 )

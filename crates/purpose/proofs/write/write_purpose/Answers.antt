@@ -16,8 +16,8 @@ returns-in_err-totals c =
 pub returns : goal.returns
 returns c = (
   was_written _ _ c.judge.result c.judge.ensures.0 _ c.in_ok-totals.was _ c.judge.ensures.1 _ _ c.find_source.ensures _ c.in-Some.is _ (search rules) _
-  c.write_source.ensures.0,
+      c.write_source.ensures.0,
   c.judge.ensures.1,
   text_there _ _ c.judge.result c.judge.ensures.0 _ c.in_ok-totals.was _ c.judge.ensures.1 _ _ c.find_source.ensures _ c.in-Some.is c.args.output.now _
-  c.write_source.ensures.1,
+      c.write_source.ensures.1,
 )
