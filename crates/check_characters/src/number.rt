@@ -100,6 +100,7 @@ fn issue_as(kind: Kind, body: &[u8], output: &mut [u8]) -> Result<usize, Refusal
 
 // Walks over symbols that may stand in a number of this kind, and takes the carry along; the first that may not is refused. It goes into
 // its callers, so that the walk over each of a day's numbers has one kind and one length.
+// Kept: an identcode and an IBAN have walks of their own, which take along a sum and nothing; a closure for each would be no plainer.
 #[inline(always)]
 #[tactic(auto, using(crate::proofs::Walks::walks, crate::proofs::Carries::carry_next))]
 fn walk(steps: &Steps, kind: Kind, symbols: &[u8]) -> Result<Carry, Refusal>
