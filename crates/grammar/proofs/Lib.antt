@@ -5,3 +5,4 @@ pub mod Lines
 pub mod Finding
 pub mod Sizes
 pub mod Back
+pub mod Duties

@@ -10,3 +10,4 @@ pub mod Ibans
 pub mod Identcodes
 pub mod Parts
 pub mod IdentcodeIssues
+pub mod Closing
