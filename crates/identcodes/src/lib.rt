@@ -1,6 +1,6 @@
 // The identcodes of a file's parcel lines: whether one was met before. They stand in a crit-bit tree, kept in a row of words.
 //
-// Kept: words with places in them, and not `Box` or a map. The caller in C lends the memory, and the library has no heap.
+// Kept: words with places in them, and not `Box` or a map, for the library has no heap, and a file's tree lies in fixed memory.
 //
 // A word below 65,536 is a leaf: the offset of a parcel line, whose identcode is the 22 digits behind `040;`. Any other word is a
 // fork: (digit * 256 + byte) * 65,536 + pair. A code whose digit there is below the byte goes on at the word `pair`, any other at the
@@ -31,7 +31,7 @@ pub enum CodeAnswer {
 }
 
 // Whether the tree of so many parcels has the identcode of the parcel line that starts here; one that it has not is put into it.
-// Kept: the row and the count beside it. The row is the caller's and the count is the walk's, so a struct would be made anew at each line.
+// Kept: the row and the count beside it, for its promise (`Finds`) is of any row with any count, and this function is one to use (README).
 #[tactic(auto, using(crate::proofs::Answers::room_parts), unfolding(crate::specs::Tree::code_answer, crate::specs::Tree::tree_after))]
 pub fn find_or_grow(file: &[u8], tree: &mut [u32], parcels: usize, offset: usize) -> CodeAnswer
     ensures { Finds file.now tree.old parcels offset result tree.new }
