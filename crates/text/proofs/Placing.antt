@@ -1,19 +1,24 @@
 -- A run written into an output: the copying loop, whether there is room, and runs written one behind the other.
-use Prim.Native.Nat.{ℕ, ◌+◌, ◌-◌, ◌≤◌, ◌<◌}
-use mathlib.Core.Path.{◌≡◌, refl, sym, ap, ◌∙◌}
+use Prim.Native.Nat.{ℕ, ◌+◌, ◌≤◌, ◌<◌}
+use mathlib.Core.Path.{◌≡◌, refl, sym, ◌∙◌}
 use mathlib.Core.Bool.{Bool, true, false}
 use mathlib.Core.List.{List, [], ◌++◌, append_assoc, append-nil}
 use native.Mathlib.Nat.{add-zero}
 use native.Mathlib.Omega.{arith}
 use lib.Dec.{leb}
-use lib.ListN.{length, take, drop, length-append, length-drop, take-append-drop, drop_of_length-le}
-use lib.Seq.{paste, take_all, take-nil, take_at, drop_at, drop-drop, length-take-le}
+use native.Mathlib.Numerals.{add-one}
+use lib.ListN.{length, set, take, drop, get_or, length-append, length-drop, take-append-drop}
+use lib.Seq.{paste, paste-suc, take_all, take_at, drop_at, drop-drop, length-take-le}
 use borrow.Author.Tests.{le-leb, leb-true}
 use Rattle.std.specs.Prelude.{if◌then◌else◌}
 use Rattle.text.specs.Placed.{written, placed}
 
 -- the first i bytes of src are in: each premise is a fact that the loop has
 module _ (out₀ : List ℕ) (at : ℕ) (src out : List ℕ) (i : ℕ) where
+  pub copy_again : at + length src ≤ length out₀ → i < length src → out ≡ paste out₀ at src i →
+      set out (at + i) (get_or src i 0) ≡ paste out₀ at src (i + 1)
+  copy_again r l e = rw (add-one, e) (paste-suc out₀ at src i 0 (omega arith) l)
+
   pub copy_done : i ≤ length src → length src ≤ i → out ≡ paste out₀ at src i → out ≡ written out₀ at src
   copy_done h l e = let n : i ≡ length src = omega arith in e ∙ rw (take_all i src l, n)
 

@@ -71,6 +71,17 @@ module _ (ok : ℕ → Bool) where
   all_of [] p = refl
   all_of (b ∷ s) p = and_both (ok b) (all ok s) (p 0 (omega arith)) (all_of s (λ j l. p (suc j) (omega arith)))
 
+-- how many pass: n of those in front, and d of the byte here
+module _ (ok : ℕ → Bool) (s : List ℕ) (i n z : ℕ) where
+  pub count_on :
+      (d : ℕ) → i < length s → d ≡ (if ok (get_or s i 0) then 1 else 0) → n + count ok (drop i s) ≡ z → n + d + count ok (drop (i + 1) s) ≡ z
+  count_on d h e f =
+      let g : count ok (drop i s) ≡ d + count ok (drop (i + 1) s) = rw (add-one, e, drop-cons s i 0) in
+      omega (arith, f, g)
+
+  pub count_ends : length s ≤ i → n + count ok (drop i s) ≡ z → n ≡ z
+  count_ends h f = sym (rw (drop_of_length-le s h, add-zero)) ∙ f
+
 -- how many pass, as the library counts them
 pub count_as : (ok : ℕ → Bool) (s : List ℕ) → count_by ok s ≡ count ok s
 count_as ok [] = refl

@@ -82,10 +82,16 @@ fn is_small(b: u8) -> bool
 }
 
 // How many of the bytes are this one.
+// Kept: a sum, and no `filter` with `count`, which parts its ways at each byte: where such bytes come at random, that took several times as long.
+#[tactic(auto, using(crate::proofs::Scans::count_on, crate::proofs::Scans::count_ends))]
 pub fn count_of(mark: u8, s: &[u8]) -> usize
     ensures { result ≡ count (λ b. eqb b mark) s.now }
 {
-    s.iter().filter(|&&b| b == mark).count()
+    let mut n = 0;
+    for &b in s {
+        n += usize::from(b == mark);
+    }
+    n
 }
 
 // The next line feed from a place on, or the end of the run.
@@ -108,7 +114,8 @@ pub fn equal(a: &[u8], b: &[u8]) -> bool
 }
 
 // Writes src into out from the place at on, where it fits there; otherwise out stays as it was.
-#[tactic(auto, unfolding(crate::specs::Placed::placed))]
+// Kept: byte by byte, and no `copy_from_slice`, which has a caller in C bring `memmove`.
+#[tactic(auto, using(crate::proofs::Placing::copy_done), unfolding(crate::specs::Placed::placed))]
 pub fn place(out: &mut [u8], at: usize, src: &[u8])
     ensures { out.new ≡ placed out.old at src.now }
 {
@@ -118,7 +125,9 @@ pub fn place(out: &mut [u8], at: usize, src: &[u8])
     if out.len() - at < src.len() {
         return;
     }
-    out[at..at + src.len()].copy_from_slice(src);
+    for (i, &b) in src.iter().enumerate() {
+        out[at + i] = b;
+    }
 }
 
 // The n bytes from the place at on, or as many of them as there are.
