@@ -1,15 +1,14 @@
 -- The code's tables are the paper's, and no field lies past them.
-use Prim.Native.Nat.{ℕ, suc, ◌<◌, ◌≤◌}
+use Prim.Native.Nat.{ℕ, ◌<◌, ◌≤◌}
 use mathlib.Core.Path.{◌≡◌, refl, sym, ap, ◌∙◌}
 use mathlib.Core.Bool.{Bool, true, false, ◌&&◌, ◌||◌, not}
 use mathlib.Core.List.{List, [], ◌∷◌}
 use mathlib.Core.Logic.{⊎_elim}
 use native.Mathlib.Omega.{arith}
 use lib.Dec.{leb, eqb}
-use lib.ListN.{get_or, get_or-map}
-use denote.Bor.{Bor}
+use lib.ListN.{get_or}
 use borrow.Author.Tests.{leb-true, lt-leb, ne_eqb}
-use Rattle.std.specs.Prelude.{if◌then◌else◌, map}
+use Rattle.std.specs.Prelude.{if◌then◌else◌}
 use Rattle.std.proofs.lemmas.Bool.Decides.{nat_tests}
 use Rattle.std.proofs.lemmas.List.{get_or_past}
 use Rattle.text.specs.Scan.{among}
@@ -67,34 +66,31 @@ most_le Parcel = omega arith
 most_le Product = omega arith
 most_le Feature = omega arith
 
--- the widths of a record, from that of its number 0 to that of its last field
+-- the widths of a record, from that of its number 0 to that of 40, the last field that any record has
 abbrev widths : Version → Record → List ℕ
-widths version kind = tabled (width_in_table (profile version kind)) 0 (suc (head_of kind).most)
+widths version kind = tabled (width_in_table (profile version kind)) 0 41
 
 width_there : (version : Version) (kind : Record) (n : ℕ) → get_or (widths version kind) n 0 ≡ width_in_table (profile version kind) n
 unfolding width_in_table
-width_there version kind n = ⊎_elim there none (le_or_lt n (head_of kind).most)
+width_there version kind n = ⊎_elim there none (le_or_lt n 40)
   where
-    there : n ≤ (head_of kind).most → get_or (widths version kind) n 0 ≡ width_in_table (profile version kind) n
-    there h = tabled_at (width_in_table (profile version kind)) (suc (head_of kind).most) n 0 (omega arith)
+    there : n ≤ 40 → get_or (widths version kind) n 0 ≡ width_in_table (profile version kind) n
+    there h = tabled_at (width_in_table (profile version kind)) 41 n 0 (omega arith)
 
-    none : (head_of kind).most < n → get_or (widths version kind) n 0 ≡ width_in_table (profile version kind) n
-    none h = get_or_past (widths version kind) n 0 (omega (arith, tabled_long (width_in_table (profile version kind)) 0 (suc (head_of kind).most)))
-        ∙ sym (ap (λ (row : Row). row.width) (past version kind n h))
+    none : 40 < n → get_or (widths version kind) n 0 ≡ width_in_table (profile version kind) n
+    none h = get_or_past (widths version kind) n 0 (omega (arith, tabled_long (width_in_table (profile version kind)) 0 41))
+        ∙ sym (ap (λ (row : Row). row.width) (past version kind n (omega (arith, most_le kind))))
 
 -- the code's table of a version: a row for each record
-pub width_laid : (version case : Version) (kind : Record) (table : List (Bor (List ℕ))) (row n : ℕ) (d : Bor (List ℕ)) → version ≡ case →
-    row ≡ row_of kind →
-    map (λ r. r.now) table ≡ widths case Header ∷ widths case Sender ∷ widths case Shipment ∷ widths case Parcel ∷ widths case Product
-    ∷ widths case Feature ∷ [] →
-    get_or (get_or table row d).now n 0 ≡ width_in_table (profile version kind) n
+pub width_laid : (version case : Version) (kind : Record) (table : List (List ℕ)) (row n : ℕ) (d : List ℕ) → version ≡ case → row ≡ row_of kind →
+    table ≡ widths case Header ∷ widths case Sender ∷ widths case Shipment ∷ widths case Parcel ∷ widths case Product ∷ widths case Feature ∷ [] →
+    get_or (get_or table row d) n 0 ≡ width_in_table (profile version kind) n
 width_laid version case kind table row n d ev er e =
-    let here : (get_or table row d).now ≡ widths case kind =
-    sym (get_or-map (λ (r : Bor (List ℕ)). r.now) table row d) ∙ ap (λ (t : List (List ℕ)). get_or t row d.now) e ∙ go kind er in
+    let here : get_or table row d ≡ widths case kind = ap (λ (t : List (List ℕ)). get_or t row d) e ∙ go kind er in
     ap (λ (l : List ℕ). get_or l n 0) here ∙ width_there case kind n ∙ ap (λ (v : Version). width_in_table (profile v kind) n) (sym ev)
   where
     go : (k : Record) → row ≡ row_of k → get_or (widths case Header ∷ widths case Sender ∷ widths case Shipment ∷ widths case Parcel
-        ∷ widths case Product ∷ widths case Feature ∷ []) row d.now ≡ widths case k
+        ∷ widths case Product ∷ widths case Feature ∷ []) row d ≡ widths case k
     go Header r = rw r
     go Sender r = rw r
     go Shipment r = rw r
