@@ -6,7 +6,7 @@ ghost use Rattle.std.specs.Fmt.{decimal};
 ghost use Rattle.std.specs.Io.KnownBytes.{Appends};
 ghost use Rattle.streams.specs.Counts.{IsPrefixLen};
 ghost use Rattle.streams.specs.Lines.{Adds, numbers};
-ghost use Rattle.streams.specs.Reads.{Held, HeldPiece, Took, TookPiece};
+ghost use Rattle.streams.specs.Reads.{Held, HeldPiece, Means, Took, TookPiece};
 
 use itoa::Buffer;
 use std::io;
@@ -38,7 +38,14 @@ pub fn read_piece<R: Read>(reader: &mut R, buffer: &mut [u8]) -> io::Result<Opti
     ensures held { HeldPiece result buffer.new }
     ensures took { TookPiece (R.remaining reader.old) (R.remaining reader.new) result buffer.new }
 {
-    match reader.read(buffer) {
+    meaning(reader.read(buffer))
+}
+
+// What a read means.
+fn meaning(read: io::Result<usize>) -> io::Result<Option<usize>>
+    ensures { Means read result }
+{
+    match read {
         Ok(0) => Ok(None),
         Ok(n) => Ok(Some(n)),
         Err(error) if error.kind() == ErrorKind::Interrupted => Ok(Some(0)),
