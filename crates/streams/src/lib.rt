@@ -1,11 +1,11 @@
 // What the programs read and write. A read that fails is no end of the input, and one that a signal interrupted is made again.
 #![tactic(auto)]
 
-ghost use Rattle.std.specs.Prelude.{◌≡◌, ◌+◌, ◌*◌, ◌<◌, ◌≤◌, ◌++◌, length, take, OnOk};
+ghost use Rattle.std.specs.Prelude.{◌≡◌, ◌+◌, ◌*◌, ◌<◌, ◌≤◌, ◌∷◌, ◌++◌, length, take, OnOk};
 ghost use Rattle.std.specs.Fmt.{decimal};
 ghost use Rattle.std.specs.Io.KnownBytes.{Appends};
 ghost use Rattle.streams.specs.Counts.{IsPrefixLen};
-ghost use Rattle.streams.specs.Lines.{Adds, numbers};
+ghost use Rattle.streams.specs.Lines.{Adds, AddsAll, numbers, runs};
 ghost use Rattle.streams.specs.Reads.{Held, HeldPiece, Means, Took, TookPiece};
 
 use itoa::Buffer;
@@ -106,10 +106,11 @@ pub fn add_decimal(line: &mut [u8], fill: usize, n: u64) -> usize
 }
 
 // Puts a word and numbers, each behind a space, and a line feed at the line's front; answers how long they are. The line has room for
-// them where it has 21 bytes for each number.
+// them where it has 21 bytes for each number. A run that it has no room for is left out.
 #[tactic(auto, using(crate::proofs::Listing::listing_none))]
 pub fn put_numbers(line: &mut [u8], word: &[u8], values: &[u64]) -> usize
     ensures fits { IsPrefixLen result line.new }
+    ensures added { AddsAll line.old 0 (word.now ∷ runs values.now) result line.new }
     ensures told { length word.now + 21 * length values.now < length line.old →
         take result line.new ≡ word.now ++ numbers values.now }
 {
