@@ -1,9 +1,10 @@
 -- A word and numbers, put into a line one by one.
-use Rattle.std.proofs.Common.{◌≡◌, ℕ, ◌+◌, ◌*◌, ◌<◌, ◌≤◌, List, [], ◌∷◌, ◌++◌, length, get_or, take, refl, sym, ap, ◌∙◌, arith}
+use Rattle.std.proofs.Common.{◌≡◌, ℕ, ◌+◌, ◌*◌, ◌<◌, ◌≤◌, List, [], ◌∷◌, ◌++◌, length, get_or, take, drop, refl, sym, ap, ◌∙◌, subst, arith}
 use Rattle.std.proofs.Common.{append_assoc, append-nil, take_all, take-suc, add-one}
+use Rattle.std.proofs.lemmas.List.{drop_all, drop_more}
 use Rattle.std.specs.Prelude.{codes}
 use Rattle.std.specs.Fmt.{decimal}
-use Rattle.streams.specs.Lines.{Adds, numbers}
+use Rattle.streams.specs.Lines.{Adds, AddsAll, numbers, runs}
 
 -- numbers, each behind a space
 abbrev pub spaced : List ℕ → List ℕ
@@ -59,3 +60,15 @@ module _ (word values : List ℕ) (line : List ℕ) (room : length word + 21 * l
       let all : take i values ≡ values = take_all i values h in
       (added.whole (omega (arith, s.few))).1 ∙ ap (λ m. m ++ (10 ∷ [])) (s.is ∙ ap (λ v. word ++ spaced v) all)
       ∙ append_assoc word (spaced values) (10 ∷ []) ∙ ap (λ m. word ++ m) (sym (numbers_spaced values))
+
+-- what the numbers from the i-th on add to a line
+pub runs_on : (values line between after last : List ℕ) (fill space next count i : ℕ) → i < length values → Adds line fill (codes " ") space between
+    → Adds between space (decimal (get_or values i 0)) next after → AddsAll after next (runs (drop (i + 1) values)) count last
+    → AddsAll line fill (runs (drop i values)) count last
+runs_on values line between after last fill space next count i h gap digits rest =
+    subst (λ left. AddsAll line fill (runs left) count last) (sym (drop_more values i 0 h)) (space, between, gap, (next, after, digits, rest))
+
+pub runs_end : (values line after : List ℕ) (fill count i : ℕ) → length values ≤ i → Adds line fill (10 ∷ []) count after
+    → AddsAll line fill (runs (drop i values)) count after
+runs_end values line after fill count i h added =
+    subst (λ left. AddsAll line fill (runs left) count after) (sym (drop_all i values h)) (count, after, added, (refl, refl))

@@ -1,10 +1,17 @@
 -- What a read means, and what is in the buffer once the reading is over: so many bytes, or an error, which is never that of a signal.
-use Rattle.std.specs.Prelude.{◌≢◌, ℕ, ◌<◌, ◌≤◌, List, length, take, Option, Some, None, Result, Ok, Err}
+use Rattle.std.specs.Prelude.{◌≡◌, ◌≢◌, ℕ, ◌<◌, ◌≤◌, List, length, take, Option, Some, None, Result, Ok, Err}
 use Rattle.std.specs.Io.KnownBytes.{Keeps, Consumes, IsAtEnd}
 use Rattle.std.specs.IoError.{error_kind}
 use Rattle.std.specs.declared.io.Error.{Error}
 use Rattle.std.specs.declared.io.ErrorKind.{ErrorKind}
 use Rattle.streams.specs.Counts.{IsPrefixLen}
+
+-- A read that succeeds and gives nothing is the end of the input, and so many bytes are handed on as so many. One that a signal
+-- interrupted has given none, and is made again; any other failure is handed on as it is.
+abbrev pub Means : Result ℕ Error → Result (Option ℕ) Error → Type 0
+Means (Ok n) meant = (n ≡ 0 → meant ≡ Ok None) × (0 < n → meant ≡ Ok (Some n))
+Means (Err error) meant =
+    (error_kind error ≡ ErrorKind.Interrupted → meant ≡ Ok (Some 0)) × (error_kind error ≢ ErrorKind.Interrupted → meant ≡ Err error)
 
 -- the input lies at the front of the buffer
 abbrev pub Held : Result ℕ Error → List ℕ → Type 0

@@ -1,12 +1,12 @@
 // What the programs read and write. A read that fails is no end of the input, and one that a signal interrupted is made again.
 #![tactic(auto)]
 
-ghost use Rattle.std.specs.Prelude.{◌≡◌, ◌+◌, ◌*◌, ◌<◌, ◌≤◌, ◌++◌, length, take, OnOk};
+ghost use Rattle.std.specs.Prelude.{◌≡◌, ◌+◌, ◌*◌, ◌<◌, ◌≤◌, ◌∷◌, ◌++◌, length, take, OnOk};
 ghost use Rattle.std.specs.Fmt.{decimal};
 ghost use Rattle.std.specs.Io.KnownBytes.{Appends};
 ghost use Rattle.streams.specs.Counts.{IsPrefixLen};
-ghost use Rattle.streams.specs.Lines.{Adds, numbers};
-ghost use Rattle.streams.specs.Reads.{Held, HeldPiece, Took, TookPiece};
+ghost use Rattle.streams.specs.Lines.{Adds, AddsAll, numbers, runs};
+ghost use Rattle.streams.specs.Reads.{Held, HeldPiece, Means, Took, TookPiece};
 
 use itoa::Buffer;
 use std::io;
@@ -38,7 +38,14 @@ pub fn read_piece<R: Read>(reader: &mut R, buffer: &mut [u8]) -> io::Result<Opti
     ensures held { HeldPiece result buffer.new }
     ensures took { TookPiece (R.remaining reader.old) (R.remaining reader.new) result buffer.new }
 {
-    match reader.read(buffer) {
+    meaning(reader.read(buffer))
+}
+
+// What a read means.
+fn meaning(read: io::Result<usize>) -> io::Result<Option<usize>>
+    ensures { Means read result }
+{
+    match read {
         Ok(0) => Ok(None),
         Ok(n) => Ok(Some(n)),
         Err(error) if error.kind() == ErrorKind::Interrupted => Ok(Some(0)),
@@ -99,10 +106,11 @@ pub fn add_decimal(line: &mut [u8], fill: usize, n: u64) -> usize
 }
 
 // Puts a word and numbers, each behind a space, and a line feed at the line's front; answers how long they are. The line has room for
-// them where it has 21 bytes for each number.
+// them where it has 21 bytes for each number. A run that it has no room for is left out.
 #[tactic(auto, using(crate::proofs::Listing::listing_none))]
 pub fn put_numbers(line: &mut [u8], word: &[u8], values: &[u64]) -> usize
     ensures fits { IsPrefixLen result line.new }
+    ensures added { AddsAll line.old 0 (word.now ∷ runs values.now) result line.new }
     ensures told { length word.now + 21 * length values.now < length line.old →
         take result line.new ≡ word.now ++ numbers values.now }
 {
