@@ -6,16 +6,15 @@
 ghost use Rattle.std.specs.Prelude.{◌+◌, ◌^◌, ◌<◌, ◌≤◌, length, IfOk};
 
 use std::env::{Env, FillError};
-use std::io::{Eprint, Error, ErrorKind, Write};
+use std::fmt::Write;
+use std::io::{Eprint, Error, ErrorKind, Print};
 use std::rt::Files;
 use std::{fs, io, str};
-use test_input::No;
+use test_input::{NoBehind, Sayer};
 
 fn main(rt: HostRuntime) {
     for case in 0..arg_count(&rt).saturating_sub(1) / 3 {
-        if let Err(error) = one_case(&rt, &mut rt.stdout(), 3 * case + 1) {
-            return streams::fail(&rt, "standard output", error);
-        }
+        one_case(&rt, 3 * case + 1);
     }
 }
 
@@ -39,7 +38,7 @@ fn arg<'a, R: Env>(rt: &R, i: usize, buffer: &'a mut [u8]) -> &'a [u8] {
 }
 
 // The three arguments from this one on are a number of words, a list of countries and a file's name.
-fn one_case<R: Env + Files + Eprint, W: Write>(rt: &R, out: &mut W, at: usize) -> io::Result<()>
+fn one_case<R: Env + Files + Print + Eprint>(rt: &R, at: usize)
     requires { at + 2 < 2 ^ 64 }
 {
     let mut digits = [0u8; 8];
@@ -48,16 +47,12 @@ fn one_case<R: Env + Files + Eprint, W: Write>(rt: &R, out: &mut W, at: usize) -
     let countries = arg(rt, at + 1, &mut countries);
     let mut name = [0u8; 4096];
     let Ok(name) = str::from_utf8(arg(rt, at + 2, &mut name)) else {
-        streams::fail(rt, "a file's name", Error::from(ErrorKind::InvalidInput));
-        return Ok(());
+        return streams::fail(rt, "a file's name", Error::from(ErrorKind::InvalidInput));
     };
     let mut buffer = [0u8; 65536];
     match read_file(rt, name, &mut buffer) {
-        Ok(n) => judge(out, name, &buffer[..n], countries, words),
-        Err(error) => {
-            streams::fail(rt, name, error);
-            Ok(())
-        }
+        Ok(n) => judge(rt, name, &buffer[..n], countries, words),
+        Err(error) => streams::fail(rt, name, error),
     }
 }
 
@@ -68,28 +63,24 @@ fn read_file<R: Files>(rt: &R, name: &str, buffer: &mut [u8]) -> io::Result<usiz
     streams::read_input(&mut fs::open(rt, name)?, buffer)
 }
 
-fn judge<W: Write>(
-    out: &mut W,
-    name: &str,
-    file: &[u8],
-    countries: &[u8],
-    words: usize,
-) -> io::Result<()>
+fn judge<R: Print + Eprint>(rt: &R, name: &str, file: &[u8], countries: &[u8], words: usize)
     requires { words ≤ 4096 }
 {
     let mut list = [u32::MAX; 4096];
     let list = &mut list[..words];
-    write!(out, "{name} {words} ")?;
-    out.write_all(countries)?;
-    match file::judge(file, lent(countries), list) {
+    let _ = write!(Sayer(rt), "{name} {words} ");
+    streams::say(rt, countries);
+    let _ = match file::judge(file, lent(countries), list) {
         Ok(totals) => write!(
-            out,
+            Sayer(rt),
             " ok {} {} {}",
-            totals.lines, totals.parcels, totals.cents
-        )?,
-        Err(refusal) => write!(out, " {}", No(refusal))?,
-    }
-    writeln!(out, " list {}", sum(list))
+            totals.lines,
+            totals.parcels,
+            totals.cents
+        ),
+        Err(refusal) => write!(Sayer(rt), "{}", NoBehind(refusal)),
+    };
+    let _ = writeln!(Sayer(rt), " list {}", sum(list));
 }
 
 // The list of countries that an argument stands for.

@@ -5,36 +5,31 @@
 
 ghost use Rattle.std.specs.Prelude.{◌≤◌};
 
-use std::io;
-use std::io::Write;
-use test_input::No;
+use std::fmt::Write;
+use std::io::{Eprint, Print};
+use test_input::{No, Sayer};
 
 fn main(rt: HostRuntime) {
     let mut buffer = [0u8; 65536];
     match streams::read_input(&mut rt.stdin(), &mut buffer) {
-        Ok(n) => {
-            if let Err(error) = run(&mut rt.stdout(), &buffer[..n]) {
-                streams::fail(&rt, "standard output", error);
-            }
-        }
+        Ok(n) => run(&rt, &buffer[..n]),
         Err(error) => streams::fail(&rt, "standard input", error),
     }
 }
 
-fn run<W: Write>(out: &mut W, input: &[u8]) -> io::Result<()> {
+fn run<R: Print + Eprint>(rt: &R, input: &[u8]) {
     for case in input.split(|&b| b == b'#') {
-        run_case(out, case)?;
+        run_case(rt, case);
     }
-    Ok(())
 }
 
 // Nothing stands in front of the first `#`.
-fn run_case<W: Write>(out: &mut W, case: &[u8]) -> io::Result<()> {
+fn run_case<R: Print + Eprint>(rt: &R, case: &[u8]) {
     let [n1, n2, _, o1, o2, _, w1, w2, _, rest @ ..] = case else {
-        return Ok(());
+        return;
     };
     let Some(end) = rest.iter().position(|&b| b == b'\n') else {
-        return Ok(());
+        return;
     };
     let mut output = [b'.'; 40];
     let mut list = [7u32; 20];
@@ -47,16 +42,17 @@ fn run_case<W: Write>(out: &mut W, case: &[u8]) -> io::Result<()> {
         &mut list[..words],
         &mut output[..room],
     );
-    match answer {
-        Ok(n) => write!(out, "ok {n} |")?,
-        Err(refusal) => write!(out, "{} |", No(refusal))?,
-    }
-    out.write_all(&output)?;
-    write!(out, "|")?;
+    let _ = match answer {
+        Ok(n) => write!(Sayer(rt), "ok {n} |"),
+        Err(refusal) => write!(Sayer(rt), "{} |", No(refusal)),
+    };
+    streams::say(rt, &output);
+    streams::say(rt, b"|");
     for word in list {
-        write!(out, " {word}")?;
+        streams::say(rt, b" ");
+        streams::say_decimal(rt, u64::from(word));
     }
-    writeln!(out)
+    streams::say(rt, b"\n");
 }
 
 fn two_digits(tens: u8, ones: u8) -> usize {

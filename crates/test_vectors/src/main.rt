@@ -7,103 +7,100 @@
 
 use check_characters::Kind;
 use refusal::Refusal;
-use std::io;
-use std::io::Write;
-use test_input::No;
+use std::fmt::Write;
+use std::io::{Eprint, Print};
+use test_input::{NoBehind, Sayer};
 
 fn main(rt: HostRuntime) {
     let mut buffer = [0u8; 65536];
     match streams::read_input(&mut rt.stdin(), &mut buffer) {
-        Ok(n) => {
-            if let Err(error) = run(&mut rt.stdout(), &buffer[..n]) {
-                streams::fail(&rt, "standard output", error);
-            }
-        }
+        Ok(n) => run(&rt, &buffer[..n]),
         Err(error) => streams::fail(&rt, "standard input", error),
     }
 }
 
-fn run<W: Write>(out: &mut W, input: &[u8]) -> io::Result<()> {
+fn run<R: Print + Eprint>(rt: &R, input: &[u8]) {
     for line in input.split_inclusive(|&b| b == b'\n') {
-        say(out, line.strip_suffix(b"\n".as_slice()).unwrap_or(line))?;
+        say(rt, line.strip_suffix(b"\n".as_slice()).unwrap_or(line));
     }
-    Ok(())
 }
 
-fn say<W: Write>(out: &mut W, line: &[u8]) -> io::Result<()> {
+fn say<R: Print + Eprint>(rt: &R, line: &[u8]) {
     let [what, _, text @ ..] = line else {
-        return writeln!(out, "?");
+        return streams::say(rt, b"?\n");
     };
-    out.write_all(text)?;
+    streams::say(rt, text);
     match *what {
-        b'N' => say_number(out, text),
-        b'B' => say_issued(out, text),
-        b'C' => say_check(out, text),
-        b'I' => say_checked(out, check_characters::check_iban(text), "IBAN"),
-        b'D' => say_checked(out, check_digits::check_identcode(text), "identcode"),
-        b'P' => say_parts(out, text),
-        b'J' => say_issued_identcode(out, text),
-        b'K' => say_next(out, text),
-        b'T' => say_typed(out, text),
-        b'A' => say_day(out, text),
-        _ => say_unknown(out),
+        b'N' => say_number(rt, text),
+        b'B' => say_issued(rt, text),
+        b'C' => say_check(rt, text),
+        b'I' => say_checked(rt, check_characters::check_iban(text), b" IBAN\n"),
+        b'D' => say_checked(rt, check_digits::check_identcode(text), b" identcode\n"),
+        b'P' => say_parts(rt, text),
+        b'J' => say_issued_identcode(rt, text),
+        b'K' => say_next(rt, text),
+        b'T' => say_typed(rt, text),
+        b'A' => say_day(rt, text),
+        _ => say_unknown(rt),
     }
 }
 
-fn say_unknown<W: Write>(out: &mut W) -> io::Result<()> {
-    writeln!(out, " ?")
+fn say_unknown<R: Print + Eprint>(rt: &R) {
+    streams::say(rt, b" ?\n");
 }
 
-fn say_number<W: Write>(out: &mut W, s: &[u8]) -> io::Result<()> {
+fn say_no<R: Print + Eprint>(rt: &R, refusal: Refusal) {
+    let _ = writeln!(Sayer(rt), "{}", NoBehind(refusal));
+}
+
+fn say_number<R: Print + Eprint>(rt: &R, s: &[u8]) {
     match check_characters::check_number(s) {
-        Ok(Kind::Tracking) => writeln!(out, " tracking number"),
-        Ok(Kind::Label) => writeln!(out, " label code"),
-        Err(refusal) => writeln!(out, " {}", No(refusal)),
+        Ok(Kind::Tracking) => streams::say(rt, b" tracking number\n"),
+        Ok(Kind::Label) => streams::say(rt, b" label code\n"),
+        Err(refusal) => say_no(rt, refusal),
     }
 }
 
-fn say_issued<W: Write>(out: &mut W, body: &[u8]) -> io::Result<()> {
+fn say_issued<R: Print + Eprint>(rt: &R, body: &[u8]) {
     let mut number = [b'.'; 30];
     let answer = check_characters::issue_number(body, &mut number);
-    say_output(out, answer, &number)
+    say_output(rt, answer, &number);
 }
 
-fn say_issued_identcode<W: Write>(out: &mut W, body: &[u8]) -> io::Result<()> {
+fn say_issued_identcode<R: Print + Eprint>(rt: &R, body: &[u8]) {
     let mut identcode = [b'.'; 30];
     let answer = check_digits::issue_identcode(body, &mut identcode);
-    say_output(out, answer, &identcode)
+    say_output(rt, answer, &identcode);
 }
 
-fn say_output<W: Write>(
-    out: &mut W,
-    answer: Result<usize, Refusal>,
-    issued: &[u8],
-) -> io::Result<()> {
+fn say_output<R: Print + Eprint>(rt: &R, answer: Result<usize, Refusal>, issued: &[u8]) {
     match answer {
         Ok(_) => {
-            out.write_all(b" ")?;
-            out.write_all(issued)?;
-            writeln!(out)
+            streams::say(rt, b" ");
+            streams::say(rt, issued);
+            streams::say(rt, b"\n");
         }
-        Err(refusal) => writeln!(out, " {}", No(refusal)),
+        Err(refusal) => say_no(rt, refusal),
     }
 }
 
-fn say_check<W: Write>(out: &mut W, s: &[u8]) -> io::Result<()> {
-    out.write_all(&[b' ', check_characters::check_of(s), b'\n'])
+fn say_check<R: Print + Eprint>(rt: &R, s: &[u8]) {
+    streams::say(rt, b" ");
+    streams::say(rt, &[check_characters::check_of(s)]);
+    streams::say(rt, b"\n");
 }
 
-fn say_checked<W: Write>(out: &mut W, answer: Result<(), Refusal>, name: &str) -> io::Result<()> {
+fn say_checked<R: Print + Eprint>(rt: &R, answer: Result<(), Refusal>, accepted: &[u8]) {
     match answer {
-        Ok(()) => writeln!(out, " {name}"),
-        Err(refusal) => writeln!(out, " {}", No(refusal)),
+        Ok(()) => streams::say(rt, accepted),
+        Err(refusal) => say_no(rt, refusal),
     }
 }
 
-fn say_parts<W: Write>(out: &mut W, s: &[u8]) -> io::Result<()> {
+fn say_parts<R: Print + Eprint>(rt: &R, s: &[u8]) {
     let parts = match check_digits::read_identcode(s) {
         Ok(parts) => parts,
-        Err(refusal) => return writeln!(out, " {}", No(refusal)),
+        Err(refusal) => return say_no(rt, refusal),
     };
     for part in [
         parts.origin,
@@ -113,52 +110,53 @@ fn say_parts<W: Write>(out: &mut W, s: &[u8]) -> io::Result<()> {
         parts.destination,
         parts.check,
     ] {
-        out.write_all(b" ")?;
-        out.write_all(text::clip(s, part.start, part.length))?;
+        streams::say(rt, b" ");
+        streams::say(rt, text::clip(s, part.start, part.length));
     }
-    writeln!(out)
+    streams::say(rt, b"\n");
 }
 
-fn say_next<W: Write>(out: &mut W, s: &[u8]) -> io::Result<()> {
+fn say_next<R: Print + Eprint>(rt: &R, s: &[u8]) {
     let carry = test_input::number(s, 0);
     let Some(&key) = s.get(carry.next) else {
-        return say_unknown(out);
+        return say_unknown(rt);
     };
-    say_carry(out, check_characters::next_carry(carry.value as u32, key))?;
-    writeln!(out)
+    say_carry(rt, check_characters::next_carry(carry.value as u32, key));
+    streams::say(rt, b"\n");
 }
 
-fn say_typed<W: Write>(out: &mut W, keys: &[u8]) -> io::Result<()> {
+fn say_typed<R: Print + Eprint>(rt: &R, keys: &[u8]) {
     let mut carry = 36;
     for &key in keys {
         let next = check_characters::next_carry(carry, key);
-        say_carry(out, next)?;
+        say_carry(rt, next);
         // Behind a key that is refused the next one has no carry, which 0 is not.
         carry = next.unwrap_or(0);
     }
-    writeln!(out)
+    streams::say(rt, b"\n");
 }
 
-fn say_carry<W: Write>(out: &mut W, answer: Result<u32, Refusal>) -> io::Result<()> {
-    match answer {
-        Ok(carry) => write!(out, " {carry}"),
-        Err(refusal) => write!(out, " {}", No(refusal)),
-    }
+fn say_carry<R: Print + Eprint>(rt: &R, answer: Result<u32, Refusal>) {
+    let _ = match answer {
+        Ok(carry) => write!(Sayer(rt), " {carry}"),
+        Err(refusal) => write!(Sayer(rt), "{}", NoBehind(refusal)),
+    };
 }
 
 // The answer bytes hold 99 before the call, so that one sees which of them it wrote.
-fn say_day<W: Write>(out: &mut W, s: &[u8]) -> io::Result<()> {
+fn say_day<R: Print + Eprint>(rt: &R, s: &[u8]) {
     let given = test_input::number(s, 0);
     let mut answers = [99u8; 9];
     let Some(answers) = answers.get_mut(..given.value) else {
-        return say_unknown(out);
+        return say_unknown(rt);
     };
-    match check_characters::check_numbers(&s[given.next..], answers) {
-        Ok(passed) => write!(out, " passed {passed}")?,
-        Err(refusal) => write!(out, " {}", No(refusal))?,
-    }
+    let _ = match check_characters::check_numbers(&s[given.next..], answers) {
+        Ok(passed) => write!(Sayer(rt), " passed {passed}"),
+        Err(refusal) => write!(Sayer(rt), "{}", NoBehind(refusal)),
+    };
     for answer in answers.iter() {
-        write!(out, " {answer}")?;
+        streams::say(rt, b" ");
+        streams::say_decimal(rt, u64::from(*answer));
     }
-    writeln!(out)
+    streams::say(rt, b"\n");
 }

@@ -2,35 +2,30 @@
 // space behind it, and the text. Each gives the answer and the whole output, which was all points before.
 #![tactic(auto)]
 
-use std::io;
-use std::io::Write;
-use test_input::No;
+use std::fmt::Write;
+use std::io::{Eprint, Print};
+use test_input::{No, Sayer};
 
 fn main(rt: HostRuntime) {
     let mut buffer = [0u8; 65536];
     match streams::read_input(&mut rt.stdin(), &mut buffer) {
-        Ok(n) => {
-            if let Err(error) = run(&mut rt.stdout(), &buffer[..n]) {
-                streams::fail(&rt, "standard output", error);
-            }
-        }
+        Ok(n) => run(&rt, &buffer[..n]),
         Err(error) => streams::fail(&rt, "standard input", error),
     }
 }
 
 // An empty line ends the input.
-fn run<W: Write>(out: &mut W, input: &[u8]) -> io::Result<()> {
+fn run<R: Print + Eprint>(rt: &R, input: &[u8]) {
     for line in input.split_inclusive(|&b| b == b'\n') {
         let line = line.strip_suffix(b"\n".as_slice()).unwrap_or(line);
         if line.is_empty() {
-            return Ok(());
+            return;
         }
-        one_call(out, line)?;
+        one_call(rt, line);
     }
-    Ok(())
 }
 
-fn one_call<W: Write>(out: &mut W, line: &[u8]) -> io::Result<()> {
+fn one_call<R: Print + Eprint>(rt: &R, line: &[u8]) {
     let mut rest = line;
     let version = (take_number(&mut rest) % 1000) as u32;
     let number = (take_number(&mut rest) % 1000) as u32;
@@ -43,12 +38,12 @@ fn one_call<W: Write>(out: &mut W, line: &[u8]) -> io::Result<()> {
     }
     let mut written = [b'.'; 5000];
     let written = &mut written[..room];
-    match writer::write_line(version, number, rest, &ends[..count], written, fill) {
-        Ok(n) => write!(out, "written {n} ")?,
-        Err(refusal) => write!(out, "{} ", No(refusal))?,
-    }
-    out.write_all(written)?;
-    writeln!(out)
+    let _ = match writer::write_line(version, number, rest, &ends[..count], written, fill) {
+        Ok(n) => write!(Sayer(rt), "written {n} "),
+        Err(refusal) => write!(Sayer(rt), "{} ", No(refusal)),
+    };
+    streams::say(rt, written);
+    streams::say(rt, b"\n");
 }
 
 // Takes the number at the front of what is left of a line, and the byte that ends it.
