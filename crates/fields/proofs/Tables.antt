@@ -66,6 +66,10 @@ most_le Parcel = omega arith
 most_le Product = omega arith
 most_le Feature = omega arith
 
+pub no_width : (version : Version) (kind : Record) (n : ℕ) → 49 < n → width_in_table (profile version kind) n ≡ 0
+unfolding width_in_table
+no_width version kind n h = ap (λ (row : Row). row.width) (past version kind n (omega (arith, most_le kind)))
+
 -- the widths of a record, from that of its number 0 to that of 40, the last field that any record has
 abbrev widths : Version → Record → List ℕ
 widths version kind = tabled (width_in_table (profile version kind)) 0 41

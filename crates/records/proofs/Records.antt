@@ -14,6 +14,23 @@ use Rattle.records.specs.declared.record.Record.TheVariants.{Header, Sender, Shi
 use Rattle.records.proofs.Types.{type_long}
 use Rattle.std.specs.Prelude.{None}
 
+-- a record has one of six rows, and its row is its own
+pub row_below : (row : ℕ) (kind : Record) → row ≡ row_of kind → row < 6
+row_below row Header e = omega arith
+row_below row Sender e = omega arith
+row_below row Shipment e = omega arith
+row_below row Parcel e = omega arith
+row_below row Product e = omega arith
+row_below row Feature e = omega arith
+
+pub at_row : (kind : Record) → record_at (row_of kind) ≡ kind
+at_row Header = refl
+at_row Sender = refl
+at_row Shipment = refl
+at_row Parcel = refl
+at_row Product = refl
+at_row Feature = refl
+
 -- only a name of three bytes names a record
 pub none_named : (name : List ℕ) → (length name ≡ 3 → ⊥) → named name ≡ None
 unfolding named
